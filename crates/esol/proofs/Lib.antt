@@ -1,0 +1,14 @@
+-- Laws of the definitions.
+pub mod Bound
+pub mod Changed
+pub mod Known
+pub mod Lists
+pub mod Masks
+pub mod Moves
+pub mod Relations
+pub mod Tables
+pub mod Theorems
+pub mod Touched
+pub mod Untouched
+pub mod Update
+pub mod Zero

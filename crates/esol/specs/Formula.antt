@@ -1,0 +1,104 @@
+-- Core formulas and plans: paper 01, section Plan table, without its bytes.
+use Prim.Native.Nat.{ℕ, zero, suc, _+_, _≤_, _<_}
+
+-- "Relation (kinds 7, 8): 0 <, 1 <=, 2 =, 3 !=, 4 >=, 5 >."
+pub data Relation : Type 0 where
+  lt le eq ne ge gt : Relation
+
+unfoldable pub relationNumber : Relation → ℕ
+relationNumber lt = 0
+relationNumber le = 1
+relationNumber eq = 2
+relationNumber ne = 3
+relationNumber ge = 4
+relationNumber gt = 5
+
+-- The relation of a number; the plan table's rule keeps the number at most 5.
+unfoldable pub relationOf : ℕ → Relation
+relationOf zero = lt
+relationOf (suc zero) = le
+relationOf (suc (suc zero)) = eq
+relationOf (suc (suc (suc zero))) = ne
+relationOf (suc (suc (suc (suc zero)))) = ge
+relationOf (suc (suc (suc (suc (suc r))))) = gt
+
+-- "Kinds 5, 6: a is a variable, b a set. Kind 7: a and b are variables. Kind 8: a is a set, b the constant."
+-- "A variable is numbered by its quantifier, the outermost being 0."
+pub data Literal : Type 0 where
+  isin notin : ℕ → ℕ → Literal
+  port size : Relation → ℕ → ℕ → Literal
+
+pub data Node : Type 0 where
+  root all any and or : Node
+  lit : Literal → Node
+
+-- "Kinds: 0 root, 1 for all, 2 exists, 3 and, 4 or, 5 in, 6 not in, 7 port comparison, 8 size."
+unfoldable pub kindNumber : Node → ℕ
+kindNumber root = 0
+kindNumber all = 1
+kindNumber any = 2
+kindNumber and = 3
+kindNumber or = 4
+kindNumber (lit (isin v S)) = 5
+kindNumber (lit (notin v S)) = 6
+kindNumber (lit (port r v w)) = 7
+kindNumber (lit (size r S c)) = 8
+
+-- A node, its children, its later siblings. "Nodes stand parent first, children in text order": the preorder of a forest
+-- is the table's order, and the records of a subtree stand together.
+pub data Forest : Type 0 where
+  none : Forest
+  tree : Node → Forest → Forest → Forest
+
+unfoldable pub nodeCount : Forest → ℕ
+nodeCount none = 0
+nodeCount (tree n c s) = suc (nodeCount c) + nodeCount s
+
+-- "u is the number of ports"; "n is the number of sets, numbered from 0".
+pub record Plan : Type 0 where
+  pub ports : ℕ
+  pub sets : ℕ
+  pub formula : Forest
+
+-- "Depth is the number of quantifiers strictly above a node": the depth of the children of a node of depth d.
+unfoldable pub childDepth : Node → ℕ → ℕ
+childDepth root d = d
+childDepth all d = suc d
+childDepth any d = suc d
+childDepth and d = d
+childDepth or d = d
+childDepth (lit l) d = d
+
+-- A rule that every node of a forest keeps, by the node, its children and its depth; the forest stands at depth d.
+unfoldable pub Every : (Node → Forest → ℕ → Type 0) → Forest → ℕ → Type 0
+Every R none d = Unit {0}
+Every R (tree n c s) d = R n c d × Every R c (childDepth n d) × Every R s d
+
+-- A rule of literals, as a rule of nodes.
+unfoldable pub OfLiteral : (Literal → Type 0) → Node → Type 0
+OfLiteral R root = Unit {0}
+OfLiteral R all = Unit {0}
+OfLiteral R any = Unit {0}
+OfLiteral R and = Unit {0}
+OfLiteral R or = Unit {0}
+OfLiteral R (lit l) = R l
+
+-- "A variable's number is below the depth."
+unfoldable pub VariablesBelow : ℕ → Literal → Type 0
+VariablesBelow d (isin v S) = v < d
+VariablesBelow d (notin v S) = v < d
+VariablesBelow d (port r v w) = (v < d) × (w < d)
+VariablesBelow d (size r S c) = Unit {0}
+
+unfoldable pub VariablesBound : Forest → ℕ → Type 0
+VariablesBound f d = Every (λ n c i. OfLiteral (VariablesBelow i) n) f d
+
+-- "Zero to 64 is the range of a size constant."
+unfoldable pub ConstantLow : Literal → Type 0
+ConstantLow (isin v S) = Unit {0}
+ConstantLow (notin v S) = Unit {0}
+ConstantLow (port r v w) = Unit {0}
+ConstantLow (size r S c) = c ≤ 64
+
+unfoldable pub ConstantsLow : Forest → ℕ → Type 0
+ConstantsLow f d = Every (λ n c i. OfLiteral ConstantLow n) f d
