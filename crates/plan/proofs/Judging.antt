@@ -1,0 +1,495 @@
+-- The check of records: what a part that is sound looks like, and what follows from the checks of its parts. Assumes nothing.
+use mathlib.Core.Path.{_≡_, refl, sym, ap, ap₂, _∙_, subst}
+use mathlib.Core.Bool.{Bool, true, false, _&&_, false≢true, true≢false}
+use mathlib.Core.List.{List, [], _∷_, _++_, append-assoc}
+use Prim.Native.Nat.{ℕ, zero, suc, _+_, _-_, _*_, _/_, _%_, _^_, _≤_, _<_}
+use native.Mathlib.Nat.{le-trans, pow-le-pow-left, pow-le-pow-right, add-zero, zero-add, suc-add}
+use native.Mathlib.Numerals.{add-one}
+use native.Mathlib.Omega.{arith}
+use lib.Bits.{bitOr}
+use lib.Dec.{eqb}
+use lib.ListN.{length, getD, take, drop, set, length-append, length-drop, take-append-drop}
+use lib.Seq.{take-all, take-append-seam, drop-append-add, drop-drop, drop-cons, length-take-le}
+use borrow.Author.Tests.{eqb-true, eq-eqb, leb-true}
+use Rattle.esol.specs.Formula.{Node, Forest, none, tree, kindNumber, nodeCount, childDepth}
+use Rattle.esol.specs.Cells.{cellCount, siblingFirst}
+use Rattle.esol.proofs.Lists.{and-left, and-right, and-true}
+use Rattle.plan.specs.declared.Checked.{Checked}
+use Rattle.plan.specs.Bytes.{recordLength, wordBytes, kindField, relationField, aField, bField, endField, nodeOf, recordOf, records}
+use Rattle.plan.specs.Rules.{everyNode, treeCount, arityRule, maySit, nestingRule, depthRule, innerRule, nodeRule}
+use Rattle.plan.specs.Index.{firstCells, ends, nodeUses, forestUses, usesTable}
+use Rattle.plan.specs.Decode.{forestOf}
+use Rattle.plan.specs.Check.{fieldRule, recordRule, EndIs, kindDepth, kindWidth, kindUses, laid, Placed, Sound, Indexed, Judged}
+use Rattle.plan.proofs.Encoding.{length-records, end-of-record, children-part, siblings-part, forest-of-records}
+use Rattle.plan.proofs.Fields.{NodeIs, fields-node, node-fields, kind-depth, kind-depth-le, kind-width, kind-uses}
+
+-- What a sound part that is not empty begins with.
+pub record Opened (l : List ℕ) (i parent d sets above : ℕ) : Type 0 where
+  pub node : Node
+  pub children : Forest
+  pub siblings : Forest
+  pub record-ok : recordRule sets d above parent l ≡ true
+  pub end-is : endField l ≡ i + suc (nodeCount children)
+  pub long : recordLength * (endField l - i) ≤ length l
+  pub kind : kindField l ≡ kindNumber node
+  pub inner : innerRule sets node d ≡ true
+  pub arity : arityRule (kindNumber node) (treeCount children) ≡ true
+  pub kids : Sound (take (recordLength * (endField l - i) - recordLength) (drop recordLength l)) (suc i) i (childDepth node d) sets (kindNumber node) children
+  pub rest : Sound (drop (recordLength * (endField l - i)) l) (endField l) parent d sets above siblings
+
+pub sound-length : {l : List ℕ} {i parent d sets above : ℕ} {f : Forest} → Sound l i parent d sets above f → length l ≡ recordLength * nodeCount f
+sound-length {i} {parent} {f} s = ap length (s .is) ∙ length-records f i parent
+
+two-true : (a b : Bool) → (a && b) ≡ true → (a ≡ true) × (b ≡ true)
+two-true a b h = (and-left a b h, and-right a b h)
+
+four-true : (a b c d : Bool) → (a && b && c && d) ≡ true → (a ≡ true) × (b ≡ true) × (c ≡ true) × (d ≡ true)
+four-true a b c d h =
+    let x = two-true (a && b && c) d h in
+    let y = two-true (a && b) c (x .0) in
+    let z = two-true a b (y .0) in
+    (z .0, z .1, y .1, x .1)
+
+-- the rules of a tree's own node, of its children and of its siblings
+pub every-node : (sets : ℕ) (n : Node) (c s : Forest) (d : ℕ) → everyNode (nodeRule sets) (tree n c s) d ≡ true
+    → (innerRule sets n d ≡ true) × (depthRule d ≡ true) × (arityRule (kindNumber n) (treeCount c) ≡ true) × (nestingRule (kindNumber n) c ≡ true)
+    × (everyNode (nodeRule sets) c (childDepth n d) ≡ true) × (everyNode (nodeRule sets) s d ≡ true)
+unfolding everyNode nodeRule
+every-node sets n c s d h =
+    let x = two-true (nodeRule sets n c d && everyNode (nodeRule sets) c (childDepth n d)) (everyNode (nodeRule sets) s d) h in
+    let y = two-true (nodeRule sets n c d) (everyNode (nodeRule sets) c (childDepth n d)) (x .0) in
+    let z = four-true (innerRule sets n d) (depthRule d) (arityRule (kindNumber n) (treeCount c)) (nestingRule (kindNumber n) c) (y .0) in
+    (z .0, z .1, z .2, z .3, y .1, x .1)
+
+record-of-node : (sets d above parent e : ℕ) (n : Node) (t : List ℕ) → innerRule sets n d ≡ true → depthRule d ≡ true → maySit above (kindNumber n) ≡ true
+    → recordRule sets d above parent (recordOf n parent e ++ t) ≡ true
+unfolding recordRule kindField relationField aField bField recordOf wordBytes
+record-of-node sets d above parent e n t a b c =
+    and-true _ _ (and-true _ _ (and-true _ _ (node-fields sets d n a) b) c)
+    (and-true _ _ (eq-eqb (parent % 256) (parent % 256) refl) (eq-eqb (parent / 256) (parent / 256) refl))
+
+kind-first : (n : Node) (p e : ℕ) (t : List ℕ) → kindField (recordOf n p e ++ t) ≡ kindNumber n
+unfolding kindField recordOf
+kind-first n p e t = refl
+
+tree-long : (n : Node) (c s : Forest) (i parent x : ℕ) → x ≡ i + suc (nodeCount c) → recordLength * (x - i) ≤ length (records (tree n c s) i parent)
+unfolding recordLength nodeCount
+tree-long n c s i parent x h = omega (arith, length-records (tree n c s) i parent)
+
+-- over the records of a tree and its siblings
+opened-tree : (n : Node) (c s : Forest) (i parent d sets above : ℕ) → everyNode (nodeRule sets) (tree n c s) d ≡ true → nestingRule above (tree n c s) ≡ true
+    → Opened (records (tree n c s) i parent) i parent d sets above
+unfolding nestingRule records
+opened-tree n c s i parent d sets above rules seats =
+    let e = i + suc (nodeCount c) in
+    let t = records c (suc i) i ++ records s e parent in
+    let l = recordOf n parent e ++ t in
+    let q = end-of-record n parent e t in
+    let r = every-node sets n c s d rules in
+    let m = two-true (maySit above (kindNumber n)) (nestingRule above s) seats in
+    record {
+      node = n;
+      children = c;
+      siblings = s;
+      record-ok = record-of-node sets d above parent e n t (r .0) (r .1) (m .0);
+      end-is = q;
+      long = tree-long n c s i parent (endField l) q;
+      kind = kind-first n parent e t;
+      inner = r .0;
+      arity = r .2;
+      kids = record {
+        is = ap (λ (x : ℕ). take (recordLength * (x - i) - recordLength) (drop recordLength l)) q ∙ children-part n c s i parent;
+        rules = r .4;
+        seats = r .3;
+      };
+      rest = record {
+        is = ap (λ (x : ℕ). drop (recordLength * (x - i)) l) q ∙ siblings-part n c s i parent ∙ ap (λ (x : ℕ). records s x parent) (sym q);
+        rules = r .5;
+        seats = m .1;
+      };
+    }
+
+pub opened : {l : List ℕ} {i parent d sets above : ℕ} (f : Forest) → Sound l i parent d sets above f → (length l ≡ 0 → ⊥) → Opened l i parent d sets above
+unfolding records
+opened none s h = absurd (h (ap length (s .is)))
+opened {i} {parent} {d} {sets} {above} (tree n c s) x h =
+    subst (λ (l : List ℕ). Opened l i parent d sets above) (sym (x .is)) (opened-tree n c s i parent d sets above (x .rules) (x .seats))
+
+-- records are of one forest only
+pub same-forest : (f g : Forest) (i p : ℕ) → records f i p ≡ records g i p → f ≡ g
+same-forest f g i p h =
+    sym (forest-of-records (nodeCount f + nodeCount g) f i p (omega arith))
+    ∙ ap (λ (l : List ℕ). forestOf (nodeCount f + nodeCount g) l i) h
+    ∙ forest-of-records (nodeCount f + nodeCount g) g i p (omega arith)
+
+-- A refusal stands where no forest is sound.
+pub refuse : {l : List ℕ} {i parent d ports sets above first : ℕ} (r : Checked) {x y z x′ y′ z′ : List ℕ} → r .ok ≡ false
+    → ((f : Forest) → Sound l i parent d sets above f → ⊥) → Judged l i parent d ports sets above first r x y z x′ y′ z′
+refuse r e h = record { accepts = λ q. absurd (false≢true (sym e ∙ q)); refuses = λ q f s. h f s }
+
+-- the children's records and the later siblings', as the code lends them
+abbrev pub kidsOf : List ℕ → ℕ → ℕ → List ℕ
+kidsOf l i e = take (recordLength * (e - i) - recordLength) (drop recordLength l)
+
+abbrev pub restOf : List ℕ → ℕ → ℕ → List ℕ
+restOf l i e = take (length l - recordLength * (e - i)) (drop (recordLength * (e - i)) l)
+
+module _ (l : List ℕ) (i parent d sets above : ℕ) (some : length l ≡ 0 → ⊥) where
+  pub too-short : length l < recordLength → (f : Forest) → Sound l i parent d sets above f → ⊥
+  unfolding recordLength
+  too-short h f s = some (omega (arith, sound-length s))
+
+  pub bad-record : recordRule sets d above parent l ≡ false → (f : Forest) → Sound l i parent d sets above f → ⊥
+  bad-record h f s = false≢true (sym h ∙ opened f s some .record-ok)
+
+  module _ (e : ℕ) (en : e ≡ endField l) where
+    pub early-end : e ≤ i → (f : Forest) → Sound l i parent d sets above f → ⊥
+    early-end h f s = let o = opened f s some .end-is in omega arith
+
+    pub cut-short : length l < recordLength * (e - i) → (f : Forest) → Sound l i parent d sets above f → ⊥
+    unfolding recordLength
+    cut-short h f s = let o = opened f s some .long in omega (arith, en)
+
+    module _ (below : ℕ) (bd : below ≡ kindDepth (kindField l) d) where
+      kids-sound : (o : Opened l i parent d sets above) → Sound (kidsOf l i e) (i + 1) i below sets (kindField l) (o .children)
+      kids-sound o =
+          let k = o .kids in
+          let b : childDepth (o .node) d ≡ below = kind-depth sets d (o .node) (o .inner) ∙ ap (λ (x : ℕ). kindDepth x d) (sym (o .kind)) ∙ sym bd in
+          record {
+            is = ap (λ (x : ℕ). take (recordLength * (x - i) - recordLength) (drop recordLength l)) en ∙ k .is
+                ∙ ap (λ (x : ℕ). records (o .children) x i) (sym (add-one i));
+            rules = ap (everyNode (nodeRule sets) (o .children)) (sym b) ∙ k .rules;
+            seats = ap (λ (x : ℕ). nestingRule x (o .children)) (o .kind) ∙ k .seats;
+          }
+
+      rest-is : (restOf l i e) ≡ drop (recordLength * (endField l - i)) l
+      rest-is =
+          take-all (length l - recordLength * (e - i)) (drop (recordLength * (e - i)) l) (rw length-drop (omega arith))
+          ∙ ap (λ (x : ℕ). drop (recordLength * (x - i)) l) en
+
+      rest-sound : (o : Opened l i parent d sets above) → Sound (restOf l i e) e parent d sets above (o .siblings)
+      rest-sound o =
+          let k = o .rest in
+          record {
+            is = rest-is ∙ k .is ∙ ap (λ (x : ℕ). records (o .siblings) x parent) (sym en);
+            rules = k .rules;
+            seats = k .seats;
+          }
+
+      module _ {ports first : ℕ} {r : Checked} {x y z x′ y′ z′ : List ℕ} (j : Judged (kidsOf l i e) (i + 1) i below ports sets (kindField l) first r x y z x′ y′ z′) where
+        pub bad-kids : r .ok ≡ false → (f : Forest) → Sound l i parent d sets above f → ⊥
+        bad-kids q f s = let o = opened f s some in j .refuses q (o .children) (kids-sound o)
+
+        pub bad-arity : r .ok ≡ true → arityRule (kindField l) (r .trees) ≡ false → (f : Forest) → Sound l i parent d sets above f → ⊥
+        bad-arity q a f s =
+            let o = opened f s some in
+            let g = j .accepts q in
+            let one : g .0 ≡ o .children = same-forest (g .0) (o .children) (i + 1) i (sym (g .1 .is) ∙ kids-sound o .is) in
+            false≢true (sym a ∙ ap₂ arityRule (o .kind) (g .2 .trees ∙ ap treeCount one) ∙ o .arity)
+
+      module _ {ports first : ℕ} {r : Checked} {x y z x′ y′ z′ : List ℕ} (j : Judged (restOf l i e) e parent d ports sets above first r x y z x′ y′ z′) where
+        pub bad-rest : r .ok ≡ false → (f : Forest) → Sound l i parent d sets above f → ⊥
+        bad-rest q f s = let o = opened f s some in j .refuses q (o .siblings) (rest-sound o)
+
+-- Lists with numbers laid from a place on.
+pub laid-nothing : (xs : List ℕ) (i : ℕ) → laid xs i [] ≡ xs
+unfolding laid
+laid-nothing xs i = ap (λ (j : ℕ). take i xs ++ drop j xs) (add-zero i) ∙ take-append-drop i xs
+
+laid-cons : (x : ℕ) (xs : List ℕ) (i : ℕ) (vs : List ℕ) → laid (x ∷ xs) (suc i) vs ≡ x ∷ laid xs i vs
+unfolding laid
+laid-cons x xs i vs = ap (λ (j : ℕ). x ∷ (take i xs ++ (vs ++ drop j (x ∷ xs)))) (suc-add i (length vs))
+
+laid-front : (xs vs : List ℕ) → laid xs 0 vs ≡ vs ++ drop (length vs) xs
+unfolding laid
+laid-front xs vs = ap (λ (j : ℕ). vs ++ drop j xs) (zero-add (length vs))
+
+laid-behind : (cs ss xs : List ℕ) → laid (cs ++ xs) (length cs) ss ≡ cs ++ laid xs 0 ss
+unfolding laid
+laid-behind cs ss xs =
+    ap₂ (λ (a b : List ℕ). a ++ (ss ++ b)) (take-append-seam cs xs) (drop-append-add cs xs (length ss))
+    ∙ ap (λ (j : ℕ). cs ++ (ss ++ drop j xs)) (sym (zero-add (length ss)))
+
+-- a node's own entry between those of its children and of its siblings
+pub laid-tree : (xs : List ℕ) (i v : ℕ) (cs ss : List ℕ) → i < length xs
+    → laid (set (laid xs (suc i) cs) i v) (suc i + length cs) ss ≡ laid xs i (v ∷ (cs ++ ss))
+laid-tree [] i v cs ss h = absurd (omega arith)
+laid-tree (x ∷ xs) zero v cs ss h =
+    let one : 1 + length cs ≡ suc (length cs) = omega arith in
+    let D = drop (length cs) xs in
+    ap (λ (L : List ℕ). laid (set L 0 v) (1 + length cs) ss) (laid-cons x xs 0 cs)
+    ∙ ap (λ (j : ℕ). laid (v ∷ laid xs 0 cs) j ss) one
+    ∙ laid-cons v (laid xs 0 cs) (length cs) ss
+    ∙ ap (λ (L : List ℕ). v ∷ L)
+    (ap (λ (L : List ℕ). laid L (length cs) ss) (laid-front xs cs)
+    ∙ laid-behind cs ss D
+    ∙ ap (λ (L : List ℕ). cs ++ L) (laid-front D ss ∙ ap (λ (L : List ℕ). ss ++ L) (drop-drop (length ss) (length cs) xs))
+    ∙ sym (append-assoc cs ss (drop (length cs + length ss) xs))
+    ∙ ap (λ (j : ℕ). cs ++ ss ++ drop j xs) (sym (length-append cs ss)))
+    ∙ sym (laid-front (x ∷ xs) (v ∷ (cs ++ ss)))
+laid-tree (x ∷ xs) (suc i) v cs ss h =
+    ap (λ (L : List ℕ). laid (set L (suc i) v) (suc (suc i) + length cs) ss) (laid-cons x xs (suc i) cs)
+    ∙ ap (λ (j : ℕ). laid (x ∷ set (laid xs (suc i) cs) i v) j ss) (suc-add (suc i) (length cs))
+    ∙ laid-cons x (set (laid xs (suc i) cs) i v) (suc i + length cs) ss
+    ∙ ap (λ (L : List ℕ). x ∷ L) (laid-tree xs i v cs ss (omega arith))
+    ∙ sym (laid-cons x xs i (v ∷ (cs ++ ss)))
+
+-- the tables have an entry for each node
+pub length-firsts : (u : ℕ) (f : Forest) (b d : ℕ) → length (firstCells u f b d) ≡ nodeCount f
+unfolding firstCells nodeCount
+length-firsts u none b d = refl
+length-firsts u (tree n c s) b d = simp (length-append, length-firsts u c, length-firsts u s) (omega arith)
+
+pub length-ends : (f : Forest) (i : ℕ) → length (ends f i) ≡ nodeCount f
+unfolding ends nodeCount
+length-ends none i = refl
+length-ends (tree n c s) i = simp (length-append, length-ends c, length-ends s) (omega arith)
+
+pub length-uses : (f : Forest) → length (usesTable f) ≡ nodeCount f
+unfolding usesTable nodeCount
+length-uses none = refl
+length-uses (tree n c s) = simp (length-append, length-uses c, length-uses s) (omega arith)
+
+-- one table after a node's children, its own entry and its siblings
+pub table-tree : (i e v : ℕ) (cs ss xs ys zs ws : List ℕ) → e ≡ suc i + length cs → i < length xs
+    → ys ≡ laid xs (i + 1) cs → zs ≡ set ys i v → ws ≡ laid zs e ss → ws ≡ laid xs i (v ∷ (cs ++ ss))
+table-tree i e v cs ss xs ys zs ws en h a b c =
+    c ∙ ap₂ (λ (L : List ℕ) (j : ℕ). laid L j ss) (b ∙ ap (λ (L : List ℕ). set L i v) (a ∙ ap (λ (j : ℕ). laid xs j cs) (add-one i))) en
+    ∙ laid-tree xs i v cs ss h
+
+-- with at most 64 ports a node of a depth that the rules admit has at most 64^3 cells
+pub width-low : (u d : ℕ) → 1 ≤ u → u ≤ 64 → d ≤ 3 → u ^ d ≤ 262144
+width-low u d h l e = le-trans (pow-le-pow-left l d) (pow-le-pow-right (omega arith) e)
+
+pub cells-few : (u sets : ℕ) (f : Forest) (d : ℕ) → 1 ≤ u → u ≤ 64 → everyNode (nodeRule sets) f d ≡ true → cellCount u f d ≤ 262144 * nodeCount f
+unfolding cellCount nodeCount depthRule
+cells-few u sets none d h l r = omega arith
+cells-few u sets (tree n c s) d h l r =
+    let q = every-node sets n c s d r in
+    omega (
+      arith,
+      width-low u d h l (leb-true d 3 (q .1)),
+      cells-few u sets c (childDepth n d) h l (q .4),
+      cells-few u sets s d h l (q .5),
+    )
+
+pub trees-few : (f : Forest) → treeCount f ≤ nodeCount f
+unfolding treeCount nodeCount
+trees-few none = omega arith
+trees-few (tree n c s) = omega (arith, trees-few s)
+
+-- the bytes of a record, one by one
+pub eight : (l : List ℕ) → 8 ≤ length l
+    → l ≡ getD l 0 0 ∷ getD l 1 0 ∷ getD l 2 0 ∷ getD l 3 0 ∷ getD l 4 0 ∷ getD l 5 0 ∷ getD l 6 0 ∷ getD l 7 0 ∷ drop 8 l
+eight l h =
+    drop-cons l 0 0 (omega arith)
+    ∙ ap (λ (x : List ℕ). getD l 0 0 ∷ x) (drop-cons l 1 0 (omega arith)
+    ∙ ap (λ (x : List ℕ). getD l 1 0 ∷ x) (drop-cons l 2 0 (omega arith)
+    ∙ ap (λ (x : List ℕ). getD l 2 0 ∷ x) (drop-cons l 3 0 (omega arith)
+    ∙ ap (λ (x : List ℕ). getD l 3 0 ∷ x) (drop-cons l 4 0 (omega arith)
+    ∙ ap (λ (x : List ℕ). getD l 4 0 ∷ x) (drop-cons l 5 0 (omega arith)
+    ∙ ap (λ (x : List ℕ). getD l 5 0 ∷ x) (drop-cons l 6 0 (omega arith)
+    ∙ ap (λ (x : List ℕ). getD l 6 0 ∷ x) (drop-cons l 7 0 (omega arith))))))))
+
+-- a record that keeps its rules is the record of its node
+record-is : (l : List ℕ) (sets d above parent e : ℕ) → recordLength ≤ length l → recordRule sets d above parent l ≡ true → EndIs l e
+    → l ≡ recordOf (nodeOf (kindField l) (relationField l) (aField l) (bField l)) parent e ++ drop recordLength l
+unfolding recordLength recordRule kindField relationField aField bField recordOf wordBytes
+record-is l sets d above parent e h q w =
+    let r = four-true (fieldRule sets d (getD l 0 0) (getD l 1 0) (getD l 2 0) (getD l 3 0)) (depthRule d) (maySit above (getD l 0 0)) _ q in
+    let n = fields-node sets d (getD l 0 0) (getD l 1 0) (getD l 2 0) (getD l 3 0) (r .0) in
+    let p = two-true (eqb (getD l 4 0) (parent % 256)) (eqb (getD l 5 0) (parent / 256)) (r .3) in
+    eight l h ∙ λ i. sym (n .kind-is) i ∷ sym (n .relation-is) i ∷ sym (n .a-is) i ∷ sym (n .b-is) i
+    ∷ eqb-true (getD l 4 0) (parent % 256) (p .0) i ∷ eqb-true (getD l 5 0) (parent / 256) (p .1) i ∷ w .low i ∷ w .high i ∷ drop 8 l
+
+module _ (l : List ℕ) (i parent d sets above e : ℕ) (long : recordLength ≤ length l) (rule : recordRule sets d above parent l ≡ true)
+    (en : EndIs l e) (after : i < e) (within : recordLength * (e - i) ≤ length l) where
+  abbrev nodeHere : Node
+  nodeHere = nodeOf (kindField l) (relationField l) (aField l) (bField l)
+
+  -- what the record's rule says
+  pub rules-here : (fieldRule sets d (kindField l) (relationField l) (aField l) (bField l) ≡ true) × (depthRule d ≡ true)
+      × (maySit above (kindField l) ≡ true) × ((eqb (getD l 4 0) (parent % 256) && eqb (getD l 5 0) (parent / 256)) ≡ true)
+  unfolding recordRule
+  rules-here = four-true (fieldRule sets d (kindField l) (relationField l) (aField l) (bField l)) (depthRule d) (maySit above (kindField l)) _ rule
+
+  pub node-here : NodeIs sets d (kindField l) (relationField l) (aField l) (bField l) nodeHere
+  node-here = fields-node sets d (kindField l) (relationField l) (aField l) (bField l) (rules-here .0)
+
+  pub depth-here : d ≤ 3
+  unfolding depthRule
+  depth-here = leb-true d 3 (rules-here .1)
+
+  pub length-kids : length (kidsOf l i e) ≡ recordLength * (e - i) - recordLength
+  unfolding recordLength
+  length-kids = length-take-le (8 * (e - i) - 8) (drop 8 l) (rw (length-drop 8 l) (omega arith))
+
+  pub length-rest : length (restOf l i e) ≡ length l - recordLength * (e - i)
+  unfolding recordLength
+  length-rest = length-take-le (length l - 8 * (e - i)) (drop (8 * (e - i)) l) (rw (length-drop (8 * (e - i)) l) (omega arith))
+
+  parts-join : drop recordLength l ≡ kidsOf l i e ++ restOf l i e
+  unfolding recordLength
+  parts-join =
+      sym (take-append-drop (8 * (e - i) - 8) (drop 8 l))
+      ∙ ap (λ (x : List ℕ). kidsOf l i e ++ x)
+      (drop-drop (8 * (e - i) - 8) 8 l ∙ ap (λ (j : ℕ). drop j l) (let q : 8 + (8 * (e - i) - 8) ≡ 8 * (e - i) = omega arith in q)
+      ∙ sym (take-all (length l - 8 * (e - i)) (drop (8 * (e - i)) l) (rw (length-drop (8 * (e - i)) l) (omega arith))))
+
+  module _ (below : ℕ) (bd : below ≡ kindDepth (kindField l) d) (c s : Forest) (kids : Sound (kidsOf l i e) (i + 1) i below sets (kindField l) c)
+      (rest : Sound (restOf l i e) e parent d sets above s) where
+    pub end-here : e ≡ i + suc (nodeCount c)
+    unfolding recordLength
+    end-here = omega (arith, length-kids, sound-length kids)
+
+    pub depth-below : below ≡ childDepth nodeHere d
+    depth-below = bd ∙ ap (λ (x : ℕ). kindDepth x d) (sym (node-here .kind-is)) ∙ sym (kind-depth sets d nodeHere (node-here .inner))
+
+    pub tree-sound : arityRule (kindField l) (treeCount c) ≡ true → Sound l i parent d sets above (tree nodeHere c s)
+    unfolding records everyNode nodeRule nestingRule
+    tree-sound a =
+        let k = node-here .kind-is in
+        record {
+          is = record-is l sets d above parent e long rule en
+              ∙ ap (λ (x : List ℕ). recordOf nodeHere parent e ++ x)
+              (parts-join ∙ ap₂ _++_ (kids .is ∙ ap (λ (x : ℕ). records c x i) (add-one i)) (rest .is))
+              ∙ ap (λ (x : ℕ). recordOf nodeHere parent x ++ (records c (suc i) i ++ records s x parent)) end-here;
+          rules = and-true _ _ (and-true _ _
+              (and-true _ _ (and-true _ _ (and-true _ _ (node-here .inner) (rules-here .1)) (ap (λ (x : ℕ). arityRule x (treeCount c)) k ∙ a))
+              (ap (λ (x : ℕ). nestingRule x c) k ∙ kids .seats))
+              (ap (everyNode (nodeRule sets) c) (sym depth-below) ∙ kids .rules)) (rest .rules);
+          seats = and-true _ _ (ap (maySit above) k ∙ rules-here .2) (rest .seats);
+        }
+
+    -- what is then known of the whole part
+    pub tree-indexed : (ports width first : ℕ) (rc rs r : Checked) (x y z x₁ y₁ z₁ x₂ y₂ z₂ x₃ y₃ z₃ : List ℕ)
+        → Placed l i parent d ports sets width first x y z
+        → Indexed (i + 1) below ports (first + width) c rc x y z x₁ y₁ z₁
+        → (x₂ ≡ set x₁ i first) × (y₂ ≡ set y₁ i e) × (z₂ ≡ set z₁ i (bitOr (kindUses (kindField l) (aField l) (bField l)) (rc .uses)))
+        → Indexed e d ports (first + width + rc .cells) s rs x₂ y₂ z₂ x₃ y₃ z₃
+        → r .trees ≡ rs .trees + 1 → r .cells ≡ width + rc .cells + rs .cells
+        → r .uses ≡ bitOr (bitOr (kindUses (kindField l) (aField l) (bField l)) (rc .uses)) (rs .uses)
+        → Indexed i d ports first (tree nodeHere c s) r x y z x₃ y₃ z₃
+    unfolding treeCount cellCount forestUses firstCells ends usesTable siblingFirst recordLength
+    tree-indexed ports width first rc rs r x y z x₁ y₁ z₁ x₂ y₂ z₂ x₃ y₃ z₃ p jc m js tr ce us =
+        let u = p .width-is in
+        let k : kindUses (kindField l) (aField l) (bField l) ≡ nodeUses nodeHere =
+        sym (kind-uses nodeHere ∙ (λ j. kindUses (node-here .kind-is j) (node-here .a-is j) (node-here .b-is j))) in
+        let cc : rc .cells ≡ cellCount ports c (childDepth nodeHere d) = jc .cells ∙ ap (cellCount ports c) depth-below in
+        let fc : firstCells ports c (first + width) below ≡ firstCells ports c (first + ports ^ d) (childDepth nodeHere d) =
+        ap₂ (λ (a b : ℕ). firstCells ports c (first + a) b) u depth-below in
+        let fs : firstCells ports s (first + width + rc .cells) d ≡ firstCells ports s (first + ports ^ d + cellCount ports c (childDepth nodeHere d)) d =
+        ap₂ (λ (a b : ℕ). firstCells ports s (first + a + b) d) u cc in
+        let big : i < 512 = omega (arith, p .few) in
+        record {
+          trees = tr ∙ ap (λ (a : ℕ). a + 1) (js .trees) ∙ add-one (treeCount s);
+          cells = ce ∙ (λ j. u j + cc j + js .cells j);
+          used = us ∙ (λ j. bitOr (bitOr (k j) (jc .used j)) (js .used j));
+          firsts-are = table-tree i e first (firstCells ports c (first + width) below) (firstCells ports s (first + width + rc .cells) d) x x₁ x₂ x₃
+              (omega (arith, end-here, length-firsts ports c (first + width) below)) (omega (arith, p .room-firsts)) (jc .firsts-are) (m .0) (js .firsts-are)
+              ∙ ap₂ (λ (a b : List ℕ). laid x i (first ∷ (a ++ b))) fc fs;
+          ends-are = table-tree i e e (ends c (i + 1)) (ends s e) y y₁ y₂ y₃
+              (omega (arith, end-here, length-ends c (i + 1))) (omega (arith, p .room-ends)) (jc .ends-are) (m .1) (js .ends-are)
+              ∙ (λ j. laid y i (end-here j ∷ (ends c (add-one i j) ++ ends s (end-here j))));
+          uses-are = table-tree i e (bitOr (kindUses (kindField l) (aField l) (bField l)) (rc .uses)) (usesTable c) (usesTable s) z z₁ z₂ z₃
+              (omega (arith, end-here, length-uses c)) (omega (arith, p .room-uses)) (jc .uses-are) (m .2) (js .uses-are)
+              ∙ (λ j. laid z i (bitOr (k j) (jc .used j) ∷ (usesTable c ++ usesTable s)));
+        }
+
+  pub accept : (below ports width first used : ℕ) (bd : below ≡ kindDepth (kindField l) d) (rc rs r : Checked) (x y z x₁ y₁ z₁ x₂ y₂ z₂ x₃ y₃ z₃ : List ℕ)
+      → Placed l i parent d ports sets width first x y z
+      → Judged (kidsOf l i e) (i + 1) i below ports sets (kindField l) (first + width) rc x y z x₁ y₁ z₁ → rc .ok ≡ true
+      → arityRule (kindField l) (rc .trees) ≡ true
+      → (x₂ ≡ set x₁ i first) × (y₂ ≡ set y₁ i e) × (z₂ ≡ set z₁ i used)
+      → used ≡ bitOr (kindUses (kindField l) (aField l) (bField l)) (rc .uses)
+      → Judged (restOf l i e) e parent d ports sets above (first + width + rc .cells) rs x₂ y₂ z₂ x₃ y₃ z₃ → rs .ok ≡ true
+      → r .ok ≡ true → r .trees ≡ rs .trees + 1 → r .cells ≡ width + rc .cells + rs .cells
+      → r .uses ≡ bitOr used (rs .uses)
+      → Judged l i parent d ports sets above first r x y z x₃ y₃ z₃
+  accept below ports width first used bd rc rs r x y z x₁ y₁ z₁ x₂ y₂ z₂ x₃ y₃ z₃ p jk ok ar m used-is jr ok′ good trees-are cells-are uses-are =
+      let a = jk .accepts ok in
+      let b = jr .accepts ok′ in
+      record {
+        accepts = λ q. (
+          tree nodeHere (a .0) (b .0),
+          tree-sound below bd (a .0) (b .0) (a .1) (b .1) (ap (arityRule (kindField l)) (sym (a .2 .trees)) ∙ ar),
+          tree-indexed below bd (a .0) (b .0) (a .1) (b .1) ports width first rc rs r x y z x₁ y₁ z₁ x₂ y₂ z₂ x₃ y₃ z₃ p (a .2)
+              (m .0, m .1, m .2 ∙ ap (set z₁ i) used-is) (b .2) trees-are cells-are (uses-are ∙ ap (λ (v : ℕ). bitOr v (rs .uses)) used-is),
+        );
+        refuses = λ q. absurd (true≢false (sym good ∙ q));
+      }
+
+-- no records are no trees
+pub accept-none : (l : List ℕ) (i parent d ports sets above first : ℕ) (r : Checked) (x y z : List ℕ) → length l ≡ 0 → r .ok ≡ true → r .trees ≡ 0 → r .cells ≡ 0 → r .uses ≡ 0
+    → Judged l i parent d ports sets above first r x y z x y z
+unfolding records everyNode nestingRule treeCount cellCount forestUses firstCells ends usesTable
+accept-none [] i parent d ports sets above first r x y z h good t c u = record {
+  accepts = λ q. (
+    none,
+    record { is = refl; rules = refl; seats = refl },
+    record { trees = t; cells = c; used = u; firsts-are = sym (laid-nothing x i); ends-are = sym (laid-nothing y i); uses-are = sym (laid-nothing z i) },
+  );
+  refuses = λ q. absurd (true≢false (sym good ∙ q));
+}
+accept-none (b ∷ l) i parent d ports sets above first r x y z h good t c u = absurd (omega arith)
+
+-- where the children stand, and the siblings
+module _ (l : List ℕ) (i parent d ports sets above width first e : ℕ) (x y z : List ℕ) (place : Placed l i parent d ports sets width first x y z)
+    (long : recordLength ≤ length l) (rule : recordRule sets d above parent l ≡ true) (en : EndIs l e) (after : i < e)
+    (within : recordLength * (e - i) ≤ length l) where
+  pub width-fits : width ≤ 262144
+  width-fits =
+      let w = width-low ports d (place .ports1) (place .ports64) (depth-here l i parent d sets above e long rule en after within) in
+      omega (arith, place .width-is)
+
+  pub placed-kids : (below wider : ℕ) → below ≡ kindDepth (kindField l) d → wider ≡ kindWidth (kindField l) width ports
+      → Placed (kidsOf l i e) (i + 1) i below ports sets wider (first + width) x y z
+  unfolding recordLength
+  placed-kids below wider bd wd = record {
+    few = omega (arith, place .few, length-kids l i parent d sets above e long rule en after within);
+    parents = omega (arith, place .few);
+    ports1 = place .ports1;
+    ports64 = place .ports64;
+    sets16 = place .sets16;
+    width-is = wd ∙ kind-width (kindField l) width ports d (place .width-is) ∙ ap (λ (j : ℕ). ports ^ j) (sym bd);
+    depth = omega (arith, kind-depth-le (kindField l) d, depth-here l i parent d sets above e long rule en after within);
+    first-low = omega (arith, place .first-low, width-fits);
+    room-firsts = place .room-firsts;
+    room-ends = place .room-ends;
+    room-uses = place .room-uses;
+  }
+
+  pub placed-rest : (below : ℕ) → below ≡ kindDepth (kindField l) d → (c : Forest) → Sound (kidsOf l i e) (i + 1) i below sets (kindField l) c
+      → (cells : ℕ) → cells ≡ cellCount ports c below → (x₂ y₂ z₂ : List ℕ) → length x₂ ≡ length x → length y₂ ≡ length y → length z₂ ≡ length z
+      → Placed (restOf l i e) e parent d ports sets width (first + width + cells) x₂ y₂ z₂
+  unfolding recordLength
+  placed-rest below bd c kids cells ce x₂ y₂ z₂ lx ly lz = record {
+    few = omega (arith, place .few, length-rest l i parent d sets above e long rule en after within);
+    parents = place .parents;
+    ports1 = place .ports1;
+    ports64 = place .ports64;
+    sets16 = place .sets16;
+    width-is = place .width-is;
+    depth = place .depth;
+    first-low = omega (
+      arith,
+      place .first-low,
+      width-fits,
+      sound-length kids,
+      length-kids l i parent d sets above e long rule en after within,
+      cells-few ports sets c below (place .ports1) (place .ports64) (kids .rules),
+    );
+    room-firsts = omega (arith, place .room-firsts);
+    room-ends = omega (arith, place .room-ends);
+    room-uses = omega (arith, place .room-uses);
+  }
+
+-- what is counted stays small
+pub judged-low : (l : List ℕ) (i parent d ports sets above first : ℕ) (r : Checked) (x y z x′ y′ z′ : List ℕ)
+    → Judged l i parent d ports sets above first r x y z x′ y′ z′ → r .ok ≡ true → 1 ≤ ports → ports ≤ 64
+    → (recordLength * r .trees ≤ length l) × (recordLength * r .cells ≤ 262144 * length l)
+unfolding recordLength
+judged-low l i parent d ports sets above first r x y z x′ y′ z′ j ok u1 u64 =
+    let a = j .accepts ok in
+    let n = sound-length (a .1) in
+    (omega (arith, n, a .2 .trees, trees-few (a .0)), omega (arith, n, a .2 .cells, cells-few ports sets (a .0) d u1 u64 (a .1 .rules)))

@@ -1,0 +1,5 @@
+-- Laws of the plan table.
+pub mod Encoding
+pub mod Fields
+pub mod Judging
+pub mod Whole

@@ -1,0 +1,133 @@
+-- What the check of a table's records asks and gives: internal to the crate.
+use mathlib.Core.Path.{_≡_}
+use mathlib.Core.Bool.{Bool, true, false, cond, _&&_}
+use mathlib.Core.List.{List, _++_}
+use Prim.Native.Nat.{ℕ, _+_, _*_, _/_, _%_, _^_, _≤_, _<_}
+use lib.Dec.{eqb, leb, ltb}
+use lib.ListN.{length, getD, take, drop}
+use Rattle.esol.specs.Formula.{Forest, Plan, nodeCount}
+use Rattle.esol.specs.Cells.{cellCount, ownCells}
+use Rattle.plan.specs.declared.Checked.{Checked}
+use Rattle.plan.specs.declared.Info.{Info}
+use Rattle.plan.specs.Bytes.{headerLength, recordLength, word, kindField, relationField, aField, bField, endField, records}
+use Rattle.plan.specs.Rules.{everyNode, treeCount, maySit, nestingRule, depthRule, nodeRule}
+use Rattle.plan.specs.Decode.{broken, sound, decode}
+use Rattle.plan.specs.Index.{firstCells, ends, forestUses, usesTable}
+
+-- The rules of a node's first four bytes, by its kind: what an encoding and the rule of an inner node ask of them.
+unfoldable pub fieldRule : ℕ → ℕ → ℕ → ℕ → ℕ → ℕ → Bool
+fieldRule sets d kind r a b =
+    cond (eqb kind 0) false
+    (cond (leb kind 4) (eqb r 0 && eqb a 0 && eqb b 0)
+    (cond (leb kind 6) (eqb r 0 && ltb a d && ltb b sets)
+    (cond (eqb kind 7) (leb r 5 && ltb a d && ltb b d)
+    (cond (eqb kind 8) (leb r 5 && ltb a sets && leb b 64)
+    false))))
+
+-- The rules of a whole record but its end.
+unfoldable pub recordRule : ℕ → ℕ → ℕ → ℕ → List ℕ → Bool
+recordRule sets d above parent l =
+    fieldRule sets d (kindField l) (relationField l) (aField l) (bField l) && depthRule d && maySit above (kindField l)
+    && (eqb (getD l 4 0) (parent % 256) && eqb (getD l 5 0) (parent / 256))
+
+-- The depth and the cells of the children of an inner node of a kind, where it has depth d and width cells.
+unfoldable pub kindDepth : ℕ → ℕ → ℕ
+kindDepth kind d = cond (leb kind 2) (d + 1) d
+
+unfoldable pub kindWidth : ℕ → ℕ → ℕ → ℕ
+kindWidth kind width ports = cond (leb kind 2) (width * ports) width
+
+-- The uses of an inner node by its kind, a and b; they fit where the fields keep the rules.
+unfoldable pub kindUses : ℕ → ℕ → ℕ → ℕ
+kindUses kind a b =
+    cond (leb kind 4) 0 (cond (leb kind 6) (2 ^ (4 * b + a)) (cond (eqb kind 7) 0 (2 ^ (4 * a + 3))))
+
+pub record UsesFit (kind a b : ℕ) : Type 0 where
+  pub variable : 4 < kind → kind ≤ 6 → a ≤ 2
+  pub set : 4 < kind → kind ≤ 6 → b ≤ 15
+  pub sized : 7 < kind → a ≤ 15
+
+-- A record's end, and its bytes.
+pub record EndIs (l : List ℕ) (r : ℕ) : Type 0 where
+  pub is : r ≡ endField l
+  pub fits : r < 65536
+  pub low : getD l 6 0 ≡ r % 256
+  pub high : getD l 7 0 ≡ r / 256
+
+-- A list with the numbers vs from place i on.
+unfoldable pub laid : List ℕ → ℕ → List ℕ → List ℕ
+laid l i vs = take i l ++ (vs ++ drop (i + length vs) l)
+
+-- Where a part of the records stands: i is its first node, d its depth, first its first cell, width the cells of a node.
+pub record Placed (l : List ℕ) (i parent d ports sets width first : ℕ) (firsts ends uses : List ℕ) : Type 0 where
+  pub few : recordLength * i + length l ≤ recordLength * 512
+  pub parents : parent < 65536
+  pub ports1 : 1 ≤ ports
+  pub ports64 : ports ≤ 64
+  pub sets16 : sets ≤ 16
+  pub width-is : width ≡ ports ^ d
+  pub depth : d ≤ 4
+  pub first-low : first ≤ 262144 * i
+  pub room-firsts : 512 ≤ length firsts
+  pub room-ends : 512 ≤ length ends
+  pub room-uses : 512 ≤ length uses
+
+-- The part is the records of a forest that keeps the rules.
+pub record Sound (l : List ℕ) (i parent d sets above : ℕ) (f : Forest) : Type 0 where
+  pub is : l ≡ records f i parent
+  pub rules : everyNode (nodeRule sets) f d ≡ true
+  pub seats : nestingRule above f ≡ true
+
+-- What is known of the forest, and what the index tables hold of it.
+pub record Indexed (i d ports first : ℕ) (f : Forest) (r : Checked) (firsts ends′ uses firsts′ ends″ uses′ : List ℕ) : Type 0 where
+  pub trees : r .trees ≡ treeCount f
+  pub cells : r .cells ≡ cellCount ports f d
+  pub used : r .uses ≡ forestUses f
+  pub firsts-are : firsts′ ≡ laid firsts i (firstCells ports f first d)
+  pub ends-are : ends″ ≡ laid ends′ i (ends f i)
+  pub uses-are : uses′ ≡ laid uses i (usesTable f)
+
+pub record Judged (l : List ℕ) (i parent d ports sets above first : ℕ) (r : Checked) (firsts ends uses firsts′ ends′ uses′ : List ℕ) : Type 0 where
+  pub accepts : r .ok ≡ true
+      → (f : Forest) × Sound l i parent d sets above f × Indexed i d ports first f r firsts ends uses firsts′ ends′ uses′
+  pub refuses : r .ok ≡ false → (f : Forest) → Sound l i parent d sets above f → ⊥
+
+-- The rules of a header but its node count, and of the root's record where the plan has so many nodes.
+unfoldable pub headerRule : List ℕ → Bool
+headerRule l =
+    (eqb (getD l 0 0) 80 && eqb (getD l 1 0) 76 && eqb (getD l 2 0) 78) && (eqb (getD l 3 0) 1 && eqb (getD l 4 0) 0)
+    && ((leb 1 (getD l 5 0) && leb (getD l 5 0) 64) && (leb 1 (getD l 6 0) && leb (getD l 6 0) 16))
+
+unfoldable pub wordRule : ℕ → ℕ → ℕ → Bool
+wordRule low high x = eqb low (x % 256) && eqb high (x / 256)
+
+unfoldable pub rootRule : ℕ → List ℕ → Bool
+rootRule nodes l =
+    (eqb (getD l 0 0) 0 && eqb (getD l 1 0) 0 && eqb (getD l 2 0) 0) && eqb (getD l 3 0) 0
+    && (wordRule (getD l 4 0) (getD l 5 0) 65535 && wordRule (getD l 6 0) (getD l 7 0) nodes)
+
+-- The header and the root's record keep the rules, and no record is cut off.
+unfoldable pub frontRule : List ℕ → Bool
+frontRule l =
+    let nodes = word (getD l 7 0) (getD l 8 0) in
+    leb headerLength (length l) && headerRule l && leb 2 nodes && leb nodes 512 && leb (headerLength + recordLength * nodes) (length l)
+    && rootRule nodes (drop headerLength l)
+
+-- What the check of a whole table gives: the plan that it decodes to, with the plan's numbers and its index tables.
+pub record PlanIndexed (P : Plan) (r : Info) (firsts ends′ uses firsts′ ends″ uses′ : List ℕ) : Type 0 where
+  pub ports-are : r .ports ≡ P .ports
+  pub sets-are : r .sets ≡ P .sets
+  pub nodes-are : r .nodes ≡ nodeCount (P .formula)
+  pub cells-are : r .cells ≡ ownCells P
+  pub firsts-are : firsts′ ≡ laid firsts 0 (firstCells (P .ports) (P .formula) 0 0)
+  pub ends-are : ends″ ≡ laid ends′ 0 (ends (P .formula) 0)
+  pub uses-are : uses′ ≡ laid uses 0 (usesTable (P .formula))
+
+pub record PlanJudged (bytes : List ℕ) (r : Info) (firsts ends uses firsts′ ends′ uses′ : List ℕ) : Type 0 where
+  pub accepts : r .ok ≡ true → (P : Plan) × (decode bytes ≡ sound P) × PlanIndexed P r firsts ends uses firsts′ ends′ uses′
+  pub refuses : r .ok ≡ false → decode bytes ≡ broken
+
+pub record Room (firsts ends uses : List ℕ) : Type 0 where
+  pub of-firsts : 512 ≤ length firsts
+  pub of-ends : 512 ≤ length ends
+  pub of-uses : 512 ≤ length uses

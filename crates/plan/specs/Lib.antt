@@ -1,0 +1,5 @@
+pub mod Bytes
+pub mod Rules
+pub mod Decode
+pub mod Index
+pub mod Check

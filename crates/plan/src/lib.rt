@@ -1,0 +1,406 @@
+// The plan table: paper 01, section Plan table.
+ghost use mathlib.Core.Path.{_≡_};
+ghost use mathlib.Core.Bool.{false, _&&_};
+ghost use Prim.Native.Nat.{ℕ, _+_, _*_, _/_, _%_, _^_, _≤_, _<_};
+ghost use lib.ListN.{length, getD, set};
+ghost use Rattle.plan.specs.Bytes.{headerLength, recordLength, word, endField};
+ghost use Rattle.plan.specs.Rules.{arityRule, maySit};
+ghost use Rattle.plan.specs.Check.{fieldRule, recordRule, headerRule, wordRule, rootRule, frontRule, PlanJudged, Room, kindDepth, kindWidth, kindUses, UsesFit, EndIs, Placed, Judged};
+
+// The length of a record, and of the header before the first.
+pub const RECORD: usize = 8;
+
+pub const HEADER: usize = 9;
+
+// A plan has at most so many nodes and cells.
+pub const MOST_NODES: usize = 512;
+
+pub const MOST_CELLS: usize = 1048576;
+
+// What the check of some records finds: how many trees they are, their cells, and which sets they use.
+pub struct Checked {
+    pub ok: bool,
+    pub trees: usize,
+    pub cells: usize,
+    pub uses: u64,
+}
+
+pub fn wide(b: u8) -> usize
+    ensures { λ r. ⌜ (r ≡ b) × (r < 256) ⌝ }
+{
+    b as usize
+}
+
+fn both(a: bool, b: bool) -> bool
+    ensures { λ r. ⌜ r ≡ (a && b) ⌝ }
+{
+    if a {
+        return b;
+    }
+    false
+}
+
+fn three(a: bool, b: bool, c: bool) -> bool
+    ensures { λ r. ⌜ r ≡ (a && b && c) ⌝ }
+{
+    both(both(a, b), c)
+}
+
+// Whether a node's kind, relation, a and b keep the rules.
+fn fields_ok(kind: u8, relation: u8, a: u8, b: u8, sets: usize, depth: usize) -> bool
+    ensures { λ r. ⌜ r ≡ fieldRule sets depth kind relation a b ⌝ }
+{
+    let x = wide(a);
+    let y = wide(b);
+    if kind == 0 {
+        return false;
+    }
+    if kind <= 4 {
+        return three(relation == 0, x == 0, y == 0);
+    }
+    if kind <= 6 {
+        return three(relation == 0, x < depth, y < sets);
+    }
+    if kind == 7 {
+        return three(relation <= 5, x < depth, y < depth);
+    }
+    if kind == 8 {
+        return three(relation <= 5, x < sets, y <= 64);
+    }
+    false
+}
+
+// Whether a node of a kind may stand directly below one of the kind above.
+fn may_sit(above: u8, kind: u8) -> bool
+    ensures { λ r. ⌜ r ≡ maySit above kind ⌝ }
+{
+    if three(above == kind, 3 <= above, above <= 4) {
+        return false;
+    }
+    true
+}
+
+// Whether a node of a kind has as many children as it must.
+fn arity_ok(kind: u8, children: usize) -> bool
+    ensures { λ r. ⌜ r ≡ arityRule kind children ⌝ }
+{
+    if kind <= 2 {
+        return children == 1;
+    }
+    if kind <= 4 {
+        return 2 <= children;
+    }
+    children == 0
+}
+
+// Whether a record keeps the rules of its own fields and place; its end is for the caller.
+fn record_ok(part: &[u8], parent: usize, depth: usize, above: u8, sets: usize) -> bool
+    requires { ⌜ recordLength ≤ length (now part) ⌝ }
+    ensures { λ r. ⌜ r ≡ recordRule sets depth above parent (now (part .entry)) ⌝ }
+{
+    let fields = fields_ok(part[0], part[1], part[2], part[3], sets, depth);
+    let seat = may_sit(above, part[0]);
+    let up = both(wide(part[4]) == parent % 256, wide(part[5]) == parent / 256);
+    both(three(fields, depth <= 3, seat), up)
+}
+
+// The end of the record that a part begins with.
+pub fn end_of(part: &[u8]) -> usize
+    requires { ⌜ recordLength ≤ length (now part) ⌝ }
+    ensures { λ r. ⌜ EndIs (now (part .entry)) r ⌝ }
+{
+    wide(part[6]) + 256 * wide(part[7])
+}
+
+fn child_depth(kind: u8, depth: usize) -> usize
+    requires { ⌜ depth ≤ 4 ⌝ }
+    ensures { λ r. ⌜ r ≡ kindDepth kind depth ⌝ }
+{
+    if kind <= 2 {
+        return depth + 1;
+    }
+    depth
+}
+
+fn child_width(kind: u8, width: usize, ports: usize) -> usize
+    requires { ⌜ (width ≤ 16777216) × (ports ≤ 64) ⌝ }
+    ensures { λ r. ⌜ r ≡ kindWidth kind width ports ⌝ }
+{
+    if kind <= 2 {
+        return width * ports;
+    }
+    width
+}
+
+fn bit(at: usize) -> u64
+    requires { ⌜ at < 64 ⌝ }
+    ensures { λ r. ⌜ r ≡ 2 ^ at ⌝ }
+{
+    1u64 << at
+}
+
+// Which set an inner node uses, and how.
+fn uses_of(kind: u8, a: u8, b: u8) -> u64
+    requires { ⌜ UsesFit kind a b ⌝ }
+    ensures { λ r. ⌜ r ≡ kindUses kind a b ⌝ }
+{
+    let x = wide(a);
+    let y = wide(b);
+    if kind <= 4 {
+        return 0;
+    }
+    if kind <= 6 {
+        return bit(4 * y + x);
+    }
+    if kind == 7 {
+        return 0;
+    }
+    bit(4 * x + 3)
+}
+
+// The entries of node i in the index tables.
+fn note(
+    i: usize,
+    first: usize,
+    end: usize,
+    used: u64,
+    firsts: &mut [u32],
+    ends: &mut [u16],
+    uses: &mut [u64],
+)
+    requires { ⌜ (i < length (now firsts)) × (i < length (now ends)) × (i < length (now uses)) × (first < 4294967296) × (end < 65536) ⌝ }
+    ensures { λ _. ⌜ (now (firsts .exit) ≡ set (now (firsts .entry)) i first) × (now (ends .exit) ≡ set (now (ends .entry)) i end) × (now (uses .exit) ≡ set (now (uses .entry)) i used) ⌝ }
+{
+    firsts[i] = first as u32;
+    ends[i] = end as u16;
+    uses[i] = used;
+}
+
+fn broken() -> Checked
+    ensures { λ r. ⌜ r .ok ≡ false ⌝ }
+{
+    Checked {
+        ok: false,
+        trees: 0,
+        cells: 0,
+        uses: 0,
+    }
+}
+
+// Checks the records of some trees, the first of them node i, and fills the index tables with what it finds. Each record is
+// visited once: the children are the part up to the record's end, the later siblings the part behind it.
+fn check_forest(
+    part: &[u8],
+    i: usize,
+    parent: usize,
+    depth: usize,
+    above: u8,
+    ports: usize,
+    sets: usize,
+    width: usize,
+    first: usize,
+    firsts: &mut [u32],
+    ends: &mut [u16],
+    uses: &mut [u64],
+) -> Checked
+    requires { ⌜ Placed (now part) i parent depth ports sets width first (now firsts) (now ends) (now uses) ⌝ }
+    ensures { λ r. ⌜ Judged (now (part .entry)) i parent depth ports sets above first r (now (firsts .entry)) (now (ends .entry)) (now (uses .entry)) (now (firsts .exit)) (now (ends .exit)) (now (uses .exit)) ⌝ }
+{
+    if part.len() == 0 {
+        return Checked {
+            ok: true,
+            trees: 0,
+            cells: 0,
+            uses: 0,
+        };
+    }
+    if part.len() < RECORD {
+        return broken();
+    }
+    if !record_ok(part, parent, depth, above, sets) {
+        return broken();
+    }
+    let end = end_of(part);
+    if end <= i {
+        return broken();
+    }
+    let span = RECORD * (end - i);
+    if part.len() < span {
+        return broken();
+    }
+    let kind = part[0];
+    let below = child_depth(kind, depth);
+    let wider = child_width(kind, width, ports);
+    let c = check_forest(
+        &part[RECORD..span],
+        i + 1,
+        i,
+        below,
+        kind,
+        ports,
+        sets,
+        wider,
+        first + width,
+        firsts,
+        ends,
+        uses,
+    );
+    if !c.ok {
+        return c;
+    }
+    if !arity_ok(kind, c.trees) {
+        return broken();
+    }
+    let used = uses_of(kind, part[2], part[3]) | c.uses;
+    note(i, first, end, used, firsts, ends, uses);
+    let s = check_forest(
+        &part[span..],
+        end,
+        parent,
+        depth,
+        above,
+        ports,
+        sets,
+        width,
+        first + width + c.cells,
+        firsts,
+        ends,
+        uses,
+    );
+    if !s.ok {
+        return s;
+    }
+    Checked {
+        ok: true,
+        trees: s.trees + 1,
+        cells: width + c.cells + s.cells,
+        uses: used | s.uses,
+    }
+}
+
+// What the check of a whole table finds.
+pub struct Info {
+    pub ok: bool,
+    pub ports: usize,
+    pub sets: usize,
+    pub nodes: usize,
+    pub cells: usize,
+}
+
+fn header_ok(table: &[u8]) -> bool
+    requires { ⌜ headerLength ≤ length (now table) ⌝ }
+    ensures { λ r. ⌜ r ≡ headerRule (now (table .entry)) ⌝ }
+{
+    let mark = three(table[0] == 80, table[1] == 76, table[2] == 78);
+    let version = both(table[3] == 1, table[4] == 0);
+    let ports = both(1 <= table[5], table[5] <= 64);
+    let sets = both(1 <= table[6], table[6] <= 16);
+    three(mark, version, both(ports, sets))
+}
+
+// The node count in the header.
+fn nodes_of(table: &[u8]) -> usize
+    requires { ⌜ headerLength ≤ length (now table) ⌝ }
+    ensures { λ r. ⌜ (r ≡ word (getD (now (table .entry)) 7 0) (getD (now (table .entry)) 8 0)) × (getD (now (table .entry)) 7 0 ≡ r % 256) × (getD (now (table .entry)) 8 0 ≡ r / 256) ⌝ }
+{
+    wide(table[7]) + 256 * wide(table[8])
+}
+
+fn word_is(low: u8, high: u8, x: usize) -> bool
+    ensures { λ r. ⌜ r ≡ wordRule low high x ⌝ }
+{
+    both(wide(low) == x % 256, wide(high) == x / 256)
+}
+
+fn root_ok(part: &[u8], nodes: usize) -> bool
+    requires { ⌜ recordLength ≤ length (now part) ⌝ }
+    ensures { λ r. ⌜ r ≡ rootRule nodes (now (part .entry)) ⌝ }
+{
+    let fields = three(part[0] == 0, part[1] == 0, part[2] == 0);
+    let links = both(
+        word_is(part[4], part[5], 65535),
+        word_is(part[6], part[7], nodes),
+    );
+    three(fields, part[3] == 0, links)
+}
+
+fn no_plan() -> Info
+    ensures { λ r. ⌜ r .ok ≡ false ⌝ }
+{
+    Info {
+        ok: false,
+        ports: 0,
+        sets: 0,
+        nodes: 0,
+        cells: 0,
+    }
+}
+
+// Whether the header and the root's record keep the rules, and the records are all there.
+fn front_ok(table: &[u8]) -> bool
+    ensures { λ r. ⌜ r ≡ frontRule (now (table .entry)) ⌝ }
+{
+    if table.len() < HEADER {
+        return false;
+    }
+    if !header_ok(table) {
+        return false;
+    }
+    let nodes = nodes_of(table);
+    if nodes < 2 {
+        return false;
+    }
+    if MOST_NODES < nodes {
+        return false;
+    }
+    if table.len() < HEADER + RECORD * nodes {
+        return false;
+    }
+    root_ok(&table[HEADER..], nodes)
+}
+
+// Checks a plan table (ground 11) and fills the index tables: linear in the table, whatever its shape.
+pub fn check(table: &[u8], firsts: &mut [u32], ends: &mut [u16], uses: &mut [u64]) -> Info
+    requires { ⌜ Room (now firsts) (now ends) (now uses) ⌝ }
+    ensures { λ r. ⌜ PlanJudged (now (table .entry)) r (now (firsts .entry)) (now (ends .entry)) (now (uses .entry)) (now (firsts .exit)) (now (ends .exit)) (now (uses .exit)) ⌝ }
+{
+    if !front_ok(table) {
+        return no_plan();
+    }
+    let ports = wide(table[5]);
+    let sets = wide(table[6]);
+    let nodes = nodes_of(table);
+    let from = HEADER + RECORD;
+    let last = HEADER + RECORD * nodes;
+    let c = check_forest(
+        &table[from..last],
+        1,
+        0,
+        0,
+        0,
+        ports,
+        sets,
+        1,
+        1,
+        firsts,
+        ends,
+        uses,
+    );
+    if !c.ok {
+        return no_plan();
+    }
+    if c.trees != 1 {
+        return no_plan();
+    }
+    if MOST_CELLS <= c.cells {
+        return no_plan();
+    }
+    note(0, 0, nodes, c.uses, firsts, ends, uses);
+    Info {
+        ok: true,
+        ports: ports,
+        sets: sets,
+        nodes: nodes,
+        cells: c.cells + 1,
+    }
+}
