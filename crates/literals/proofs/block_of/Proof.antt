@@ -1,0 +1,24 @@
+use Rattle.literals.specs.Ports.{blockOf}
+use borrow.Author.Needs.{needs}
+use Rattle.literals.proofs.block_of.Statement.{statement}
+use Rattle.literals.proofs.block_of.Tie as tie
+use Rattle.literals.proofs.block_of.Reads as reads
+use Rattle.literals.proofs.block_of.Lts as lts
+use Rattle.literals.proofs.power.Reads as power-reads
+
+sub-inner : tie.Need-sub-inner
+sub-inner c = search needs
+
+sub-inner-2 : tie.Need-sub-inner-2
+sub-inner-2 c = search needs
+
+power-requires : tie.Need-power-requires
+power-requires c κs = search needs
+
+returns : tie.Need-returns
+unfolding blockOf
+returns c =
+    c .power .ensures
+
+pub block-of-spec : {M : Type 1} → statement M
+block-of-spec = tie.close (tie.spec sub-inner sub-inner-2 power-requires returns)

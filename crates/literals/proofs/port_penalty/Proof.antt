@@ -1,0 +1,23 @@
+use Rattle.esol.specs.Configuration.{indicator}
+use borrow.Author.Needs.{needs}
+use Rattle.literals.proofs.port_penalty.Statement.{statement}
+use Rattle.literals.proofs.port_penalty.Tie as tie
+use Rattle.literals.proofs.port_penalty.Reads as reads
+use Rattle.literals.proofs.port_penalty.Lts as lts
+use Rattle.esol.proofs.related.Reads as related-reads
+
+related-requires : tie.Need-related-requires
+related-requires c κs = search needs
+
+returns : tie.Need-returns
+unfolding indicator
+returns c =
+    rw (← c .before .related .ensures, c .if1 .taken)
+
+returns-2 : tie.Need-returns-2
+unfolding indicator
+returns-2 c =
+    rw (← c .before .related .ensures, c .if1 .left)
+
+pub port-penalty-spec : {M : Type 1} → statement M
+port-penalty-spec = tie.close (tie.spec related-requires returns returns-2)

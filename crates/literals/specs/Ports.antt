@@ -1,0 +1,34 @@
+-- The port of a variable from cell to cell, and what the loops over cells ask: internal to the crate.
+use mathlib.Core.Path.{_≡_}
+use mathlib.Core.Bool.{Bool, cond, not}
+use mathlib.Core.List.{List}
+use Prim.Native.Nat.{ℕ, _+_, _-_, _/_, _%_, _^_, _≤_}
+use lib.Dec.{eqb}
+use lib.ListN.{length}
+use Rattle.esol.specs.Configuration.{indicator}
+use Rattle.literals.specs.declared.Digit.{Digit}
+
+-- "the outermost variable counting most": the port of variable v in the t-th tuple stays for as many cells as the variables
+-- inside it have tuples, and then goes on to the next.
+unfoldable pub blockOf : ℕ → ℕ → ℕ → ℕ
+blockOf ports depth v = ports ^ (depth - 1 - v)
+
+unfoldable pub digitAt : ℕ → ℕ → ℕ → ℕ
+digitAt ports block t = t / block % ports
+
+-- The port at cell t, and how many cells of its run are left, t the first of them.
+pub record DigitIs (ports block t : ℕ) (d : Digit) : Type 0 where
+  pub port-is : d .port ≡ digitAt ports block t
+  pub left-is : d .left + t % block ≡ block
+
+-- "In, not in [..] give 0 if true, else 1", by whether the port is in the set.
+unfoldable pub memberPenalty : ℕ → Bool → ℕ
+memberPenalty kind inside = indicator (cond (eqb kind 5) (not inside) inside)
+
+-- The first `width` cells are whole runs of `block` cells.
+pub record RunsPlaced (ports block width : ℕ) (cells : List ℕ) : Type 0 where
+  pub ports1 : 1 ≤ ports
+  pub ports64 : ports ≤ 64
+  pub block1 : 1 ≤ block
+  pub whole : width % block ≡ 0
+  pub room : width ≤ length cells
