@@ -112,7 +112,7 @@ pub fn end_of(part: &[u8]) -> usize
     wide(part[6]) + 256 * wide(part[7])
 }
 
-fn child_depth(kind: u8, depth: usize) -> usize
+pub fn child_depth(kind: u8, depth: usize) -> usize
     requires { ⌜ depth ≤ 4 ⌝ }
     ensures { λ r. ⌜ r ≡ kindDepth kind depth ⌝ }
 {
@@ -122,7 +122,7 @@ fn child_depth(kind: u8, depth: usize) -> usize
     depth
 }
 
-fn child_width(kind: u8, width: usize, ports: usize) -> usize
+pub fn child_width(kind: u8, width: usize, ports: usize) -> usize
     requires { ⌜ (width ≤ 16777216) × (ports ≤ 64) ⌝ }
     ensures { λ r. ⌜ r ≡ kindWidth kind width ports ⌝ }
 {

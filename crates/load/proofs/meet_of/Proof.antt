@@ -1,0 +1,30 @@
+use native.Mathlib.Omega.{arith}
+use borrow.Author.Tests.{eq-eqb, ne-eqb}
+use Rattle.load.specs.Joined.{meet}
+use borrow.Author.Needs.{needs}
+use Rattle.load.proofs.meet_of.Statement.{statement}
+use Rattle.load.proofs.meet_of.Tie as tie
+use Rattle.load.proofs.meet_of.Reads as reads
+use Rattle.load.proofs.meet_of.Lts as lts
+use Rattle.std.proofs.num.wrapping_add_u32.Reads as wrapping-add-u32-reads
+
+wrapping-add-u32-requires : tie.Need-wrapping-add-u32-requires
+wrapping-add-u32-requires c κs = search needs
+
+returns : tie.Need-returns
+unfolding meet
+returns c =
+    rw (eq-eqb _ _ (c .before .if1 .taken)) (c .wrapping-add-u32 .ensures)
+
+returns-2 : tie.Need-returns-2
+unfolding meet
+returns-2 c =
+    rw (ne-eqb _ _ (c .before .if1 .left)) (omega arith)
+
+returns-3 : tie.Need-returns-3
+unfolding meet
+returns-3 c =
+    rw (ne-eqb _ _ (c .before .if1 .left)) (omega arith)
+
+pub meet-of-spec : {M : Type 1} → statement M
+meet-of-spec = tie.close (tie.spec wrapping-add-u32-requires returns returns-2 returns-3)

@@ -1,0 +1,150 @@
+// Load: fills every cell of a plan. Paper 01, section Penalty.
+use literals::put_literal;
+use plan::child_depth;
+use plan::child_width;
+use plan::end_of;
+use plan::RECORD;
+use std::num::wrapping_add_u32;
+ghost use mathlib.Core.Path.{_≡_};
+ghost use mathlib.Core.List.{_++_};
+ghost use Prim.Native.Nat.{ℕ, _+_, _*_, _≤_, _<_};
+ghost use lib.ListN.{length, getD, take, drop};
+ghost use Rattle.esol.specs.Cells.{tabulate};
+ghost use Rattle.load.specs.Joined.{meet, unitOf, joinAll, merged};
+ghost use Rattle.load.specs.Fill.{joinOf, spreadOf, StartPlaced, started, FillPlaced, Fills};
+
+// Two numbers joined: 0 adds, any other takes the minimum. True penalties stay below 2^32, so no sum of them wraps.
+fn meet_of(join: u8, x: u32, y: u32) -> u32
+    ensures { λ r. ⌜ r ≡ meet join x y ⌝ }
+{
+    if join == 0 {
+        return wrapping_add_u32(x, y);
+    }
+    if x <= y {
+        return x;
+    }
+    y
+}
+
+fn unit_of(join: u8) -> u32
+    ensures { λ r. ⌜ r ≡ unitOf join ⌝ }
+{
+    if join == 0 {
+        return 0;
+    }
+    4294967295
+}
+
+// The first `width` cells are the join of nothing.
+fn put_unit(join: u8, width: usize, cells: &mut [u32])
+    requires { ⌜ width ≤ length (now cells) ⌝ }
+    ensures { λ _. ⌜ now (cells .exit) ≡ tabulate width (λ _. unitOf join) ++ drop width (now (cells .entry)) ⌝ }
+{
+    let value = unit_of(join);
+    let mut t = 0;
+    while t < width {
+        cells[t] = value;
+        t += 1;
+    }
+}
+
+// x joined with s cells from place `from` on.
+fn gather(join: u8, x: u32, from: usize, s: usize, cells: &[u32]) -> u32
+    requires { ⌜ from + s ≤ length (now cells) ⌝ }
+    ensures { λ r. ⌜ r ≡ joinAll join x (take s (drop from (now (cells .entry)))) ⌝ }
+{
+    let mut r = x;
+    let mut p = 0;
+    while p < s {
+        r = meet_of(join, r, cells[from + p]);
+        p += 1;
+    }
+    r
+}
+
+// Joins to each of the first `over` cells the s cells below it, which stand from place `at` on.
+fn merge(join: u8, over: usize, s: usize, at: usize, cells: &mut [u32])
+    requires { ⌜ (over ≤ at) × (at + over * s ≤ length (now cells)) ⌝ }
+    ensures { λ _. ⌜ now (cells .exit) ≡ merged join over s at (now (cells .entry)) ⌝ }
+{
+    let mut t = 0;
+    let mut from = at;
+    while t < over {
+        cells[t] = gather(join, cells[t], from, s, &cells[..]);
+        from += s;
+        t += 1;
+    }
+}
+
+fn join_of(kind: u8) -> u8
+    ensures { λ r. ⌜ r ≡ joinOf kind ⌝ }
+{
+    1 - kind % 2
+}
+
+fn spread_of(kind: u8, ports: usize) -> usize
+    ensures { λ r. ⌜ r ≡ spreadOf kind ports ⌝ }
+{
+    if kind == 0 {
+        return 1;
+    }
+    if kind <= 2 {
+        return ports;
+    }
+    1
+}
+
+// Begins a node's own cells: a literal's penalties, or the join of nothing.
+fn start_cells(
+    kind: u8,
+    relation: u8,
+    a: u8,
+    b: u8,
+    sets: usize,
+    ports: usize,
+    depth: usize,
+    width: usize,
+    masks: &[u64],
+    cells: &mut [u32],
+)
+    requires { ⌜ StartPlaced kind relation a b sets ports depth width (now masks) (now cells) ⌝ }
+    ensures { λ _. ⌜ now (cells .exit) ≡ started kind relation a b ports depth width (now (masks .entry)) (now (cells .entry)) ⌝ }
+{
+    if 5 <= kind {
+        put_literal(kind, relation, a, b, sets, ports, depth, width, masks, cells);
+        return;
+    }
+    put_unit(join_of(kind), width, cells);
+}
+
+// Fills the cells of some trees and joins them to the cells of the node above; says where they end. The part gets shorter at
+// each call: first the children of the first tree, which fill what is joined to its own cells, then its later siblings.
+fn fill_forest(
+    part: &[u8],
+    i: usize,
+    above: u8,
+    ports: usize,
+    sets: usize,
+    depth: usize,
+    width: usize,
+    over: usize,
+    at: usize,
+    masks: &[u64],
+    cells: &mut [u32],
+) -> usize
+    requires { ⌜ FillPlaced (now part) i above ports sets depth width over at (now masks) (now cells) ⌝ }
+    ensures { λ r. ⌜ Fills (now (part .entry)) i above ports depth over at (now (masks .entry)) (now (cells .entry)) (now (cells .exit)) r ⌝ }
+{
+    if part.len() < RECORD {
+        return at;
+    }
+    let end = end_of(part);
+    let span = RECORD * (end - i);
+    let kind = part[0];
+    start_cells(kind, part[1], part[2], part[3], sets, ports, depth, width, masks, &mut cells[at..]);
+    let below = child_depth(kind, depth);
+    let wider = child_width(kind, width, ports);
+    let n = fill_forest(&part[RECORD..span], i + 1, kind, ports, sets, below, wider, width, width, masks, &mut cells[at..]);
+    merge(join_of(above), over, spread_of(above, ports), at, cells);
+    fill_forest(&part[span..], end, above, ports, sets, depth, width, over, at + n, masks, cells)
+}
