@@ -120,10 +120,10 @@ block-whole u d v h =
     ∙ mul-mod-left (u ^ suc v) (u ^ (d - 1 - v))
 
 -- a run that begins before the end of whole runs ends by it
-pub run-fits : (block t w : ℕ) → t % block ≡ 0 → w % block ≡ 0 → t < w → t + block ≤ w
-run-fits block t w a b h =
+pub run-fits : {u block w : ℕ} {cells : List ℕ} → RunsPlaced u block w cells → (t : ℕ) → t % block ≡ 0 → t < w → t + block ≤ w
+run-fits {u} {block} {w} p t z h =
     let e : t ≡ t / block * block = omega (arith, div-add-mod' t block) in
-    let f : w ≡ w / block * block = omega (arith, div-add-mod' w block) in
+    let f : w ≡ w / block * block = omega (arith, div-add-mod' w block, p .whole) in
     go e f (decLt (t / block) (w / block))
   where
     go : t ≡ t / block * block → w ≡ w / block * block → Dec (t / block < w / block) → t + block ≤ w

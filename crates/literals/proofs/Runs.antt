@@ -38,7 +38,7 @@ written-step f from n xs h =
     let e : drop (from + n) xs ≡ getD xs (from + n) 0 ∷ drop (suc (from + n)) xs = drop-cons xs (from + n) 0 h in
     ap (λ (l : List ℕ). set l (from + n) (f n)) (sym (append-assoc A B (drop (from + n) xs)) ∙ ap (λ (l : List ℕ). (A ++ B) ++ l) e)
     ∙ set-at (A ++ B) (getD xs (from + n) 0) (drop (suc (from + n)) xs) (f n) (from + n) la
-    ∙ rw (add-one, add-suc, append-assoc, append-assoc)
+    ∙ simp (add-one, add-suc, append-assoc)
 
 -- What a loop that writes w cells from `from` on has done at n.
 pub record Written (f : ℕ → ℕ) (from w : ℕ) (xs cells : List ℕ) (n : ℕ) : Type 0 where

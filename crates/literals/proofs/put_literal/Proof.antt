@@ -1,8 +1,5 @@
-use mathlib.Core.Path.{_≡_, ap, _∙_}
-use Prim.Native.Nat.{ℕ}
+use mathlib.Core.Path.{_≡_}
 use native.Mathlib.Omega.{arith}
-use lib.ListN.{getD}
-use Rattle.literals.specs.Ports.{blockOf}
 use Rattle.literals.proofs.Penalties.{member-fields, port-fields, size-fields, runs, member-cells, port-cells, size-cells}
 use borrow.Author.Needs.{needs}
 use Rattle.literals.proofs.put_literal.Statement.{statement}
@@ -35,7 +32,7 @@ block-of-requires c κs =
 
 put-members-requires : tie.Need-put-members-requires
 put-members-requires c κs =
-    runs (c .before .before .before .before .before .before .before .before .pre) _ _ (member-fields (c .before .before .before .before .before .before .before .before .pre) (c .before .before .before .before .before .if1 .taken) .0) (c .before .block-of .ensures ∙ ap (blockOf (c .before .before .before .before .before .before .before .before .args .ports) (c .before .before .before .before .before .before .before .before .args .depth)) (c .before .before .wide2 .ensures .0))
+    runs (c .before .before .before .before .before .before .before .before .pre) (c .before .before .before .before .before .before .before .before .args .a) _ (member-fields (c .before .before .before .before .before .before .before .before .pre) (c .before .before .before .before .before .if1 .taken) .0) (cc)
 
 same-length : tie.Need-same-length
 same-length c = search needs
@@ -43,8 +40,8 @@ same-length c = search needs
 returns : tie.Need-returns
 returns c =
     member-cells (c .before .before .before .before .before .before .before .before .before .before .before .pre) (c .before .before .before .before .before .before .before .before .if1 .taken) _ _ _
-    (c .before .before .before .before .before .before .mask-at .ensures ∙ ap (λ (x : ℕ). getD (c .before .before .before .before .before .before .before .before .before .before .before .args .masks .now) x 0) (c .before .before .before .before .before .before .before .wide .ensures .0))
-    (c .before .before .before .before .block-of .ensures ∙ ap (blockOf (c .before .before .before .before .before .before .before .before .before .before .before .args .ports) (c .before .before .before .before .before .before .before .before .before .before .before .args .depth)) (c .before .before .before .before .before .wide2 .ensures .0))
+    (cc)
+    (cc)
     (c .before .before .put-members .ensures)
 
 wide-requires-3 : tie.Need-wide-requires-3
@@ -63,8 +60,8 @@ block-of-requires-3 c κs =
 
 put-comparison-requires : tie.Need-put-comparison-requires
 put-comparison-requires c κs = (
-  runs (c .before .before .before .before .before .before .before .before .before .pre) _ _ (port-fields (c .before .before .before .before .before .before .before .before .before .pre) (c .before .before .before .before .before .if2 .taken) .0) (c .before .before .before .block-of2 .ensures ∙ ap (blockOf (c .before .before .before .before .before .before .before .before .before .args .ports) (c .before .before .before .before .before .before .before .before .before .args .depth)) (c .before .before .before .before .wide3 .ensures .0)),
-  runs (c .before .before .before .before .before .before .before .before .before .pre) _ _ (port-fields (c .before .before .before .before .before .before .before .before .before .pre) (c .before .before .before .before .before .if2 .taken) .1) (c .before .block-of3 .ensures ∙ ap (blockOf (c .before .before .before .before .before .before .before .before .before .args .ports) (c .before .before .before .before .before .before .before .before .before .args .depth)) (c .before .before .wide4 .ensures .0)),
+  runs (c .before .before .before .before .before .before .before .before .before .pre) (c .before .before .before .before .before .before .before .before .before .args .a) _ (port-fields (c .before .before .before .before .before .before .before .before .before .pre) (c .before .before .before .before .before .if2 .taken) .0) (cc),
+  runs (c .before .before .before .before .before .before .before .before .before .pre) (c .before .before .before .before .before .before .before .before .before .args .b) _ (port-fields (c .before .before .before .before .before .before .before .before .before .pre) (c .before .before .before .before .before .if2 .taken) .1) (cc),
 )
 
 same-length-2 : tie.Need-same-length-2
@@ -73,8 +70,8 @@ same-length-2 c = search needs
 returns-2 : tie.Need-returns-2
 returns-2 c =
     port-cells (c .before .before .before .before .before .before .before .before .before .before .before .before .pre) (c .before .before .before .before .before .before .before .before .if2 .taken) _ _ _
-    (c .before .before .before .before .before .before .block-of2 .ensures ∙ ap (blockOf (c .before .before .before .before .before .before .before .before .before .before .before .before .args .ports) (c .before .before .before .before .before .before .before .before .before .before .before .before .args .depth)) (c .before .before .before .before .before .before .before .wide3 .ensures .0))
-    (c .before .before .before .before .block-of3 .ensures ∙ ap (blockOf (c .before .before .before .before .before .before .before .before .before .before .before .before .args .ports) (c .before .before .before .before .before .before .before .before .before .before .before .before .args .depth)) (c .before .before .before .before .before .wide4 .ensures .0))
+    (cc)
+    (cc)
     (c .before .before .put-comparison .ensures)
 
 wide-requires-5 : tie.Need-wide-requires-5
@@ -95,7 +92,7 @@ returns-3 : tie.Need-returns-3
 returns-3 c =
     let e : c .before .before .before .before .before .before .before .before .before .before .args .kind ≡ 8 = omega (arith, c .before .before .before .before .before .before .before .before .before .before .pre .kind8) in
     size-cells (c .before .before .before .before .before .before .before .before .before .before .pre) e _ _
-    (c .before .before .before .before .mask-at2 .ensures ∙ ap (λ (x : ℕ). getD (c .before .before .before .before .before .before .before .before .before .before .args .masks .now) x 0) (c .before .before .before .before .before .wide5 .ensures .0))
+    (cc)
     (c .before .before .put-size .ensures)
 
 pub put-literal-spec : {M : Type 1} → statement M

@@ -31,11 +31,11 @@ member-penalty-requires c κs =
 
 put-run-requires : tie.Need-put-run-requires Inv-loop μ-loop
 put-run-requires c κs =
-    omega (arith, run-fits (c .before .before .before .before .before .args .block) (c .before .before .before .loop .t) (c .before .before .before .before .before .args .width) (c .before .before .before .loop .inv .1) (c .before .before .before .before .before .pre .whole) (c .before .before .loop-test .taken), c .before .before .before .before .before .pre .room, c .before .before .before .loop .inv .0 .same-length)
+    omega (arith, run-fits (c .before .before .before .before .before .pre) (c .before .before .before .loop .t) (c .before .before .before .loop .inv .1) (c .before .before .loop-test .taken), c .before .before .before .before .before .pre .room, c .before .before .before .loop .inv .0 .same-length)
 
 add-t : tie.Need-add-t Inv-loop μ-loop
 add-t c =
-    omega (arith, run-fits (c .before .before .before .before .before .before .before .before .args .block) (c .before .before .before .before .before .before .loop .t) (c .before .before .before .before .before .before .before .before .args .width) (c .before .before .before .before .before .before .loop .inv .1) (c .before .before .before .before .before .before .before .before .pre .whole) (c .before .before .before .before .before .loop-test .taken), c .before .before .before .before .before .before .before .before .pre .room, c .before .before .before .before .before .before .loop .inv .0 .same-length)
+    omega (arith, run-fits (c .before .before .before .before .before .before .before .before .pre) (c .before .before .before .before .before .before .loop .t) (c .before .before .before .before .before .before .loop .inv .1) (c .before .before .before .before .before .loop-test .taken), c .before .before .before .before .before .before .before .before .pre .room, c .before .before .before .before .before .before .loop .inv .0 .same-length)
 
 next-port-requires : tie.Need-next-port-requires Inv-loop μ-loop
 next-port-requires c κs =
@@ -48,7 +48,7 @@ loop-less c =
 loop-again : tie.Need-loop-again Inv-loop μ-loop
 loop-again c = (
   run-more _ _ _ _ _ _ _ _ (c .before .before .before .before .before .before .before .loop .inv .0)
-      (run-fits (c .before .before .before .before .before .before .before .before .before .args .block) (c .before .before .before .before .before .before .before .loop .t) (c .before .before .before .before .before .before .before .before .before .args .width) (c .before .before .before .before .before .before .before .loop .inv .1) (c .before .before .before .before .before .before .before .before .before .pre .whole) (c .before .before .before .before .before .before .loop-test .taken))
+      (run-fits (c .before .before .before .before .before .before .before .before .before .pre) (c .before .before .before .before .before .before .before .loop .t) (c .before .before .before .before .before .before .before .loop .inv .1) (c .before .before .before .before .before .before .loop-test .taken))
       (c .before .before .before .before .before .before .before .before .before .pre .room)
       (λ i l. c .before .before .before .before .before .member-penalty .ensures ∙ ap (λ (x : ℕ). memberPenalty (c .before .before .before .before .before .before .before .before .before .args .kind) (inMask (c .before .before .before .before .before .before .before .before .before .args .mask) x)) (c .before .before .before .before .before .before .before .loop .inv .2 ∙ sym (digit-same (c .before .before .before .before .before .before .before .before .before .args .ports) (c .before .before .before .before .before .before .before .before .before .args .block) (c .before .before .before .before .before .before .before .loop .t) i (c .before .before .before .before .before .before .before .loop .inv .1) l)))
       (c .before .before .before .put-run .ensures),
