@@ -1,0 +1,3 @@
+-- Laws of the core.
+pub mod Decided
+pub mod SameTruth
