@@ -1,3 +1,4 @@
 pub mod Names
 pub mod Meaning
 pub mod Core
+pub mod Rules
