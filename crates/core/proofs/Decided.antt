@@ -12,6 +12,7 @@ use Rattle.esol.specs.Truth.{Related}
 use Rattle.esol.specs.Penalty.{compare}
 use Rattle.esol.proofs.Zero.{compare-true}
 use Rattle.syntax.specs.Tree.{Quantifier, forall, exists, Join, conj, disj, imp, rev, iff, Tree, leaf, neg, par, bind, join}
+use Rattle.core.specs.Core.{joinWith}
 use Rattle.core.specs.Meaning.{Binding, LeafTrue, JoinTrue, BindTrue, TreeTrue}
 
 -- a statement, or its negation where the polarity is false
@@ -66,16 +67,21 @@ imp-dec (yes a) (yes b) = yes (λ x. b)
 imp-dec (yes a) (no g) = no (λ h. g (h a))
 imp-dec (no f) d = yes (λ a. absurd (f a))
 
--- what the core asks of the two parts of a join, each given at both polarities
-abbrev pub Split : Join → Bool → (Bool → Type 0) → (Bool → Type 0) → Type 0
-Split conj p F G = Both p (F p) (G p)
-Split disj p F G = Both (not p) (F p) (G p)
-Split imp p F G = Both (not p) (F (not p)) (G p)
-Split rev p F G = Both (not p) (F p) (G (not p))
-Split iff p F G = Both p (Both (not p) (F (not p)) (G p)) (Both (not p) (F p) (G (not p)))
+-- what holds of two parts, however they are joined
+pub joined {ℓ κ} : {X : Type ℓ} {Y : Type κ} (R : X → Y → Type 0) (f : Bool → X → X → X) (g : Bool → Y → Y → Y)
+    → ((j : Bool) (x x′ : X) (y y′ : Y) → R x y → R x′ y′ → R (f j x x′) (g j y y′))
+    → (j : Join) (p : Bool) (F G : Bool → X) (A B : Bool → Y) → ((i : Bool) → R (F i) (A i)) → ((i : Bool) → R (G i) (B i))
+    → R (joinWith f j p F G) (joinWith g j p A B)
+unfolding joinWith
+joined R f g H conj p F G A B M N = H p _ _ _ _ (M p) (N p)
+joined R f g H disj p F G A B M N = H (not p) _ _ _ _ (M p) (N p)
+joined R f g H imp p F G A B M N = H (not p) _ _ _ _ (M (not p)) (N p)
+joined R f g H rev p F G A B M N = H (not p) _ _ _ _ (M p) (N (not p))
+joined R f g H iff p F G A B M N =
+    H p _ _ _ _ (H (not p) _ _ _ _ (M (not p)) (N p)) (H (not p) _ _ _ _ (M p) (N (not p)))
 
-pub join-law : {A B : Type 0} (j : Join) (p : Bool) → Dec A → Dec B → Split j p (λ i. Signed i A) (λ i. Signed i B) ↔ Signed p (JoinTrue j A B)
-unfolding JoinTrue
+pub join-law : {A B : Type 0} (j : Join) (p : Bool) → Dec A → Dec B → joinWith Both j p (λ i. Signed i A) (λ i. Signed i B) ↔ Signed p (JoinTrue j A B)
+unfolding JoinTrue joinWith
 join-law conj p c d = conj-law p c d
 join-law disj p c d = disj-law p c d
 join-law imp p c d = imp-law p c d

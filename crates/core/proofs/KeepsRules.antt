@@ -10,10 +10,11 @@ use borrow.Author.Tests.{lt-leb, lt-ltb, le-leb, eq-eqb, leb-true, leb-false, lt
 use Rattle.esol.specs.Formula.{Literal, isin, notin, port, size, Node, root, all, any, and, or, lit, Forest, none, tree, kindNumber, childDepth, Every, OfLiteral, VariablesBelow, VariablesBound, ConstantLow, ConstantsLow}
 use Rattle.esol.specs.Change.{someOf}
 use Rattle.esol.proofs.Lists.{or-left, or-right, and-left, and-right, and-true}
-use Rattle.syntax.specs.Tree.{Quantifier, forall, exists, Join, conj, disj, imp, rev, iff, Tree, leaf, neg, par, bind, join}
+use Rattle.syntax.specs.Tree.{Quantifier, forall, exists, Tree, leaf, neg, par, bind, join}
 use Rattle.core.specs.Names.{among, setNumber, variableNumber, misdeclared, misnamedLiteral, misnamed, ground5, highLiteral, ground6, fourth, ground7}
-use Rattle.core.specs.Core.{Above, alone, inside, jointNode, Part, joint, two, quantifierNode, memberAt, literalAt, joinAt, place, coreOf}
+use Rattle.core.specs.Core.{Above, alone, inside, jointNode, Part, joint, two, quantifierNode, memberAt, literalAt, place, coreOf}
 use Rattle.core.specs.Rules.{everyNode, treeCount, arityRule, maySit, nestingRule, depthRule, literalRule, innerRule, nodeRule, formulaRule}
+use Rattle.core.proofs.Decided.{joined}
 use Rattle.core.proofs.SameTruth.{variable-below}
 
 -- a declared letter's number is below the number of sets
@@ -119,14 +120,6 @@ module _ (n : ℕ) where
         lone : (s : Forest) → treeCount (joint j (λ r. F (inside j) (G (inside j) r)) alone s) ≡ suc (treeCount s)
         lone s = unfold joint treeCount in refl
 
-    join-fits : (j : Join) (p : Bool) (F G : Bool → Part) → ((i : Bool) → Fits (F i) d) → ((i : Bool) → Fits (G i) d) → Fits (joinAt j p F G) d
-    unfolding joinAt
-    join-fits conj p F G A B = two-fits p _ _ (A p) (B p)
-    join-fits disj p F G A B = two-fits (not p) _ _ (A p) (B p)
-    join-fits imp p F G A B = two-fits (not p) _ _ (A (not p)) (B p)
-    join-fits rev p F G A B = two-fits (not p) _ _ (A p) (B (not p))
-    join-fits iff p F G A B = two-fits p _ _ (two-fits (not p) _ _ (A (not p)) (B p)) (two-fits (not p) _ _ (A p) (B (not p)))
-
 literal-may : (l : Literal) (j : Bool) → maySit (kindNumber (jointNode j)) (kindNumber (lit l)) ≡ true
 unfolding maySit kindNumber jointNode
 literal-may (isin v S) true = refl
@@ -206,7 +199,9 @@ module _ (sets : List ℕ) where
       let l = leb-false 3 (length vars) (or-left _ _ f) in
       bind-fits p q (length vars) _ l (place-fits (v ∷ vars) p a l (or-right (among vars v) _ h) g (or-right (leb 3 (length vars)) _ f))
   place-fits vars p (join j a b) low h g f =
-      join-fits (length sets) (length vars) low j p _ _
+      let A : Bool → Part = λ i. place sets vars i a in
+      let B : Bool → Part = λ i. place sets vars i b in
+      joined (λ (F x : Part). Fits (length sets) F (length vars)) two two (λ i F G x y. two-fits (length sets) (length vars) low i F G) j p A B A B
       (λ i. place-fits vars i a low (or-left _ _ h) (or-left _ _ g) (or-left _ _ f))
       (λ i. place-fits vars i b low (or-right (misnamed sets vars a) _ h) (or-right (ground6 a) _ g) (or-right (fourth (length vars) a) _ f))
 

@@ -2,3 +2,7 @@
 pub mod Decided
 pub mod SameTruth
 pub mod KeepsRules
+pub mod Counting
+pub mod Table
+pub mod Naming
+pub mod Finding

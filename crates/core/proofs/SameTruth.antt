@@ -14,11 +14,11 @@ use Rattle.esol.specs.Configuration.{Configuration}
 use Rattle.esol.specs.Change.{someOf}
 use Rattle.esol.specs.Truth.{Tuple, portOf, Related, LiteralTrue, Asked, every, some, first, NodeTrue, ForestTrue}
 use Rattle.esol.proofs.Lists.{or-left, or-right}
-use Rattle.syntax.specs.Tree.{Quantifier, forall, exists, Join, conj, disj, imp, rev, iff, Tree, leaf, neg, par, bind, join}
+use Rattle.syntax.specs.Tree.{Quantifier, forall, exists, Tree, leaf, neg, par, bind, join}
 use Rattle.core.specs.Names.{among, setNumber, variableNumber, misnamedLiteral, misnamed}
 use Rattle.core.specs.Meaning.{Binding, valueOf, LeafTrue, BindTrue, TreeTrue}
-use Rattle.core.specs.Core.{alone, inside, jointNode, Part, joint, two, quantifierNode, opposite, relationAt, memberAt, literalAt, joinAt, place, coreOf}
-use Rattle.core.proofs.Decided.{Signed, Both, iff-trans, both-same, neg-law, Split, join-law, Ports, bind-law, false-law, true-law, tree-dec}
+use Rattle.core.specs.Core.{alone, inside, jointNode, Part, joint, two, quantifierNode, opposite, relationAt, memberAt, literalAt, place, coreOf}
+use Rattle.core.proofs.Decided.{Signed, Both, iff-trans, both-same, neg-law, joined, join-law, Ports, bind-law, false-law, true-law, tree-dec}
 
 abbrev pub letters : List Binding → List ℕ
 letters [] = []
@@ -166,16 +166,6 @@ module _ (u : ℕ) (k : Configuration) where
         lone = λ m. iff-trans (lone-tree or _ m e) f;
       }
 
-  join-means : (j : Join) (p : Bool) (F G : Bool → Part) (A B : Bool → Type 0) (e : Tuple) → ((i : Bool) → Means (F i) (A i) e) → ((i : Bool) → Means (G i) (B i) e)
-      → Means (joinAt j p F G) (Split j p A B) e
-  unfolding joinAt
-  join-means conj p F G A B e M N = two-means p _ _ _ _ e (M p) (N p)
-  join-means disj p F G A B e M N = two-means (not p) _ _ _ _ e (M p) (N p)
-  join-means imp p F G A B e M N = two-means (not p) _ _ _ _ e (M (not p)) (N p)
-  join-means rev p F G A B e M N = two-means (not p) _ _ _ _ e (M p) (N (not p))
-  join-means iff p F G A B e M N =
-      two-means p _ _ _ _ e (two-means (not p) _ _ _ _ e (M (not p)) (N p)) (two-means (not p) _ _ _ _ e (M p) (N (not p)))
-
   ports-means : (i : Bool) (q : Quantifier) (c : Forest) (A : ℕ → Type 0) (e : Tuple) → ((p : ℕ) (m : Asked) → ForestTrue u k c m (p ∷ e) ↔ A p)
       → NodeTrue u k (quantifierNode i q) (ForestTrue u k c) e ↔ Ports i q u A
   unfolding quantifierNode NodeTrue BindTrue
@@ -198,7 +188,7 @@ module _ (u : ℕ) (k : Configuration) where
         (bind-law q p u (λ x. TreeTrue u k sets ((v, x) ∷ env) a) (λ x. tree-dec u k sets ((v, x) ∷ env) a)))
     place-means env p (join j a b) h =
         means-same
-        (join-means j p _ _ (λ i. Signed i (TreeTrue u k sets env a)) (λ i. Signed i (TreeTrue u k sets env b)) (ports env)
+        (joined (λ F A. Means F A (ports env)) two Both (λ i F G A B. two-means i F G A B (ports env)) j p _ _ (λ i. Signed i (TreeTrue u k sets env a)) (λ i. Signed i (TreeTrue u k sets env b))
         (λ i. place-means env i a (or-left _ _ h)) (λ i. place-means env i b (or-right (misnamed sets (letters env) a) _ h)))
         (join-law j p (tree-dec u k sets env a) (tree-dec u k sets env b))
 

@@ -62,13 +62,13 @@ literalAt sets vars p (port r v w) = port (relationAt p r) (variableNumber vars 
 literalAt sets vars p (size r S c) = size (relationAt p r) (setNumber sets S) c
 
 -- "F->G is ~F|G, F<-G is F|~G, F<->G is (~F|G)&(F|~G)", and De Morgan's "or" for "and" where p is false. F and G are
--- given at both polarities.
-unfoldable pub joinAt : Join → Bool → (Bool → Part) → (Bool → Part) → Part
-joinAt conj p F G = two p (F p) (G p)
-joinAt disj p F G = two (not p) (F p) (G p)
-joinAt imp p F G = two (not p) (F (not p)) (G p)
-joinAt rev p F G = two (not p) (F p) (G (not p))
-joinAt iff p F G = two p (two (not p) (F (not p)) (G p)) (two (not p) (F p) (G (not p)))
+-- given at both polarities, and `pair` makes the "and" or the "or" of two parts.
+unfoldable pub joinWith {ℓ} : {X : Type ℓ} → (Bool → X → X → X) → Join → Bool → (Bool → X) → (Bool → X) → X
+joinWith pair conj p F G = pair p (F p) (G p)
+joinWith pair disj p F G = pair (not p) (F p) (G p)
+joinWith pair imp p F G = pair (not p) (F (not p)) (G p)
+joinWith pair rev p F G = pair (not p) (F p) (G (not p))
+joinWith pair iff p F G = pair p (pair (not p) (F (not p)) (G p)) (pair (not p) (F p) (G (not p)))
 
 -- The core of a part of the text, or of its negation where p is false; vars are the letters bound around it.
 unfoldable pub place : List ℕ → List ℕ → Bool → Tree → Part
@@ -76,7 +76,7 @@ place sets vars p (leaf l) above s = tree (lit (literalAt sets vars p l)) none s
 place sets vars p (neg a) above s = place sets vars (not p) a above s
 place sets vars p (par a) above s = place sets vars p a above s
 place sets vars p (bind q v a) above s = tree (quantifierNode p q) (place sets (v ∷ vars) p a alone none) s
-place sets vars p (join j a b) above s = joinAt j p (λ i. place sets vars i a) (λ i. place sets vars i b) above s
+place sets vars p (join j a b) above s = joinWith two j p (λ i. place sets vars i a) (λ i. place sets vars i b) above s
 
 unfoldable pub coreOf : List ℕ → Tree → Forest
 coreOf sets a = tree root (place sets [] true a alone none) none

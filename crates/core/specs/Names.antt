@@ -1,7 +1,7 @@
 -- The names in a text and grounds 5 to 7: paper 01, sections Plan text and Grounds for refusal. Letters are bytes.
 use mathlib.Core.Bool.{Bool, false, cond, not, _||_}
 use mathlib.Core.List.{List, [], _∷_}
-use Prim.Native.Nat.{ℕ, suc}
+use Prim.Native.Nat.{ℕ, suc, _≤_}
 use lib.Dec.{eqb, leb, ltb}
 use lib.ListN.{length}
 use Rattle.esol.specs.Formula.{Literal, isin, notin, port, size}
@@ -72,3 +72,24 @@ fourth d (join j a b) = fourth d a || fourth d b
 
 unfoldable pub ground7 : Tree → Bool
 ground7 a = fourth 0 a
+
+-- "Variables v, w are lower-case letters"; "upper-case set letters"; a constant above 64 stands as 65. The reader's trees are
+-- so, and only of such a tree does a record of 16 bits tell both letters.
+unfoldable pub Variable : ℕ → Type 0
+Variable v = (97 ≤ v) × (v ≤ 122)
+
+unfoldable pub SetLetter : ℕ → Type 0
+SetLetter S = (65 ≤ S) × (S ≤ 90)
+
+unfoldable pub LetteredLiteral : Literal → Type 0
+LetteredLiteral (isin v S) = Variable v × SetLetter S
+LetteredLiteral (notin v S) = Variable v × SetLetter S
+LetteredLiteral (port r v w) = Variable v × Variable w
+LetteredLiteral (size r S c) = SetLetter S × (c ≤ 65)
+
+unfoldable pub Lettered : Tree → Type 0
+Lettered (leaf l) = LetteredLiteral l
+Lettered (neg a) = Lettered a
+Lettered (par a) = Lettered a
+Lettered (bind q v a) = Variable v × Lettered a
+Lettered (join j a b) = Lettered a × Lettered b

@@ -1,0 +1,87 @@
+-- How many nodes and cells the core of a part has, without making it: grounds 8 and 9 of paper 01. Internal to the crate: the
+-- public calls promise the node count and the cell total of the core itself.
+use mathlib.Core.Path.{_≡_}
+use mathlib.Core.Bool.{Bool, true, false, not, _||_}
+use mathlib.Core.List.{List}
+use Prim.Native.Nat.{ℕ, _+_, _*_, _≤_, min}
+use lib.Dec.{leb, ltb}
+use Rattle.esol.specs.Formula.{nodeCount}
+use Rattle.esol.specs.Cells.{cellCount}
+use Rattle.syntax.specs.Tree.{Join, Tree, leaf, neg, par, bind, join}
+use Rattle.syntax.specs.Stored.{Stored, joinOperator}
+use Rattle.core.specs.declared.Weights.{Weights}
+use Rattle.core.specs.declared.Half.{Half}
+use Rattle.core.specs.Core.{Above, alone, inside, joinWith, coreOf}
+
+-- The cells of a part of the core for each cell of its depth, by what stands above it; with one port, its nodes.
+abbrev pub Weight : Type 0
+Weight = Above → ℕ
+
+-- A joint inside its like is merged.
+unfoldable pub jointWeight : Bool → Weight
+jointWeight j alone = 1
+jointWeight true (inside true) = 0
+jointWeight false (inside true) = 1
+jointWeight true (inside false) = 1
+jointWeight false (inside false) = 0
+
+unfoldable pub twoWeight : Bool → Weight → Weight → Weight
+twoWeight j f g above = jointWeight j above + f (inside j) + g (inside j)
+
+unfoldable pub weight : ℕ → Bool → Tree → Weight
+weight u p (leaf l) above = 1
+weight u p (neg a) above = weight u (not p) a above
+weight u p (par a) above = weight u p a above
+weight u p (bind q v a) above = 1 + u * weight u p a alone
+weight u p (join j a b) above = joinWith twoWeight j p (λ i. weight u i a) (λ i. weight u i b) above
+
+-- Weights up to a limit: of one polarity, and of both.
+pub record Held (limit : ℕ) (w : Weight) (h : Half) : Type 0 where
+  pub is-alone : h .alone ≡ min limit (w alone)
+  pub is-and : h .and ≡ min limit (w (inside true))
+  pub is-or : h .or ≡ min limit (w (inside false))
+
+unfoldable pub half : Weights → Bool → Half
+half w true = w .plus
+half w false = w .minus
+
+unfoldable pub HeldBoth : ℕ → (Bool → Weight) → Weights → Type 0
+HeldBoth limit w r = (i : Bool) → Held limit (w i) (half r i)
+
+-- u is 1 to 64, so that a limit's multiple fits 32 bits.
+pub record Scale (u limit : ℕ) : Type 0 where
+  pub low : 1 ≤ u
+  pub high : u ≤ 64
+  pub limited : limit ≤ 1048577
+
+unfoldable pub PairHeld : ℕ → Bool → Half → Half → Half → Type 0
+PairHeld limit j f g r = (w x : Weight) → Held limit w f → Held limit x g → Held limit (twoWeight j w x) r
+
+unfoldable pub JoinHeld : ℕ → ℕ → Bool → Weights → Weights → Half → Type 0
+JoinHeld limit operator p a b r =
+    (j : Join) → operator ≡ joinOperator j → (w x : Bool → Weight) → HeldBoth limit w a → HeldBoth limit x b → Held limit (joinWith twoWeight j p w x) r
+
+unfoldable pub BothJoined : ℕ → ℕ → Weights → Weights → Weights → Type 0
+BothJoined limit operator a b r = (i : Bool) → JoinHeld limit operator i a b (half r i)
+
+-- One more than u times a weight w, of which x is known.
+unfoldable pub Scaled : ℕ → ℕ → ℕ → ℕ → Type 0
+Scaled limit u x r = (w : ℕ) → x ≡ min limit w → r ≡ min limit (1 + u * w)
+
+unfoldable pub Quantified : ℕ → ℕ → Weights → Weights → Type 0
+Quantified limit u b r = (w : Bool → Weight) → HeldBoth limit w b → HeldBoth limit (λ i above. 1 + u * w i alone) r
+
+-- The operators of literals: `literalOperator` gives these.
+unfoldable pub literalCode : ℕ → Bool
+literalCode operator = ltb operator 2 || leb 16 operator
+
+-- The weights of the tree whose records end at place e.
+unfoldable pub Weighs : List ℕ → ℕ → ℕ → ℕ → Weights → Type 0
+Weighs t e u limit r = (a : Tree) → Stored t e a → HeldBoth limit (λ i. weight u i a) r
+
+-- Ground 8 is "core over 512 nodes", ground 9 "too many cells", which is more than 1,048,576.
+unfoldable pub CountsNodes : List ℕ → ℕ → ℕ → Type 0
+CountsNodes t e r = (sets : List ℕ) (a : Tree) → Stored t e a → r ≡ min 513 (nodeCount (coreOf sets a))
+
+unfoldable pub CountsCells : List ℕ → ℕ → ℕ → ℕ → Type 0
+CountsCells t e u r = (sets : List ℕ) (a : Tree) → Stored t e a → r ≡ min 1048577 (cellCount u (coreOf sets a) 0)
