@@ -73,12 +73,11 @@ pub joined {ℓ κ} : {X : Type ℓ} {Y : Type κ} (R : X → Y → Type 0) (f :
     → (j : Join) (p : Bool) (F G : Bool → X) (A B : Bool → Y) → ((i : Bool) → R (F i) (A i)) → ((i : Bool) → R (G i) (B i))
     → R (joinWith f j p F G) (joinWith g j p A B)
 unfolding joinWith
-joined R f g H conj p F G A B M N = H p _ _ _ _ (M p) (N p)
-joined R f g H disj p F G A B M N = H (not p) _ _ _ _ (M p) (N p)
-joined R f g H imp p F G A B M N = H (not p) _ _ _ _ (M (not p)) (N p)
-joined R f g H rev p F G A B M N = H (not p) _ _ _ _ (M p) (N (not p))
-joined R f g H iff p F G A B M N =
-    H p _ _ _ _ (H (not p) _ _ _ _ (M (not p)) (N p)) (H (not p) _ _ _ _ (M p) (N (not p)))
+joined R f g H conj p F G A B M N = H _ _ _ _ _ (M _) (N _)
+joined R f g H disj p F G A B M N = H _ _ _ _ _ (M _) (N _)
+joined R f g H imp p F G A B M N = H _ _ _ _ _ (M _) (N _)
+joined R f g H rev p F G A B M N = H _ _ _ _ _ (M _) (N _)
+joined R f g H iff p F G A B M N = H _ _ _ _ _ (H _ _ _ _ _ (M _) (N _)) (H _ _ _ _ _ (M _) (N _))
 
 pub join-law : {A B : Type 0} (j : Join) (p : Bool) → Dec A → Dec B → joinWith Both j p (λ i. Signed i A) (λ i. Signed i B) ↔ Signed p (JoinTrue j A B)
 unfolding JoinTrue joinWith

@@ -6,3 +6,5 @@ pub mod Counting
 pub mod Table
 pub mod Naming
 pub mod Finding
+pub mod Known
+pub mod Answering

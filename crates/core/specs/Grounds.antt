@@ -1,14 +1,19 @@
 -- What the functions over a stored tree ask and give for grounds 5 to 7: internal to the crate.
 use mathlib.Core.Path.{_≡_}
-use mathlib.Core.Bool.{Bool, false}
+use mathlib.Core.Bool.{Bool, false, cond}
 use mathlib.Core.List.{List, [], _∷_}
 use Prim.Native.Nat.{ℕ, _-_}
-use Rattle.esol.specs.Formula.{Literal}
+use lib.Dec.{eqb, ltb}
+use Rattle.esol.specs.Formula.{Literal, nodeCount}
+use Rattle.esol.specs.Cells.{cellCount}
+use Rattle.esol.specs.Moves.{Ground, refusal}
 use Rattle.esol.specs.Configuration.{inMask}
 use Rattle.syntax.specs.Tree.{Tree}
 use Rattle.syntax.specs.Stored.{literalOperator, literalPayload, Stored}
 use Rattle.core.specs.declared.Faults.{Faults}
-use Rattle.core.specs.Names.{among, misnamedLiteral, misnamed, highLiteral, ground6, fourth, ground7, Variable, LetteredLiteral, Lettered}
+use Rattle.core.specs.declared.CoreAnswer.{CoreAnswer}
+use Rattle.core.specs.Core.{coreOf}
+use Rattle.core.specs.Names.{among, misnamedLiteral, misnamed, ground5, highLiteral, ground6, fourth, ground7, Variable, LetteredLiteral, Lettered}
 
 -- A mask of the bound letters, `a` being bit 0.
 unfoldable pub Marks : ℕ → List ℕ → Type 0
@@ -55,3 +60,25 @@ pub record FormulaFaults (sets : List ℕ) (a : Tree) (r : Faults) : Type 0 wher
 
 unfoldable pub FindsFaults : List ℕ → ℕ → List ℕ → Faults → Type 0
 FindsFaults t e sets r = (a : Tree) → Stored t e a → Lettered a → FormulaFaults sets a r
+
+-- Grounds 5 to 9, each over the whole text, in the order in which reading tries them.
+unfoldable pub coreGrounds : ℕ → List ℕ → Tree → List Ground
+coreGrounds u sets a =
+    (5, ground5 sets a)
+    ∷ (6, ground6 a)
+    ∷ (7, ground7 a)
+    ∷ (8, ltb 512 (nodeCount (coreOf sets a)))
+    ∷ (9, ltb 1048576 (cellCount u (coreOf sets a) 0))
+    ∷ []
+
+unfoldable pub coreRefusal : ℕ → List ℕ → Tree → ℕ
+coreRefusal u sets a = refusal (coreGrounds u sets a)
+
+-- "Reading returns node count and cell total"; "The answer is the number with all other fields 0."
+pub record Answered (u : ℕ) (sets : List ℕ) (a : Tree) (r : CoreAnswer) : Type 0 where
+  pub refused-is : r .refused ≡ coreRefusal u sets a
+  pub nodes-is : r .nodes ≡ cond (eqb (coreRefusal u sets a) 0) (nodeCount (coreOf sets a)) 0
+  pub cells-is : r .cells ≡ cond (eqb (coreRefusal u sets a) 0) (cellCount u (coreOf sets a) 0) 0
+
+unfoldable pub Answers : List ℕ → ℕ → List ℕ → ℕ → CoreAnswer → Type 0
+Answers t e sets u r = (a : Tree) → Stored t e a → Lettered a → Answered u sets a r
