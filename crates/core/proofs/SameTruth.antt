@@ -12,12 +12,12 @@ use borrow.Author.Tests.{ne-eqb, eq-eqb, not-false}
 use Rattle.esol.specs.Formula.{Relation, lt, le, eq, ne, ge, gt, Literal, isin, notin, port, size, Node, and, or, lit, Forest, none, tree}
 use Rattle.esol.specs.Configuration.{Configuration}
 use Rattle.esol.specs.Change.{someOf}
-use Rattle.esol.specs.Truth.{Tuple, portOf, Related, LiteralTrue, Asked, every, some, first, NodeTrue, ForestTrue}
+use Rattle.esol.specs.Truth.{Tuple, portOf, Related, LiteralTrue, Asked, every, some, first, NodeTrue, ForestTrue, PlanTrue}
 use Rattle.esol.proofs.Lists.{or-left, or-right}
 use Rattle.syntax.specs.Tree.{Quantifier, forall, exists, Tree, leaf, neg, par, bind, join}
-use Rattle.core.specs.Names.{among, setNumber, variableNumber, misnamedLiteral, misnamed}
+use Rattle.core.specs.Names.{among, setNumber, variableNumber, misnamedLiteral, misdeclared, misnamed, ground5}
 use Rattle.core.specs.Meaning.{Binding, valueOf, LeafTrue, BindTrue, TreeTrue}
-use Rattle.core.specs.Core.{alone, inside, jointNode, Part, joint, two, quantifierNode, opposite, relationAt, memberAt, literalAt, place, coreOf}
+use Rattle.core.specs.Core.{alone, inside, jointNode, Part, joint, two, quantifierNode, opposite, relationAt, memberAt, literalAt, place, coreOf, planOf}
 use Rattle.core.proofs.Decided.{Signed, Both, iff-trans, both-same, neg-law, joined, join-law, Ports, bind-law, false-law, true-law, tree-dec}
 
 abbrev pub letters : List Binding → List ℕ
@@ -196,3 +196,8 @@ module _ (u : ℕ) (k : Configuration) where
     pub core-true : (a : Tree) → misnamed sets [] a ≡ false → ForestTrue u k (coreOf sets a) first [] ↔ TreeTrue u k sets [] a
     unfolding coreOf ForestTrue NodeTrue
     core-true a h = place-means [] true a h .lone first
+
+-- "its stored core formula is true under the same configurations as the text": where ground 5 does not apply
+pub plan-true : (u : ℕ) (k : Configuration) (sets : List ℕ) (a : Tree) → ground5 sets a ≡ false → PlanTrue (planOf u sets a) k ↔ TreeTrue u k sets [] a
+unfolding PlanTrue planOf ground5
+plan-true u k sets a h = core-true u k sets a (or-right (misdeclared sets) _ h)

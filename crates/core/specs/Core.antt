@@ -2,7 +2,8 @@
 use mathlib.Core.Bool.{Bool, true, false, not}
 use mathlib.Core.List.{List, [], _∷_}
 use Prim.Native.Nat.{ℕ}
-use Rattle.esol.specs.Formula.{Relation, lt, le, eq, ne, ge, gt, Literal, isin, notin, port, size, Node, root, all, any, and, or, lit, Forest, none, tree}
+use lib.ListN.{length}
+use Rattle.esol.specs.Formula.{Relation, lt, le, eq, ne, ge, gt, Literal, isin, notin, port, size, Node, root, all, any, and, or, lit, Forest, none, tree, Plan}
 use Rattle.syntax.specs.Tree.{Quantifier, forall, exists, Join, conj, disj, imp, rev, iff, Tree, leaf, neg, par, bind, join}
 use Rattle.core.specs.Names.{setNumber, variableNumber}
 
@@ -80,3 +81,7 @@ place sets vars p (join j a b) above s = joinWith two j p (λ i. place sets vars
 
 unfoldable pub coreOf : List ℕ → Tree → Forest
 coreOf sets a = tree root (place sets [] true a alone none) none
+
+-- The plan that a text says.
+unfoldable pub planOf : ℕ → List ℕ → Tree → Plan
+planOf u sets a = record { ports = u; sets = length sets; formula = coreOf sets a }

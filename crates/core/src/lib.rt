@@ -5,6 +5,7 @@ ghost use mathlib.Core.Path.{_≡_};
 ghost use mathlib.Core.Bool.{true, false, not, _||_};
 ghost use Prim.Native.Nat.{ℕ, _+_, _*_, _-_, _≤_, _<_, min};
 ghost use lib.Dec.{leb};
+ghost use lib.ListN.{length, getD};
 ghost use Rattle.core.specs.Names.{among, setNumber, declaredTwice, misdeclared};
 ghost use Rattle.core.specs.Grounds.{IsBound, Binds, NamesLiteral, HighLiteral, LiteralFaults, Finds, FindsFaults, Answers};
 ghost use Rattle.core.specs.Counts.{half, HeldBoth, Scale, PairHeld, JoinHeld, BothJoined, Scaled, Quantified, literalCode, Weighs, CountsNodes, CountsCells};
@@ -173,6 +174,28 @@ fn is_literal(operator: u16) -> bool
     16 <= operator
 }
 
+// The two numbers of the record that ends at e.
+fn operator_at(t: &[u16], e: usize) -> u16
+    requires { ⌜ (2 ≤ e) × (e ≤ length (now t)) ⌝ }
+    ensures { λ r. ⌜ r ≡ getD (now (t .entry)) (e - 1) 0 ⌝ }
+{
+    t[e - 1]
+}
+
+fn payload_at(t: &[u16], e: usize) -> u16
+    requires { ⌜ (2 ≤ e) × (e ≤ length (now t)) ⌝ }
+    ensures { λ r. ⌜ r ≡ getD (now (t .entry)) (e - 2) 0 ⌝ }
+{
+    t[e - 2]
+}
+
+// A payload as a place of the table.
+fn place(x: u16) -> usize
+    ensures { λ r. ⌜ r ≡ x ⌝ }
+{
+    x as usize
+}
+
 // The weights of the tree whose records end at e. Each record is visited once.
 fn weigh(t: &[u16], e: usize, u: u32, limit: u32) -> Weights
     requires { ⌜ Scale u limit ⌝ }
@@ -184,7 +207,7 @@ fn weigh(t: &[u16], e: usize, u: u32, limit: u32) -> Weights
     if t.len() < e {
         return ones(limit);
     }
-    let operator = t[e - 1];
+    let operator = operator_at(t, e);
     if is_literal(operator) {
         return ones(limit);
     }
@@ -195,7 +218,7 @@ fn weigh(t: &[u16], e: usize, u: u32, limit: u32) -> Weights
     if operator < 5 {
         return quantified(b, u, limit);
     }
-    let m = t[e - 2] as usize;
+    let m = place(payload_at(t, e));
     if e - 2 < m {
         return b;
     }
@@ -382,8 +405,8 @@ fn find_faults(t: &[u16], e: usize, sets: &[u8], bound: u64, d: u32) -> Faults
     if t.len() < e {
         return no_faults();
     }
-    let operator = t[e - 1];
-    let x = t[e - 2];
+    let operator = operator_at(t, e);
+    let x = payload_at(t, e);
     if is_literal(operator) {
         return literal_faults(operator, x, sets, bound);
     }
@@ -394,7 +417,7 @@ fn find_faults(t: &[u16], e: usize, sets: &[u8], bound: u64, d: u32) -> Faults
         let a = find_faults(t, e - 2, sets, with_letter(bound, x), deeper(d));
         return quantifier_faults(a, is_bound(bound, x), d);
     }
-    let m = x as usize;
+    let m = place(x);
     if e - 2 < m {
         return no_faults();
     }
@@ -410,15 +433,21 @@ pub fn formula_faults(t: &[u16], e: usize, sets: &[u8]) -> Faults
     find_faults(t, e, sets, 0, 0)
 }
 
+fn first(sets: &[u8]) -> u16
+    requires { ⌜ 1 ≤ length (now sets) ⌝ }
+    ensures { λ r. ⌜ r ≡ getD (now (sets .entry)) 0 0 ⌝ }
+{
+    wide(sets[0])
+}
+
 fn declared_twice(sets: &[u8]) -> bool
     ensures { λ r. ⌜ r ≡ declaredTwice (now (sets .entry)) ⌝ }
 {
     if sets.len() == 0 {
         return false;
     }
-    let x = sets[0];
     let rest = &sets[1..];
-    if !undeclared(rest, wide(x)) {
+    if !undeclared(rest, first(sets)) {
         return true;
     }
     declared_twice(rest)

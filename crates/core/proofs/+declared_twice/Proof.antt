@@ -7,8 +7,8 @@ use borrow.Fn.PlainCycle.{Measures, is, falls, and}
 use Rattle.core.proofs.declared_twice.Reads as declared-twice
 use Rattle.core.proofs.declared_twice.Kinds as declared-twice-kinds
 use Rattle.core.proofs.+declared_twice.Lts-declared_twice as declared-twice-lts
+use Rattle.core.proofs.first.Reads as first-reads
 use Rattle.core.proofs.undeclared.Reads as undeclared-reads
-use Rattle.core.proofs.wide.Reads as wide-reads
 use Rattle.core.proofs.+declared_twice.{statement}
 use Rattle.core.proofs.+declared_twice.Tie.{close}
 
@@ -33,15 +33,11 @@ declared-twice-below t =
 
 -- what the callees of `declared-twice` ask and give
 abbrev declared-twice-claims : ℕ → declared-twice-lts.Claims
-declared-twice-claims t = (wide-reads.Asked, wide-reads.Learnt, undeclared-reads.Asked, undeclared-reads.Learnt, declared-twice-below t, declared-twice.Post)
+declared-twice-claims t = (first-reads.Asked, first-reads.Learnt, undeclared-reads.Asked, undeclared-reads.Learnt, declared-twice-below t, declared-twice.Post)
 
 declared-twice-returns : (t : ℕ) → declared-twice-lts.Need-returns (declared-twice-claims t) (declared-twice-at t) declared-twice.Post
 declared-twice-returns t c =
     twice-none _ (c .if1 .taken)
-
-declared-twice-shared-slice-read-x : (t : ℕ) → declared-twice-lts.Need-shared-slice-read-x (declared-twice-claims t) (declared-twice-at t) declared-twice.Post
-declared-twice-shared-slice-read-x t c =
-    search needs
 
 declared-twice-sub-rest : (t : ℕ) → declared-twice-lts.Need-sub-rest (declared-twice-claims t) (declared-twice-at t) declared-twice.Post
 declared-twice-sub-rest t c =
@@ -55,8 +51,8 @@ declared-twice-part-rest-end : (t : ℕ) → declared-twice-lts.Need-part-rest-e
 declared-twice-part-rest-end t c =
     search needs
 
-declared-twice-wide-requires : (t : ℕ) → declared-twice-lts.Need-wide-requires (declared-twice-claims t) (declared-twice-at t) declared-twice.Post
-declared-twice-wide-requires t c κs =
+declared-twice-first-requires : (t : ℕ) → declared-twice-lts.Need-first-requires (declared-twice-claims t) (declared-twice-at t) declared-twice.Post
+declared-twice-first-requires t c κs =
     search needs
 
 declared-twice-undeclared-requires : (t : ℕ) → declared-twice-lts.Need-undeclared-requires (declared-twice-claims t) (declared-twice-at t) declared-twice.Post
@@ -65,7 +61,7 @@ declared-twice-undeclared-requires t c κs =
 
 declared-twice-returns-2 : (t : ℕ) → declared-twice-lts.Need-returns-2 (declared-twice-claims t) (declared-twice-at t) declared-twice.Post
 declared-twice-returns-2 t c =
-    twice-found _ (c .before .before .before .before .before .if1 .left) _ (c .before .before .wide .ensures) _ (c .before .undeclared .ensures) (c .if2 .taken)
+    twice-found _ (c .before .before .before .before .if1 .left) _ (c .before .before .first .ensures) _ (c .before .undeclared .ensures) (c .if2 .taken)
 
 declared-twice-declared-twice-requires : (t : ℕ) → declared-twice-lts.Need-declared-twice-requires (declared-twice-claims t) (declared-twice-at t) declared-twice.Post
 declared-twice-declared-twice-requires t c κs =
@@ -73,18 +69,17 @@ declared-twice-declared-twice-requires t c κs =
 
 declared-twice-returns-3 : (t : ℕ) → declared-twice-lts.Need-returns-3 (declared-twice-claims t) (declared-twice-at t) declared-twice.Post
 declared-twice-returns-3 t c =
-    twice-on _ (c .before .before .before .before .before .before .if1 .left) _ (c .before .before .before .wide .ensures) _ (c .before .before .undeclared .ensures) (c .before .if2 .left) _ (c .declared-twice .ensures)
+    twice-on _ (c .before .before .before .before .before .if1 .left) _ (c .before .before .before .first .ensures) _ (c .before .before .undeclared .ensures) (c .before .if2 .left) _ (c .declared-twice .ensures)
 
 pub +declared-twice-spec : {M : Type 1} → statement M
 +declared-twice-spec = close μ-declared-twice λ t. declared-twice-lts.spec (declared-twice-claims t)
     (declared-twice-at t)
     declared-twice.Post
     (declared-twice-returns t)
-    (declared-twice-shared-slice-read-x t)
     (declared-twice-sub-rest t)
     (declared-twice-part-rest-start t)
     (declared-twice-part-rest-end t)
-    (declared-twice-wide-requires t)
+    (declared-twice-first-requires t)
     (declared-twice-undeclared-requires t)
     (declared-twice-returns-2 t)
     (declared-twice-declared-twice-requires t)

@@ -1,7 +1,5 @@
 use borrow.Author.Needs.{needs}
 use mathlib.Core.Path.{sym, _∙_}
-use Prim.Native.Nat.{_-_}
-use native.Mathlib.Omega.{arith}
 use Rattle.core.proofs.Finding.{finds-early, finds-past, finds-leaf, finds-neg, finds-bind, finds-join, finds-cut}
 use Prim.Native.Nat.{ℕ, _<_}
 use borrow.Fn.Kinds.{In}
@@ -15,6 +13,9 @@ use Rattle.core.proofs.is_bound.Reads as is-bound-reads
 use Rattle.core.proofs.is_literal.Reads as is-literal-reads
 use Rattle.core.proofs.literal_faults.Reads as literal-faults-reads
 use Rattle.core.proofs.no_faults.Reads as no-faults-reads
+use Rattle.core.proofs.operator_at.Reads as operator-at-reads
+use Rattle.core.proofs.payload_at.Reads as payload-at-reads
+use Rattle.core.proofs.place.Reads as place-reads
 use Rattle.core.proofs.quantifier_faults.Reads as quantifier-faults-reads
 use Rattle.core.proofs.with_letter.Reads as with-letter-reads
 use Rattle.core.proofs.+find_faults.{statement}
@@ -33,7 +34,7 @@ find-faults-below t =
 
 -- what the callees of `find-faults` ask and give
 abbrev find-faults-claims : ℕ → find-faults-lts.Claims
-find-faults-claims t = (no-faults-reads.Asked, no-faults-reads.Learnt, is-literal-reads.Asked, is-literal-reads.Learnt, literal-faults-reads.Asked, literal-faults-reads.Learnt, find-faults-below t, find-faults.Post, with-letter-reads.Asked, with-letter-reads.Learnt, deeper-reads.Asked, deeper-reads.Learnt, is-bound-reads.Asked, is-bound-reads.Learnt, quantifier-faults-reads.Asked, quantifier-faults-reads.Learnt, both-faults-reads.Asked, both-faults-reads.Learnt)
+find-faults-claims t = (no-faults-reads.Asked, no-faults-reads.Learnt, operator-at-reads.Asked, operator-at-reads.Learnt, payload-at-reads.Asked, payload-at-reads.Learnt, is-literal-reads.Asked, is-literal-reads.Learnt, literal-faults-reads.Asked, literal-faults-reads.Learnt, find-faults-below t, find-faults.Post, with-letter-reads.Asked, with-letter-reads.Learnt, deeper-reads.Asked, deeper-reads.Learnt, is-bound-reads.Asked, is-bound-reads.Learnt, quantifier-faults-reads.Asked, quantifier-faults-reads.Learnt, place-reads.Asked, place-reads.Learnt, both-faults-reads.Asked, both-faults-reads.Learnt)
 
 find-faults-no-faults-requires : (t : ℕ) → find-faults-lts.Need-no-faults-requires (find-faults-claims t) (find-faults-at t) find-faults.Post
 find-faults-no-faults-requires t c κs =
@@ -51,24 +52,12 @@ find-faults-returns-2 : (t : ℕ) → find-faults-lts.Need-returns-2 (find-fault
 find-faults-returns-2 t c =
     finds-past _ _ _ _ _ _ (c .before .if2 .taken)
 
-find-faults-sub-operator : (t : ℕ) → find-faults-lts.Need-sub-operator (find-faults-claims t) (find-faults-at t) find-faults.Post
-find-faults-sub-operator t c =
+find-faults-operator-at-requires : (t : ℕ) → find-faults-lts.Need-operator-at-requires (find-faults-claims t) (find-faults-at t) find-faults.Post
+find-faults-operator-at-requires t c κs =
     search needs
 
-find-faults-mul-operator : (t : ℕ) → find-faults-lts.Need-mul-operator (find-faults-claims t) (find-faults-at t) find-faults.Post
-find-faults-mul-operator t c =
-    search needs
-
-find-faults-shared-slice-read-operator : (t : ℕ) → find-faults-lts.Need-shared-slice-read-operator (find-faults-claims t) (find-faults-at t) find-faults.Post
-find-faults-shared-slice-read-operator t c =
-    search needs
-
-find-faults-mul-x : (t : ℕ) → find-faults-lts.Need-mul-x (find-faults-claims t) (find-faults-at t) find-faults.Post
-find-faults-mul-x t c =
-    search needs
-
-find-faults-shared-slice-read-x : (t : ℕ) → find-faults-lts.Need-shared-slice-read-x (find-faults-claims t) (find-faults-at t) find-faults.Post
-find-faults-shared-slice-read-x t c =
+find-faults-payload-at-requires : (t : ℕ) → find-faults-lts.Need-payload-at-requires (find-faults-claims t) (find-faults-at t) find-faults.Post
+find-faults-payload-at-requires t c κs =
     search needs
 
 find-faults-is-literal-requires : (t : ℕ) → find-faults-lts.Need-is-literal-requires (find-faults-claims t) (find-faults-at t) find-faults.Post
@@ -81,7 +70,7 @@ find-faults-literal-faults-requires t c κs =
 
 find-faults-returns-3 : (t : ℕ) → find-faults-lts.Need-returns-3 (find-faults-claims t) (find-faults-at t) find-faults.Post
 find-faults-returns-3 t c =
-    finds-leaf _ _ _ _ _ _ (sym (c .before .before .is-literal .ensures) ∙ c .before .if3 .taken) (c .literal-faults .ensures)
+    finds-leaf _ _ _ _ _ _ (rw (c .before .before .before .before .operator-at .ensures) at (sym (c .before .before .is-literal .ensures) ∙ c .before .if3 .taken)) (rw (c .before .before .before .before .operator-at .ensures, c .before .before .before .payload-at .ensures) at (c .literal-faults .ensures))
 
 find-faults-find-faults-requires : (t : ℕ) → find-faults-lts.Need-find-faults-requires (find-faults-claims t) (find-faults-at t) find-faults.Post
 find-faults-find-faults-requires t c κs =
@@ -89,7 +78,7 @@ find-faults-find-faults-requires t c κs =
 
 find-faults-returns-4 : (t : ℕ) → find-faults-lts.Need-returns-4 (find-faults-claims t) (find-faults-at t) find-faults.Post
 find-faults-returns-4 t c =
-    finds-neg _ _ _ _ _ _ (c .before .if4 .taken) (c .find-faults .ensures)
+    finds-neg _ _ _ _ _ _ (rw (c .before .before .before .before .before .operator-at .ensures) at (c .before .if4 .taken)) (c .find-faults .ensures)
 
 find-faults-with-letter-requires : (t : ℕ) → find-faults-lts.Need-with-letter-requires (find-faults-claims t) (find-faults-at t) find-faults.Post
 find-faults-with-letter-requires t c κs =
@@ -113,11 +102,11 @@ find-faults-quantifier-faults-requires t c κs =
 
 find-faults-returns-5 : (t : ℕ) → find-faults-lts.Need-returns-5 (find-faults-claims t) (find-faults-at t) find-faults.Post
 find-faults-returns-5 t c =
-    finds-bind _ _ _ _ _ _ (sym (c .before .before .before .before .before .before .before .before .is-literal .ensures) ∙ c .before .before .before .before .before .before .before .if3 .left) (c .before .before .before .before .before .before .if4 .left) _ _ _ _ (c .before .before .before .before .before .if5 .taken) (c .before .before .before .before .with-letter .ensures) (c .before .is-bound .ensures) (c .before .before .before .deeper .ensures) (c .before .before .find-faults2 .ensures) (c .quantifier-faults .ensures)
+    finds-bind _ _ _ _ _ _ (rw (c .before .before .before .before .before .before .before .before .before .before .operator-at .ensures) at (sym (c .before .before .before .before .before .before .before .before .is-literal .ensures) ∙ c .before .before .before .before .before .before .before .if3 .left)) (rw (c .before .before .before .before .before .before .before .before .before .before .operator-at .ensures) at (c .before .before .before .before .before .before .if4 .left)) _ _ _ _ (rw (c .before .before .before .before .before .before .before .before .before .before .operator-at .ensures) at (c .before .before .before .before .before .if5 .taken)) (rw (c .before .before .before .before .before .before .before .before .before .payload-at .ensures) at (c .before .before .before .before .with-letter .ensures)) (rw (c .before .before .before .before .before .before .before .before .before .payload-at .ensures) at (c .before .is-bound .ensures)) (c .before .before .before .deeper .ensures) (c .before .before .find-faults2 .ensures) (c .quantifier-faults .ensures)
 
-find-faults-cast-m : (t : ℕ) → find-faults-lts.Need-cast-m (find-faults-claims t) (find-faults-at t) find-faults.Post
-find-faults-cast-m t c =
-    omega (arith, c .before .before .before .before .before .before .before .before .before .shared-slice-known .given (c .before .before .before .before .before .before .before .before .before .before .args .e - 2))
+find-faults-place-requires : (t : ℕ) → find-faults-lts.Need-place-requires (find-faults-claims t) (find-faults-at t) find-faults.Post
+find-faults-place-requires t c κs =
+    search needs
 
 find-faults-no-faults-requires-3 : (t : ℕ) → find-faults-lts.Need-no-faults-requires-3 (find-faults-claims t) (find-faults-at t) find-faults.Post
 find-faults-no-faults-requires-3 t c κs =
@@ -125,7 +114,7 @@ find-faults-no-faults-requires-3 t c κs =
 
 find-faults-returns-6 : (t : ℕ) → find-faults-lts.Need-returns-6 (find-faults-claims t) (find-faults-at t) find-faults.Post
 find-faults-returns-6 t c =
-    finds-cut _ _ _ _ _ _ (sym (c .before .before .before .before .before .is-literal .ensures) ∙ c .before .before .before .before .if3 .left) (c .before .before .before .if4 .left) (c .before .before .if5 .left) (c .before .if6 .taken)
+    finds-cut _ _ _ _ _ _ (rw (c .before .before .before .before .before .before .before .before .operator-at .ensures) at (sym (c .before .before .before .before .before .before .is-literal .ensures) ∙ c .before .before .before .before .before .if3 .left)) (rw (c .before .before .before .before .before .before .before .before .operator-at .ensures) at (c .before .before .before .before .if4 .left)) (rw (c .before .before .before .before .before .before .before .before .operator-at .ensures) at (c .before .before .before .if5 .left)) (rw (c .before .before .place .ensures, c .before .before .before .before .before .before .before .payload-at .ensures) at (c .before .if6 .taken))
 
 find-faults-find-faults-requires-3 : (t : ℕ) → find-faults-lts.Need-find-faults-requires-3 (find-faults-claims t) (find-faults-at t) find-faults.Post
 find-faults-find-faults-requires-3 t c κs =
@@ -141,7 +130,7 @@ find-faults-both-faults-requires t c κs =
 
 find-faults-returns-7 : (t : ℕ) → find-faults-lts.Need-returns-7 (find-faults-claims t) (find-faults-at t) find-faults.Post
 find-faults-returns-7 t c =
-    finds-join _ _ _ _ _ _ (sym (c .before .before .before .before .before .before .before .is-literal .ensures) ∙ c .before .before .before .before .before .before .if3 .left) (c .before .before .before .before .before .if4 .left) _ _ (c .before .before .before .before .if5 .left) (c .before .before .find-faults3 .ensures) (c .before .find-faults4 .ensures) (c .both-faults .ensures)
+    finds-join _ _ _ _ _ _ (rw (c .before .before .before .before .before .before .before .before .before .before .operator-at .ensures) at (sym (c .before .before .before .before .before .before .before .before .is-literal .ensures) ∙ c .before .before .before .before .before .before .before .if3 .left)) (rw (c .before .before .before .before .before .before .before .before .before .before .operator-at .ensures) at (c .before .before .before .before .before .before .if4 .left)) _ _ (rw (c .before .before .before .before .before .before .before .before .before .before .operator-at .ensures) at (c .before .before .before .before .before .if5 .left)) (rw (c .before .before .before .before .place .ensures, c .before .before .before .before .before .before .before .before .before .payload-at .ensures) at (c .before .before .find-faults3 .ensures)) (c .before .find-faults4 .ensures) (c .both-faults .ensures)
 
 pub +find-faults-spec : {M : Type 1} → statement M
 +find-faults-spec = close μ-find-faults λ t. find-faults-lts.spec (find-faults-claims t)
@@ -151,11 +140,8 @@ pub +find-faults-spec : {M : Type 1} → statement M
     (find-faults-returns t)
     (find-faults-no-faults-requires-2 t)
     (find-faults-returns-2 t)
-    (find-faults-sub-operator t)
-    (find-faults-mul-operator t)
-    (find-faults-shared-slice-read-operator t)
-    (find-faults-mul-x t)
-    (find-faults-shared-slice-read-x t)
+    (find-faults-operator-at-requires t)
+    (find-faults-payload-at-requires t)
     (find-faults-is-literal-requires t)
     (find-faults-literal-faults-requires t)
     (find-faults-returns-3 t)
@@ -167,7 +153,7 @@ pub +find-faults-spec : {M : Type 1} → statement M
     (find-faults-is-bound-requires t)
     (find-faults-quantifier-faults-requires t)
     (find-faults-returns-5 t)
-    (find-faults-cast-m t)
+    (find-faults-place-requires t)
     (find-faults-no-faults-requires-3 t)
     (find-faults-returns-6 t)
     (find-faults-find-faults-requires-3 t)
