@@ -6,5 +6,6 @@ pub mod Counting
 pub mod Table
 pub mod Naming
 pub mod Finding
+pub mod Siblings
 pub mod Known
 pub mod Answering
