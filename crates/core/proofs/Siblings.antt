@@ -2,11 +2,11 @@
 -- Assumes nothing.
 use mathlib.Core.Path.{_≡_, refl, sym, ap, _∙_}
 use mathlib.Core.Bool.{Bool, true, false, not}
-use mathlib.Core.List.{List, _∷_}
+use mathlib.Core.List.{List}
 use Prim.Native.Nat.{ℕ}
 use Rattle.esol.specs.Formula.{Forest, none, tree}
 use Rattle.syntax.specs.Tree.{Tree, leaf, neg, par, bind, join}
-use Rattle.core.specs.Core.{Above, alone, inside, jointNode, Part, joint, two, joinWith, place}
+use Rattle.core.specs.Core.{Above, alone, inside, Part, joint, two, place}
 use Rattle.core.proofs.Decided.{joined}
 
 unfoldable pub append : Forest → Forest → Forest

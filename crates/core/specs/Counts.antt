@@ -9,44 +9,44 @@ use Rattle.esol.specs.Formula.{nodeCount}
 use Rattle.esol.specs.Cells.{cellCount}
 use Rattle.syntax.specs.Tree.{Join, Tree, leaf, neg, par, bind, join}
 use Rattle.syntax.specs.Stored.{Stored, joinOperator}
-use Rattle.core.specs.declared.Weights.{Weights}
-use Rattle.core.specs.declared.Half.{Half}
+use Rattle.core.specs.declared.Totals.{Totals}
+use Rattle.core.specs.declared.Total.{Total}
 use Rattle.core.specs.Core.{Above, alone, inside, joinWith, coreOf}
 
 -- The cells of a part of the core for each cell of its depth, by what stands above it; with one port, its nodes.
-abbrev pub Weight : Type 0
-Weight = Above → ℕ
+abbrev pub PartTotal : Type 0
+PartTotal = Above → ℕ
 
 -- A joint inside its like is merged.
-unfoldable pub jointWeight : Bool → Weight
-jointWeight j alone = 1
-jointWeight true (inside true) = 0
-jointWeight false (inside true) = 1
-jointWeight true (inside false) = 1
-jointWeight false (inside false) = 0
+unfoldable pub jointTotal : Bool → PartTotal
+jointTotal j alone = 1
+jointTotal true (inside true) = 0
+jointTotal false (inside true) = 1
+jointTotal true (inside false) = 1
+jointTotal false (inside false) = 0
 
-unfoldable pub twoWeight : Bool → Weight → Weight → Weight
-twoWeight j f g above = jointWeight j above + f (inside j) + g (inside j)
+unfoldable pub twoTotal : Bool → PartTotal → PartTotal → PartTotal
+twoTotal j f g above = jointTotal j above + f (inside j) + g (inside j)
 
-unfoldable pub weight : ℕ → Bool → Tree → Weight
-weight u p (leaf l) above = 1
-weight u p (neg a) above = weight u (not p) a above
-weight u p (par a) above = weight u p a above
-weight u p (bind q v a) above = 1 + u * weight u p a alone
-weight u p (join j a b) above = joinWith twoWeight j p (λ i. weight u i a) (λ i. weight u i b) above
+unfoldable pub partTotal : ℕ → Bool → Tree → PartTotal
+partTotal u p (leaf l) above = 1
+partTotal u p (neg a) above = partTotal u (not p) a above
+partTotal u p (par a) above = partTotal u p a above
+partTotal u p (bind q v a) above = 1 + u * partTotal u p a alone
+partTotal u p (join j a b) above = joinWith twoTotal j p (λ i. partTotal u i a) (λ i. partTotal u i b) above
 
--- Weights up to a limit: of one polarity, and of both.
-pub record Held (limit : ℕ) (w : Weight) (h : Half) : Type 0 where
+-- Totals up to a limit: of one polarity, and of both.
+pub record Held (limit : ℕ) (w : PartTotal) (h : Total) : Type 0 where
   pub is-alone : h .alone ≡ min limit (w alone)
   pub is-and : h .and ≡ min limit (w (inside true))
   pub is-or : h .or ≡ min limit (w (inside false))
 
-unfoldable pub half : Weights → Bool → Half
-half w true = w .plus
-half w false = w .minus
+unfoldable pub totalAt : Totals → Bool → Total
+totalAt w true = w .plus
+totalAt w false = w .minus
 
-unfoldable pub HeldBoth : ℕ → (Bool → Weight) → Weights → Type 0
-HeldBoth limit w r = (i : Bool) → Held limit (w i) (half r i)
+unfoldable pub HeldBoth : ℕ → (Bool → PartTotal) → Totals → Type 0
+HeldBoth limit w r = (i : Bool) → Held limit (w i) (totalAt r i)
 
 -- u is 1 to 64, so that a limit's multiple fits 32 bits.
 pub record Scale (u limit : ℕ) : Type 0 where
@@ -54,30 +54,30 @@ pub record Scale (u limit : ℕ) : Type 0 where
   pub high : u ≤ 64
   pub limited : limit ≤ 1048577
 
-unfoldable pub PairHeld : ℕ → Bool → Half → Half → Half → Type 0
-PairHeld limit j f g r = (w x : Weight) → Held limit w f → Held limit x g → Held limit (twoWeight j w x) r
+unfoldable pub PairHeld : ℕ → Bool → Total → Total → Total → Type 0
+PairHeld limit j f g r = (w x : PartTotal) → Held limit w f → Held limit x g → Held limit (twoTotal j w x) r
 
-unfoldable pub JoinHeld : ℕ → ℕ → Bool → Weights → Weights → Half → Type 0
+unfoldable pub JoinHeld : ℕ → ℕ → Bool → Totals → Totals → Total → Type 0
 JoinHeld limit operator p a b r =
-    (j : Join) → operator ≡ joinOperator j → (w x : Bool → Weight) → HeldBoth limit w a → HeldBoth limit x b → Held limit (joinWith twoWeight j p w x) r
+    (j : Join) → operator ≡ joinOperator j → (w x : Bool → PartTotal) → HeldBoth limit w a → HeldBoth limit x b → Held limit (joinWith twoTotal j p w x) r
 
-unfoldable pub BothJoined : ℕ → ℕ → Weights → Weights → Weights → Type 0
-BothJoined limit operator a b r = (i : Bool) → JoinHeld limit operator i a b (half r i)
+unfoldable pub BothJoined : ℕ → ℕ → Totals → Totals → Totals → Type 0
+BothJoined limit operator a b r = (i : Bool) → JoinHeld limit operator i a b (totalAt r i)
 
--- One more than u times a weight w, of which x is known.
+-- One more than u times a total w, of which x is known.
 unfoldable pub Scaled : ℕ → ℕ → ℕ → ℕ → Type 0
 Scaled limit u x r = (w : ℕ) → x ≡ min limit w → r ≡ min limit (1 + u * w)
 
-unfoldable pub Quantified : ℕ → ℕ → Weights → Weights → Type 0
-Quantified limit u b r = (w : Bool → Weight) → HeldBoth limit w b → HeldBoth limit (λ i above. 1 + u * w i alone) r
+unfoldable pub Quantified : ℕ → ℕ → Totals → Totals → Type 0
+Quantified limit u b r = (w : Bool → PartTotal) → HeldBoth limit w b → HeldBoth limit (λ i above. 1 + u * w i alone) r
 
 -- The operators of literals: `literalOperator` gives these.
 unfoldable pub literalCode : ℕ → Bool
 literalCode operator = ltb operator 2 || leb 16 operator
 
--- The weights of the tree whose records end at place e.
-unfoldable pub Weighs : List ℕ → ℕ → ℕ → ℕ → Weights → Type 0
-Weighs t e u limit r = (a : Tree) → Stored t e a → HeldBoth limit (λ i. weight u i a) r
+-- The totals of the tree whose records end at place e.
+unfoldable pub HasTotals : List ℕ → ℕ → ℕ → ℕ → Totals → Type 0
+HasTotals t e u limit r = (a : Tree) → Stored t e a → HeldBoth limit (λ i. partTotal u i a) r
 
 -- Ground 8 is "core over 512 nodes", ground 9 "too many cells", which is more than 1,048,576.
 unfoldable pub CountsNodes : List ℕ → ℕ → ℕ → Type 0

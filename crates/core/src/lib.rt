@@ -8,19 +8,19 @@ ghost use lib.Dec.{leb};
 ghost use lib.ListN.{length, getD};
 ghost use Rattle.core.specs.Names.{among, setNumber, declaredTwice, misdeclared};
 ghost use Rattle.core.specs.Grounds.{IsBound, Binds, NamesLiteral, HighLiteral, LiteralFaults, Finds, FindsFaults, Answers};
-ghost use Rattle.core.specs.Counts.{half, HeldBoth, Scale, PairHeld, JoinHeld, BothJoined, Scaled, Quantified, literalCode, Weighs, CountsNodes, CountsCells};
+ghost use Rattle.core.specs.Counts.{totalAt, HeldBoth, Scale, PairHeld, JoinHeld, BothJoined, Scaled, Quantified, literalCode, HasTotals, CountsNodes, CountsCells};
 
-// The weights of a part by what stands above it: the root or a quantifier, an "and", an "or".
-pub struct Half {
+// The totals of a part by what stands above it: the root or a quantifier, an "and", an "or".
+pub struct Total {
     pub alone: u32,
     pub and: u32,
     pub or: u32,
 }
 
-// The weights of a part and of its negation.
-pub struct Weights {
-    pub plus: Half,
-    pub minus: Half,
+// The totals of a part and of its negation.
+pub struct Totals {
+    pub plus: Total,
+    pub minus: Total,
 }
 
 // a + b, at most the limit.
@@ -36,8 +36,8 @@ fn capped(a: u32, b: u32, limit: u32) -> u32
     a + b
 }
 
-fn at(w: Weights, p: bool) -> Half
-    ensures { λ r. ⌜ r ≡ half w p ⌝ }
+fn at(w: Totals, p: bool) -> Total
+    ensures { λ r. ⌜ r ≡ totalAt w p ⌝ }
 {
     if p {
         return w.plus;
@@ -51,14 +51,14 @@ fn flip(p: bool) -> bool
     !p
 }
 
-// The weights of an "and" of two parts, or of their "or".
-fn pair(j: bool, f: Half, g: Half, limit: u32) -> Half
+// The totals of an "and" of two parts, or of their "or".
+fn pair(j: bool, f: Total, g: Total, limit: u32) -> Total
     ensures { λ r. ⌜ PairHeld limit j f g r ⌝ }
 {
     if j {
         let x = capped(f.and, g.and, limit);
         let y = capped(1, x, limit);
-        return Half {
+        return Total {
             alone: y,
             and: x,
             or: y,
@@ -66,15 +66,15 @@ fn pair(j: bool, f: Half, g: Half, limit: u32) -> Half
     }
     let x = capped(f.or, g.or, limit);
     let y = capped(1, x, limit);
-    Half {
+    Total {
         alone: y,
         and: y,
         or: x,
     }
 }
 
-// The weights of two parts joined by an operator, at the polarity p.
-fn join_weights(operator: u16, p: bool, a: Weights, b: Weights, limit: u32) -> Half
+// The totals of two parts joined by an operator, at the polarity p.
+fn join_total(operator: u16, p: bool, a: Totals, b: Totals, limit: u32) -> Total
     ensures { λ r. ⌜ JoinHeld limit operator p a b r ⌝ }
 {
     let q = flip(p);
@@ -95,15 +95,15 @@ fn join_weights(operator: u16, p: bool, a: Weights, b: Weights, limit: u32) -> H
     pair(p, forth, back, limit)
 }
 
-fn joined(operator: u16, a: Weights, b: Weights, limit: u32) -> Weights
+fn joined(operator: u16, a: Totals, b: Totals, limit: u32) -> Totals
     ensures { λ r. ⌜ BothJoined limit operator a b r ⌝ }
 {
-    let p = join_weights(operator, true, a, b, limit);
-    let n = join_weights(operator, false, a, b, limit);
-    Weights { plus: p, minus: n }
+    let p = join_total(operator, true, a, b, limit);
+    let n = join_total(operator, false, a, b, limit);
+    Totals { plus: p, minus: n }
 }
 
-// One more than u times a weight.
+// One more than u times a total.
 fn scaled(x: u32, u: u32, limit: u32) -> u32
     requires { ⌜ Scale u limit ⌝ }
     ensures { λ r. ⌜ Scaled limit u x r ⌝ }
@@ -114,8 +114,8 @@ fn scaled(x: u32, u: u32, limit: u32) -> u32
     capped(1, u * x, limit)
 }
 
-// The weights of a quantifier over a part.
-fn quantified(b: Weights, u: u32, limit: u32) -> Weights
+// The totals of a quantifier over a part.
+fn quantified(b: Totals, u: u32, limit: u32) -> Totals
     requires { ⌜ Scale u limit ⌝ }
     ensures { λ r. ⌜ Quantified limit u b r ⌝ }
 {
@@ -123,13 +123,13 @@ fn quantified(b: Weights, u: u32, limit: u32) -> Weights
     let g = b.minus;
     let x = scaled(f.alone, u, limit);
     let y = scaled(g.alone, u, limit);
-    Weights {
-        plus: Half {
+    Totals {
+        plus: Total {
             alone: x,
             and: x,
             or: x,
         },
-        minus: Half {
+        minus: Total {
             alone: y,
             and: y,
             or: y,
@@ -137,18 +137,18 @@ fn quantified(b: Weights, u: u32, limit: u32) -> Weights
     }
 }
 
-// The weights of a literal.
-fn ones(limit: u32) -> Weights
+// The totals of a literal.
+fn ones(limit: u32) -> Totals
     ensures { λ r. ⌜ HeldBoth limit (λ i above. 1) r ⌝ }
 {
     let x = capped(1, 0, limit);
-    Weights {
-        plus: Half {
+    Totals {
+        plus: Total {
             alone: x,
             and: x,
             or: x,
         },
-        minus: Half {
+        minus: Total {
             alone: x,
             and: x,
             or: x,
@@ -156,12 +156,12 @@ fn ones(limit: u32) -> Weights
     }
 }
 
-fn negated(b: Weights) -> Weights
-    ensures { λ r. ⌜ (half r true ≡ half b false) × (half r false ≡ half b true) ⌝ }
+fn negated(b: Totals) -> Totals
+    ensures { λ r. ⌜ (totalAt r true ≡ totalAt b false) × (totalAt r false ≡ totalAt b true) ⌝ }
 {
     let f = b.plus;
     let g = b.minus;
-    Weights { plus: g, minus: f }
+    Totals { plus: g, minus: f }
 }
 
 // Whether an operator is a literal's.
@@ -196,10 +196,10 @@ fn place(x: u16) -> usize
     x as usize
 }
 
-// The weights of the tree whose records end at e. Each record is visited once.
-fn weigh(t: &[u16], e: usize, u: u32, limit: u32) -> Weights
+// The totals of the tree whose records end at e. Each record is visited once.
+fn part_totals(t: &[u16], e: usize, u: u32, limit: u32) -> Totals
     requires { ⌜ Scale u limit ⌝ }
-    ensures { λ r. ⌜ Weighs (now (t .entry)) e u limit r ⌝ }
+    ensures { λ r. ⌜ HasTotals (now (t .entry)) e u limit r ⌝ }
 {
     if e < 2 {
         return ones(limit);
@@ -211,7 +211,7 @@ fn weigh(t: &[u16], e: usize, u: u32, limit: u32) -> Weights
     if is_literal(operator) {
         return ones(limit);
     }
-    let b = weigh(t, e - 2, u, limit);
+    let b = part_totals(t, e - 2, u, limit);
     if operator == 2 {
         return negated(b);
     }
@@ -222,7 +222,7 @@ fn weigh(t: &[u16], e: usize, u: u32, limit: u32) -> Weights
     if e - 2 < m {
         return b;
     }
-    let a = weigh(t, m, u, limit);
+    let a = part_totals(t, m, u, limit);
     joined(operator, a, b, limit)
 }
 
@@ -230,7 +230,7 @@ fn weigh(t: &[u16], e: usize, u: u32, limit: u32) -> Weights
 pub fn node_count(t: &[u16], e: usize) -> u32
     ensures { λ r. ⌜ CountsNodes (now (t .entry)) e r ⌝ }
 {
-    let w = weigh(t, e, 1, 513);
+    let w = part_totals(t, e, 1, 513);
     let h = w.plus;
     capped(1, h.alone, 513)
 }
@@ -240,7 +240,7 @@ pub fn cell_count(t: &[u16], e: usize, u: u32) -> u32
     requires { ⌜ (1 ≤ u) × (u ≤ 64) ⌝ }
     ensures { λ r. ⌜ CountsCells (now (t .entry)) e u r ⌝ }
 {
-    let w = weigh(t, e, u, 1048577);
+    let w = part_totals(t, e, u, 1048577);
     let h = w.plus;
     capped(1, h.alone, 1048577)
 }

@@ -1,14 +1,14 @@
-use Rattle.core.specs.Counts.{half}
+use Rattle.core.specs.Counts.{totalAt}
 use Rattle.core.proofs.at.Statement.{statement}
 use Rattle.core.proofs.at.Tie as tie
 
 returns : tie.Need-returns
-unfolding half
+unfolding totalAt
 returns c =
     rw (c .before .if1 .taken)
 
 returns-2 : tie.Need-returns-2
-unfolding half
+unfolding totalAt
 returns-2 c =
     rw (c .before .if1 .left)
 

@@ -1,10 +1,10 @@
 use mathlib.Core.Path.{refl}
-use Rattle.core.specs.Counts.{half}
+use Rattle.core.specs.Counts.{totalAt}
 use Rattle.core.proofs.negated.Statement.{statement}
 use Rattle.core.proofs.negated.Tie as tie
 
 returns : tie.Need-returns
-unfolding half
+unfolding totalAt
 returns c =
     (refl, refl)
 

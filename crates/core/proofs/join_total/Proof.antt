@@ -4,8 +4,8 @@ use Rattle.syntax.specs.Stored.{joinOperator}
 use Rattle.core.specs.Core.{joinWith}
 use Rattle.core.proofs.Counting.{join-two, join-iff}
 use borrow.Author.Needs.{needs}
-use Rattle.core.proofs.join_weights.Statement.{statement}
-use Rattle.core.proofs.join_weights.Tie as tie
+use Rattle.core.proofs.join_total.Statement.{statement}
+use Rattle.core.proofs.join_total.Tie as tie
 
 flip-requires : tie.Need-flip-requires
 flip-requires c κs = search needs
@@ -73,8 +73,8 @@ returns-5 : tie.Need-returns-5
 returns-5 c =
     join-iff _ _ _ _ _ _ _ _ _ _ _ _ _ (c .before .before .before .before .before .before .before .before .before .before .before .flip .ensures) (c .before .before .before .before .before .before .before .before .before .before .if1 .left) (c .before .before .before .before .before .before .before .before .before .if2 .left) (c .before .before .before .before .before .if3 .left) (c .before .if4 .left) (c .before .before .before .before .at7 .ensures) (c .before .before .before .at8 .ensures) (c .before .before .pair4 .ensures) (c .before .before .before .before .before .before .before .before .at5 .ensures) (c .before .before .before .before .before .before .before .at6 .ensures) (c .before .before .before .before .before .before .pair3 .ensures) (c .pair5 .ensures)
 
-pub join-weights-spec : {M : Type 1} → statement M
-join-weights-spec =
+pub join-total-spec : {M : Type 1} → statement M
+join-total-spec =
     tie.close
     (tie.spec
     flip-requires
