@@ -25,9 +25,11 @@ jointTotal false (inside true) = 1
 jointTotal true (inside false) = 1
 jointTotal false (inside false) = 0
 
+-- An "and" of two parts, or their "or".
 unfoldable pub twoTotal : Bool → PartTotal → PartTotal → PartTotal
 twoTotal j f g above = jointTotal j above + f (inside j) + g (inside j)
 
+-- A part of the text, or its negation where p is false; a quantifier has u cells below each of its own.
 unfoldable pub partTotal : ℕ → Bool → Tree → PartTotal
 partTotal u p (leaf l) above = 1
 partTotal u p (neg a) above = partTotal u (not p) a above
@@ -54,6 +56,7 @@ pub record Scale (u limit : ℕ) : Type 0 where
   pub high : u ≤ 64
   pub limited : limit ≤ 1048577
 
+-- Whatever the totals of two parts are, these are the totals of their "and" or "or", and of the two joined by an operator.
 unfoldable pub PairHeld : ℕ → Bool → Total → Total → Total → Type 0
 PairHeld limit j f g r = (w x : PartTotal) → Held limit w f → Held limit x g → Held limit (twoTotal j w x) r
 

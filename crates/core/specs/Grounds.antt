@@ -1,4 +1,5 @@
--- What the functions over a stored tree ask and give for grounds 5 to 7: internal to the crate.
+-- Grounds 5 to 9 in their order, and what the functions over a stored tree give. Every claim is of each tree that the table
+-- keeps and whose letters are letters.
 use mathlib.Core.Path.{_≡_}
 use mathlib.Core.Bool.{Bool, false, cond}
 use mathlib.Core.List.{List, [], _∷_}

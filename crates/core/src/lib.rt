@@ -10,14 +10,15 @@ ghost use Rattle.core.specs.Names.{among, setNumber, declaredTwice, misd
 ghost use Rattle.core.specs.Grounds.{IsBound, Binds, NamesLiteral, HighLiteral, LiteralFaults, Finds, FindsFaults, Answers};
 ghost use Rattle.core.specs.Counts.{totalAt, HeldBoth, Scale, PairHeld, JoinHeld, BothJoined, Scaled, Quantified, literalCode, HasTotals, CountsNodes, CountsCells};
 
-// The totals of a part by what stands above it: the root or a quantifier, an "and", an "or".
+// The cells of a part for each cell of its depth (with one port: its nodes), up to a limit, by what stands above it: the
+// root or a quantifier, an "and", an "or".
 pub struct Total {
     pub alone: u32,
     pub and: u32,
     pub or: u32,
 }
 
-// The totals of a part and of its negation.
+// The totals of a part and of its negation. Both are kept, so that each record is visited once.
 pub struct Totals {
     pub plus: Total,
     pub minus: Total,
