@@ -1,9 +1,12 @@
 -- The first of grounds 5 to 9 that applies. Assumes nothing.
-use mathlib.Core.Path.{_≡_, sym, _∙_}
+use mathlib.Core.Path.{_≡_, sym, ap, _∙_}
 use mathlib.Core.Bool.{true, false}
 use mathlib.Core.List.{List}
 use Prim.Native.Nat.{ℕ, suc, _≤_, _<_}
+use native.Mathlib.Decide.{decLe}
 use native.Mathlib.Omega.{arith}
+use lib.ListN.{length, take, length-take}
+use lib.Seq.{take-all}
 use borrow.Author.Tests.{lt-ltb, le-ltb, ne-eqb}
 use Rattle.esol.specs.Formula.{nodeCount}
 use Rattle.esol.specs.Cells.{cellCount}
@@ -16,6 +19,7 @@ use Rattle.core.specs.declared.CoreAnswer.{CoreAnswer}
 use Rattle.core.specs.Core.{coreOf}
 use Rattle.core.specs.Names.{misdeclared, ground5, ground6, ground7, Lettered}
 use Rattle.core.specs.Counts.{CountsNodes, CountsCells}
+use Rattle.core.proofs.Finding.{long-list}
 use Rattle.core.specs.Grounds.{FindsFaults, coreGrounds, coreRefusal, Answered, Answers}
 
 -- an answer that gives a ground's number alone
@@ -110,3 +114,15 @@ module _ (t : List ℕ) (e : ℕ) (sets : List ℕ) (u : ℕ) (r : CoreAnswer) w
                   nodes-is = rw z (omega (arith, N sets a s));
                   cells-is = rw z (omega (arith, C sets a s));
                 }
+
+-- a reader need keep no more than 17 letters of the declared list
+long-refusal : (u : ℕ) (sets : List ℕ) (a : Tree) → 16 < length sets → coreRefusal u sets a ≡ 5
+unfolding ground5
+long-refusal u sets a h = at-5 u sets a (or-true-left _ _ (sym (long-list sets h)))
+
+pub refusal-prefix : (u : ℕ) (sets : List ℕ) (a : Tree) → coreRefusal u (take 17 sets) a ≡ coreRefusal u sets a
+refusal-prefix u sets a = go (decLe (length sets) 16)
+  where
+    go : Dec (length sets ≤ 16) → coreRefusal u (take 17 sets) a ≡ coreRefusal u sets a
+    go (yes h) = ap (λ (l : List ℕ). coreRefusal u l a) (take-all 17 sets (omega arith))
+    go (no n) = long-refusal u (take 17 sets) a (omega (arith, length-take 17 sets)) ∙ sym (long-refusal u sets a (omega arith))
