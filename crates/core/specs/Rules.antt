@@ -1,0 +1,56 @@
+-- The rules of a plan's formula: paper 01, section Plan table. The crate `plan` states them in the same words.
+use mathlib.Core.Bool.{Bool, true, false, cond, not, _&&_}
+use Prim.Native.Nat.{ℕ, suc}
+use lib.Dec.{eqb, leb, ltb}
+use Rattle.esol.specs.Formula.{Literal, isin, notin, port, size, Node, root, all, any, and, or, lit, Forest, none, tree, kindNumber, childDepth}
+
+-- A rule for every node of a forest at depth d, by the node, its children and its depth.
+unfoldable pub everyNode : (Node → Forest → ℕ → Bool) → Forest → ℕ → Bool
+everyNode rule none d = true
+everyNode rule (tree n c s) d = rule n c d && everyNode rule c (childDepth n d) && everyNode rule s d
+
+unfoldable pub treeCount : Forest → ℕ
+treeCount none = 0
+treeCount (tree n c s) = suc (treeCount s)
+
+-- "Root and quantifiers have one child, and/or two or more, literals none": kinds 0 to 2, 3 and 4, 5 to 8.
+unfoldable pub arityRule : ℕ → ℕ → Bool
+arityRule kind children = cond (leb kind 2) (eqb children 1) (cond (leb kind 4) (leb 2 children) (eqb children 0))
+
+-- "No "and" is a child of "and", no "or" of "or"": by the kind above and the node's kind.
+unfoldable pub maySit : ℕ → ℕ → Bool
+maySit above kind = not (eqb above kind && leb 3 above && leb above 4)
+
+unfoldable pub nestingRule : ℕ → Forest → Bool
+nestingRule above none = true
+nestingRule above (tree n c s) = maySit above (kindNumber n) && nestingRule above s
+
+-- "Depth [..] at most 3."
+unfoldable pub depthRule : ℕ → Bool
+depthRule d = leb d 3
+
+-- "A variable's number is below the depth"; a set's number is below n; "Zero to 64 is the range of a size constant."
+unfoldable pub literalRule : ℕ → ℕ → Literal → Bool
+literalRule sets d (isin v S) = ltb v d && ltb S sets
+literalRule sets d (notin v S) = ltb v d && ltb S sets
+literalRule sets d (port r v w) = ltb v d && ltb w d
+literalRule sets d (size r S c) = ltb S sets && leb c 64
+
+-- "and only node 0 is a root": a node below it.
+unfoldable pub innerRule : ℕ → Node → ℕ → Bool
+innerRule sets root d = false
+innerRule sets all d = true
+innerRule sets any d = true
+innerRule sets and d = true
+innerRule sets or d = true
+innerRule sets (lit l) d = literalRule sets d l
+
+unfoldable pub nodeRule : ℕ → Node → Forest → ℕ → Bool
+nodeRule sets n c d =
+    innerRule sets n d && depthRule d && arityRule (kindNumber n) (treeCount c) && nestingRule (kindNumber n) c
+
+-- The formula is one root over nodes that keep their rules.
+unfoldable pub formulaRule : ℕ → Forest → Bool
+formulaRule sets none = false
+formulaRule sets (tree n c s) =
+    eqb (kindNumber n) 0 && eqb (treeCount s) 0 && arityRule (kindNumber n) (treeCount c) && everyNode (nodeRule sets) c 0
