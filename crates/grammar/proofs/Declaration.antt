@@ -136,7 +136,7 @@ empty : (xs : List ℕ) → length xs ≡ 0 → xs ≡ []
 empty [] e = refl
 empty (x ∷ xs) e = absurd (omega arith)
 
-declared-some : (s xs : List ℕ) (i : ℕ) → (length xs ≡ 0 → ⊥) → declared s xs i ≡ test (eqb (kindAt s i) 2) (λ j. ended s xs (parseAt (4 * length s + 4) formula s j)) (λ j. failed) (nextAt s i)
+pub declared-some : (s xs : List ℕ) (i : ℕ) → (length xs ≡ 0 → ⊥) → declared s xs i ≡ test (eqb (kindAt s i) 2) (λ j. ended s xs (parseAt (4 * length s + 4) formula s j)) (λ j. failed) (nextAt s i)
 declared-some s [] i z = absurd (z refl)
 declared-some s (x ∷ xs) i z = refl
 

@@ -98,13 +98,13 @@ module _ (l m k : Level) (J : Joins l m k) (s before : List ℕ) (at n d : ℕ) 
   step-no : (g i : ℕ) → parseAt g m s i ≡ missing → parseAt (suc g) l s i ≡ missing
   step-no g i e = rw (J .step, e)
 
-  step-one : (g i j : ℕ) (a : Tree) → parseAt g m s i ≡ found a j → joinSign l (kindAt s j) ≡ none → parseAt (suc g) l s i ≡ found a j
+  pub step-one : (g i j : ℕ) (a : Tree) → parseAt g m s i ≡ found a j → joinSign l (kindAt s j) ≡ none → parseAt (suc g) l s i ≡ found a j
   step-one g i j a e z = rw (J .step, e, z)
 
   step-bad : (g i j : ℕ) (a : Tree) (q : Join) → parseAt g m s i ≡ found a j → joinSign l (kindAt s j) ≡ some q → parseAt g k s (nextAt s j) ≡ missing → parseAt (suc g) l s i ≡ missing
   step-bad g i j a q e z e′ = rw (J .step, e, z, e′)
 
-  step-more : (g i j j′ : ℕ) (a b : Tree) (q : Join) → parseAt g m s i ≡ found a j → joinSign l (kindAt s j) ≡ some q → parseAt g k s (nextAt s j) ≡ found b j′
+  pub step-more : (g i j j′ : ℕ) (a b : Tree) (q : Join) → parseAt g m s i ≡ found a j → joinSign l (kindAt s j) ≡ some q → parseAt g k s (nextAt s j) ≡ found b j′
       → parseAt (suc g) l s i ≡ found (join q a b) j′
   step-more g i j j′ a b q e z e′ = rw (J .step, e, z, e′)
 
@@ -246,24 +246,24 @@ module _ (s before : List ℕ) (at n d payload operator : ℕ) (room : Room s be
 -- units, by their first token
 
 module _ (g : ℕ) (s : List ℕ) (i : ℕ) where
-  unit-bracket : kindAt s i ≡ 3 → parseAt (suc g) unit s i ≡ closed s (parseAt g formula s (nextAt s i))
+  pub unit-bracket : kindAt s i ≡ 3 → parseAt (suc g) unit s i ≡ closed s (parseAt g formula s (nextAt s i))
   unfolding parseAt
   unit-bracket e = rw e
 
-  unit-tilde : kindAt s i ≡ 7 → parseAt (suc g) unit s i ≡ mapPart neg (parseAt g unit s (nextAt s i))
+  pub unit-tilde : kindAt s i ≡ 7 → parseAt (suc g) unit s i ≡ mapPart neg (parseAt g unit s (nextAt s i))
   unfolding parseAt
   unit-tilde e = rw e
 
-  unit-variable : kindAt s i ≡ 22 → parseAt (suc g) unit s i ≡ variableLiteral s (valueAt s i) (nextAt s i)
+  pub unit-variable : kindAt s i ≡ 22 → parseAt (suc g) unit s i ≡ variableLiteral s (valueAt s i) (nextAt s i)
   unfolding parseAt
   unit-variable e = rw e
 
-  unit-hash : kindAt s i ≡ 15 → parseAt (suc g) unit s i ≡ sizeLiteral s (nextAt s i)
+  pub unit-hash : kindAt s i ≡ 15 → parseAt (suc g) unit s i ≡ sizeLiteral s (nextAt s i)
   unfolding parseAt
   unit-hash e = rw e
 
   module _ (bracket : eqb (kindAt s i) 3 ≡ false) (tilde : eqb (kindAt s i) 7 ≡ false) where
-    unit-quantifier : (q : Quantifier) → quantifierSign (kindAt s i) ≡ some q → parseAt (suc g) unit s i ≡ bound s (parseAt g unit s) q (nextAt s i)
+    pub unit-quantifier : (q : Quantifier) → quantifierSign (kindAt s i) ≡ some q → parseAt (suc g) unit s i ≡ bound s (parseAt g unit s) q (nextAt s i)
     unfolding parseAt
     unit-quantifier q e = rw (bracket, tilde, e)
 
