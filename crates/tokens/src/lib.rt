@@ -363,3 +363,18 @@ pub fn known_bytes(text: &[u8]) -> bool
     }
     true
 }
+
+// The reading position, which moves over the text.
+pub struct Position {
+    pub at: usize,
+}
+
+// The next token; the position moves past it.
+pub fn next_token<'t, 'p>(text: &'t [u8], position: &'p mut Position) -> Token
+    requires { ⌜ now position .at ≤ length (now text) ⌝ }
+    ensures { λ r. ⌜ (r ≡ tokenAt (now (text .entry)) (now (position .entry) .at)) × (now (position .exit) .at ≡ tokenAt (now (text .entry)) (now (position .entry) .at) .next) ⌝ }
+{
+    let t = token_at(text, position.at);
+    position.at = t.next;
+    t
+}
