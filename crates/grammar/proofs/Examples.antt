@@ -3,7 +3,7 @@ use mathlib.Core.Path.{_≡_, refl}
 use mathlib.Core.List.{[], _∷_}
 use Rattle.esol.specs.Formula.{le, ne, ge, relationOf, isin, notin, port, size}
 use Rattle.syntax.specs.Tree.{forall, exists, conj, disj, rev, iff, leaf, neg, par, bind, join}
-use Rattle.tokens.specs.Tokens.{blanks, afterBlanks, signOf, digits, numberOf, runAt, runToken, hereAt, tokenAt}
+use Rattle.tokens.specs.Tokens.{blanks, afterBlanks, singleKind, signOf, digits, numberOf, runAt, runToken, hereAt, tokenAt}
 use Rattle.grammar.specs.Parser.{arrowOf, quantifierOf, parseAt, lettersAt, afterLetters, failed, read, parsed}
 
 pub examples :
@@ -47,5 +47,5 @@ pub examples :
     -- [] x:S
     (parsed (91 ∷ 93 ∷ 32 ∷ 120 ∷ 58 ∷ 83 ∷ [])
     ≡ failed)
-unfolding parsed parseAt lettersAt afterLetters arrowOf quantifierOf relationOf tokenAt hereAt afterBlanks blanks signOf runToken runAt digits numberOf
+unfolding parsed parseAt lettersAt afterLetters arrowOf quantifierOf relationOf tokenAt hereAt afterBlanks blanks singleKind signOf runToken runAt digits numberOf
 examples = (refl, refl, refl, refl, refl, refl, refl, refl, refl, refl, refl, refl, refl)

@@ -4,7 +4,7 @@ use mathlib.Core.Path.{_≡_, refl}
 use mathlib.Core.List.{List, [], _∷_}
 use mathlib.Core.Bool.{true, false}
 use lib.Dec.{eqb}
-use Rattle.tokens.specs.Tokens.{endOfText, bad, variable, number, leftArrow, doubleArrow, less, atMost, equal, greater, pick, blanks, afterBlanks, signOf, digits, numberOf, runAt, runToken, hereAt, tokenAt, blanksAndSigns, among, knownByte, knownBytes}
+use Rattle.tokens.specs.Tokens.{endOfText, bad, variable, number, leftArrow, doubleArrow, less, atMost, equal, greater, pick, blanks, afterBlanks, singleKind, signOf, digits, numberOf, runAt, runToken, hereAt, tokenAt, blanksAndSigns, among, knownByte, knownBytes}
 
 -- kind and value of the first n tokens at or after `at`, up to the end of the text
 pub tokens : ℕ → List ℕ → ℕ → List (ℕ × ℕ)
@@ -38,5 +38,5 @@ pub examples :
     (knownBytes (120 ∷ 9 ∷ 121 ∷ []) ≡ false) ×
     -- - !
     (knownBytes (45 ∷ 32 ∷ 33 ∷ []) ≡ true)
-unfolding tokens tokenAt hereAt afterBlanks blanks signOf runToken runAt digits numberOf knownBytes knownByte among blanksAndSigns
+unfolding tokens tokenAt hereAt afterBlanks blanks singleKind signOf runToken runAt digits numberOf knownBytes knownByte among blanksAndSigns
 examples = (refl, refl, refl, refl, refl, refl, refl, refl, refl, refl, refl, refl, refl)

@@ -12,7 +12,7 @@ use lib.ListN.{length, getD, drop, drop-of-length-le, length-drop, List·getD-eq
 use lib.Seq.{drop-cons}
 use lib.Dec.{eqb, leb, ltb}
 use Rattle.esol.proofs.Lists.{and-left, and-right}
-use Rattle.tokens.specs.Tokens.{pick, between, isDigit, isSet, isVariable, blank, blanks, afterBlanks, signOf, digits, numberOf, runAt, runToken, hereAt, tokenAt, among, knownByte, knownBytes}
+use Rattle.tokens.specs.Tokens.{pick, between, isDigit, isSet, isVariable, blank, blanks, afterBlanks, oneOrTwo, sign, signOf, digits, numberOf, runAt, runToken, hereAt, tokenAt, among, knownByte, knownBytes}
 use Rattle.tokens.specs.declared.Token.{Token}
 use Rattle.tokens.specs.declared.Sign.{Sign}
 
@@ -114,23 +114,22 @@ record Short (b c : ℕ) (g : Sign) : Type 0 where
   pub high : g .len ≤ 1 + min 1 b + min 1 c
 
 module _ (a b c : ℕ) where
-  by-first : (k : ℕ) {x y : Sign} → Short b c x → Short b c y → Short b c (pick (eqb a k) x y)
-  by-first k p q = when (Short b c) (eqb a k) (λ _. p) (λ _. q)
+  short-two : (k long short : ℕ) → 1 ≤ k → Short b c (oneOrTwo b k long short)
+  short-two k long short h = when (Short b c) (eqb b k) (λ e. let y = eqb-true b k e in omega arith) (λ _. omega arith)
 
-  by-second : (k : ℕ) {x y : Sign} → (b ≡ k → Short b c x) → Short b c y → Short b c (pick (eqb b k) x y)
-  by-second k p q = when (Short b c) (eqb b k) (λ e. p (eqb-true _ _ e)) (λ _. q)
+  short-less : Short b c (pick (eqb b 45) (pick (eqb c 62) (sign 12 3) (sign 11 2)) (oneOrTwo b 61 17 16))
+  short-less =
+      when (Short b c) (eqb b 45)
+      (λ e. let y = eqb-true b 45 e in when (Short b c) (eqb c 62) (λ f. let z = eqb-true c 62 f in omega arith) (λ _. omega arith))
+      (λ _. short-two 61 17 16 (omega arith))
 
   sign-short : Short b c (signOf a b c)
   unfolding signOf
   sign-short =
-      by-first 91 (omega arith) (by-first 93 (omega arith) (by-first 40 (omega arith) (by-first 41 (omega arith)
-      (by-first 64 (omega arith) (by-first 63 (omega arith) (by-first 126 (omega arith) (by-first 38 (omega arith) (by-first 124 (omega arith)
-      (by-first 58 (omega arith) (by-first 47 (omega arith) (by-first 35 (omega arith) (by-first 61 (omega arith)
-      (by-first 45 (by-second 62 (λ e. omega arith) (omega arith))
-      (by-first 33 (by-second 61 (λ e. omega arith) (omega arith))
-      (by-first 62 (by-second 61 (λ e. omega arith) (omega arith))
-      (by-first 60 (by-second 61 (λ e. omega arith) (by-second 45 (λ e. when (Short b c) (eqb c 62) (λ f. omega (arith, eqb-true c 62 f)) (λ _. omega arith)) (omega arith)))
-      (omega arith)))))))))))))))))
+      when (Short b c) (eqb a 45) (λ _. short-two 62 10 25 (omega arith)) (λ _.
+      when (Short b c) (eqb a 33) (λ _. short-two 61 19 25 (omega arith)) (λ _.
+      when (Short b c) (eqb a 62) (λ _. short-two 61 20 21 (omega arith)) (λ _.
+      when (Short b c) (eqb a 60) (λ _. short-less) (λ _. omega arith))))
 
 lt-or-le : (a b : ℕ) → (a < b) ⊎ (b ≤ a)
 lt-or-le a b = elim (decLe b a) [ yes h ↦ inr h | no f ↦ inl (omega arith) ]

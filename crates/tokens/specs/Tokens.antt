@@ -121,22 +121,28 @@ afterBlanks s at = at + blanks (drop at s)
 abbrev pub sign : ℕ → ℕ → Sign
 sign k n = record { kind = k; len = n }
 
+-- The signs of one byte that begin no longer one: [ ] ( ) @ ? ~ & | : / # =
+unfoldable pub singleKind : ℕ → ℕ
+singleKind a =
+    pick (eqb a 91) leftSquare (pick (eqb a 93) rightSquare (pick (eqb a 40) leftBracket (pick (eqb a 41) rightBracket
+    (pick (eqb a 64) atSign (pick (eqb a 63) questionMark (pick (eqb a 126) tilde (pick (eqb a 38) ampersand (pick (eqb a 124) bar
+    (pick (eqb a 58) colon (pick (eqb a 47) slash (pick (eqb a 35) hash (pick (eqb a 61) equal bad))))))))))))
+
+abbrev pub oneOrTwo : ℕ → ℕ → ℕ → ℕ → Sign
+oneOrTwo b second long short = pick (eqb b second) (sign long 2) (sign short 1)
+
 -- "taking the longest token": the sign that the bytes a, b, c begin with. "`-` and `!` alone fall to 3": they are bad.
 unfoldable pub signOf : ℕ → ℕ → ℕ → Sign
 signOf a b c =
-    let is : ℕ → ℕ → Sign → Sign → Sign = λ x k. pick (eqb x k) in
-    -- [ ] ( ) @ ? ~ & |
-    is a 91 (sign leftSquare 1) (is a 93 (sign rightSquare 1) (is a 40 (sign leftBracket 1) (is a 41 (sign rightBracket 1)
-    (is a 64 (sign atSign 1) (is a 63 (sign questionMark 1) (is a 126 (sign tilde 1) (is a 38 (sign ampersand 1) (is a 124 (sign bar 1)
-    -- : / # =
-    (is a 58 (sign colon 1) (is a 47 (sign slash 1) (is a 35 (sign hash 1) (is a 61 (sign equal 1)
-    -- ->, !=, >= and >
-    (is a 45 (is b 62 (sign rightArrow 2) (sign bad 1))
-    (is a 33 (is b 61 (sign unequal 2) (sign bad 1))
-    (is a 62 (is b 61 (sign atLeast 2) (sign greater 1))
-    -- <=, <->, <- and <
-    (is a 60 (is b 61 (sign atMost 2) (is b 45 (is c 62 (sign doubleArrow 3) (sign leftArrow 2)) (sign less 1)))
-    (sign bad 1)))))))))))))))))
+    -- ->
+    pick (eqb a 45) (oneOrTwo b 62 rightArrow bad)
+    -- !=
+    (pick (eqb a 33) (oneOrTwo b 61 unequal bad)
+    -- >= and >
+    (pick (eqb a 62) (oneOrTwo b 61 atLeast greater)
+    -- <->, <-, <= and <
+    (pick (eqb a 60) (pick (eqb b 45) (pick (eqb c 62) (sign doubleArrow 3) (sign leftArrow 2)) (oneOrTwo b 61 atMost less))
+    (sign (singleKind a) 1))))
 
 -- How many digits stand in front.
 unfoldable pub digits : List ℕ → ℕ

@@ -3,7 +3,7 @@ ghost use mathlib.Core.Path.{_≡_};
 ghost use mathlib.Core.Bool.{true};
 ghost use Prim.Native.Nat.{ℕ, _+_, _-_, _*_, _≤_, _<_, min};
 ghost use lib.ListN.{length, getD};
-ghost use Rattle.tokens.specs.Tokens.{between, isDigit, isVariable, isSet, afterBlanks, signOf, runAt, runToken, hereAt, tokenAt, among, knownByte, knownBytes};
+ghost use Rattle.tokens.specs.Tokens.{between, isDigit, isVariable, isSet, afterBlanks, singleKind, oneOrTwo, signOf, runAt, runToken, hereAt, tokenAt, among, knownByte, knownBytes};
 
 // The kinds of tokens. `-` and `!` alone and a digit run such as 064 are bad, and so is a byte of no token. The six
 // relations stand in the order of their numbers in the plan table.
@@ -110,118 +110,72 @@ fn after_blanks(text: &[u8], at: usize) -> usize
     i
 }
 
+// The kind of a sign of one byte that begins no longer one; bad where there is none.
+fn single(a: u8) -> u8
+    ensures { λ r. ⌜ r ≡ singleKind a ⌝ }
+{
+    match a {
+        b'[' => LEFT_SQUARE,
+        b']' => RIGHT_SQUARE,
+        b'(' => LEFT_BRACKET,
+        b')' => RIGHT_BRACKET,
+        b'@' => AT_SIGN,
+        b'?' => QUESTION_MARK,
+        b'~' => TILDE,
+        b'&' => AMPERSAND,
+        b'|' => BAR,
+        b':' => COLON,
+        b'/' => SLASH,
+        b'#' => HASH,
+        b'=' => EQUAL,
+        _ => BAD,
+    }
+}
+
+// A sign of two bytes where b is its second, else one of one byte.
+fn one_or_two(b: u8, second: u8, long: u8, short: u8) -> Sign
+    ensures { λ r. ⌜ r ≡ oneOrTwo b second long short ⌝ }
+{
+    if b == second {
+        return Sign { kind: long, len: 2 };
+    }
+    Sign {
+        kind: short,
+        len: 1,
+    }
+}
+
 // The sign that the bytes a, b, c begin with, the longest; bad where there is none.
 fn sign_at(a: u8, b: u8, c: u8) -> Sign
     ensures { λ r. ⌜ r ≡ signOf a b c ⌝ }
 {
-    match a {
-        b'[' => Sign {
-            kind: LEFT_SQUARE,
-            len: 1,
-        },
-        b']' => Sign {
-            kind: RIGHT_SQUARE,
-            len: 1,
-        },
-        b'(' => Sign {
-            kind: LEFT_BRACKET,
-            len: 1,
-        },
-        b')' => Sign {
-            kind: RIGHT_BRACKET,
-            len: 1,
-        },
-        b'@' => Sign {
-            kind: AT_SIGN,
-            len: 1,
-        },
-        b'?' => Sign {
-            kind: QUESTION_MARK,
-            len: 1,
-        },
-        b'~' => Sign {
-            kind: TILDE,
-            len: 1,
-        },
-        b'&' => Sign {
-            kind: AMPERSAND,
-            len: 1,
-        },
-        b'|' => Sign { kind: BAR, len: 1 },
-        b':' => Sign {
-            kind: COLON,
-            len: 1,
-        },
-        b'/' => Sign {
-            kind: SLASH,
-            len: 1,
-        },
-        b'#' => Sign { kind: HASH, len: 1 },
-        b'=' => Sign {
-            kind: EQUAL,
-            len: 1,
-        },
-        b'-' => {
-            if b == b'>' {
-                Sign {
-                    kind: RIGHT_ARROW,
-                    len: 2,
-                }
-            } else {
-                Sign { kind: BAD, len: 1 }
-            }
-        }
-        b'!' => {
-            if b == b'=' {
-                Sign {
-                    kind: UNEQUAL,
-                    len: 2,
-                }
-            } else {
-                Sign { kind: BAD, len: 1 }
-            }
-        }
-        b'>' => {
-            if b == b'=' {
-                Sign {
-                    kind: AT_LEAST,
-                    len: 2,
-                }
-            } else {
-                Sign {
-                    kind: GREATER,
-                    len: 1,
-                }
-            }
-        }
-        b'<' => less_at(b, c),
-        _ => Sign { kind: BAD, len: 1 },
+    if a == b'-' {
+        return one_or_two(b, b'>', RIGHT_ARROW, BAD);
     }
-}
-
-// The sign that `<` and the bytes b, c begin with.
-fn less_at(b: u8, c: u8) -> Sign
-    ensures { λ r. ⌜ r ≡ signOf 60 b c ⌝ }
-{
-    if b == b'=' {
-        Sign {
-            kind: AT_MOST,
-            len: 2,
-        }
-    } else if b == b'-' {
-        if c == b'>' {
-            Sign {
-                kind: DOUBLE_ARROW,
-                len: 3,
-            }
-        } else {
-            Sign {
-                kind: LEFT_ARROW,
-                len: 2,
-            }
-        }
-    } else {
-        Sign { kind: LESS, len: 1 }
+    if a == b'!' {
+        return one_or_two(b, b'=', UNEQUAL, BAD);
+    }
+    if a == b'>' {
+        return one_or_two(b, b'=', AT_LEAST, GREATER);
+    }
+    if a != b'<' {
+        return Sign {
+            kind: single(a),
+            len: 1,
+        };
+    }
+    if b != b'-' {
+        return one_or_two(b, b'=', AT_MOST, LESS);
+    }
+    if c == b'>' {
+        return Sign {
+            kind: DOUBLE_ARROW,
+            len: 3,
+        };
+    }
+    Sign {
+        kind: LEFT_ARROW,
+        len: 2,
     }
 }
 
