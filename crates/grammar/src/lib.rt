@@ -30,6 +30,25 @@ ghost use Rattle.grammar.specs.Grammar.{unit, conjunction, disjunction, 
 ghost use Rattle.grammar.specs.Parser.{variableLiteral, sizeLiteral};
 ghost use Rattle.grammar.specs.Contract.{Room, Outcome, Reads, Prefixed, Operands, Lettered, Lent, Parsed};
 
+// Operators of records (crate syntax, specs/Stored.antt). Those of the other signs follow from the kinds of tokens: an
+// arrow's is its kind less ARROW, a quantifier's its kind less QUANTIFIER, that of `v < w` and its kin is the relation's
+// kind, and that of `#S < 9` and its kin is SIZE more.
+const IN: u8 = 0;
+
+const NOT_IN: u8 = 1;
+
+const NEGATION: u8 = 2;
+
+const CONJUNCTION: u16 = 5;
+
+const DISJUNCTION: u16 = 6;
+
+const ARROW: u16 = 3;
+
+const QUANTIFIER: u8 = 2;
+
+const SIZE: u8 = 8;
+
 // What a reader tells: whether it read, whether more than 64 stand around a token (ground 4), the position after what it
 // read, and how many numbers stand in the table.
 pub struct Reading {
@@ -61,6 +80,7 @@ fn or(a: bool, b: bool) -> bool
     if a { true } else { b }
 }
 
+// Nothing of the grammar stands here.
 fn refused() -> Reading
     ensures { λ r. ⌜ r .ok ≡ false ⌝ }
 {
@@ -72,7 +92,7 @@ fn refused() -> Reading
     }
 }
 
-// Writes one record at n.
+// Writes one record at n: a payload and an operator.
 fn push(out: &mut [u16], n: usize, payload: u16, operator: u16)
     requires { ⌜ n + 2 ≤ length (now out) ⌝ }
     ensures { λ _. ⌜ now (out .exit) ≡ set (set (now (out .entry)) n payload) (n + 1) operator ⌝ }
@@ -81,6 +101,7 @@ fn push(out: &mut [u16], n: usize, payload: u16, operator: u16)
     out[n + 1] = operator;
 }
 
+// "A formula is one disjunction, or two with an arrow between."
 fn formula(text: &[u8], at: usize, out: &mut [u16], n: usize, d: usize) -> Reading
     requires { ⌜ Room (now text) (now out) at n d ⌝ }
     ensures { λ r. ⌜ Reads formula (now (text .entry)) (now (out .entry)) (now (out .exit)) at n d r ⌝ }
@@ -97,7 +118,7 @@ fn formula(text: &[u8], at: usize, out: &mut [u16], n: usize, d: usize) -> Readi
     if !b.ok {
         return b;
     }
-    push(out, b.count, a.count as u16, (t.kind as u16) - 3);
+    push(out, b.count, a.count as u16, (t.kind as u16) - ARROW);
     Reading {
         ok: true,
         deep: or(a.deep, b.deep),
@@ -106,6 +127,7 @@ fn formula(text: &[u8], at: usize, out: &mut [u16], n: usize, d: usize) -> Readi
     }
 }
 
+// "A disjunction joins conjunctions by `|`"
 fn disjunction(text: &[u8], at: usize, out: &mut [u16], n: usize, d: usize) -> Reading
     requires { ⌜ Room (now text) (now out) at n d ⌝ }
     ensures { λ r. ⌜ Reads disjunction (now (text .entry)) (now (out .entry)) (now (out .exit)) at n d r ⌝ }
@@ -122,7 +144,7 @@ fn disjunction(text: &[u8], at: usize, out: &mut [u16], n: usize, d: usize) -> R
     if !b.ok {
         return b;
     }
-    push(out, b.count, a.count as u16, 6);
+    push(out, b.count, a.count as u16, DISJUNCTION);
     Reading {
         ok: true,
         deep: or(a.deep, b.deep),
@@ -131,6 +153,7 @@ fn disjunction(text: &[u8], at: usize, out: &mut [u16], n: usize, d: usize) -> R
     }
 }
 
+// "a conjunction joins units by `&`"
 fn conjunction(text: &[u8], at: usize, out: &mut [u16], n: usize, d: usize) -> Reading
     requires { ⌜ Room (now text) (now out) at n d ⌝ }
     ensures { λ r. ⌜ Reads conjunction (now (text .entry)) (now (out .entry)) (now (out .exit)) at n d r ⌝ }
@@ -147,7 +170,7 @@ fn conjunction(text: &[u8], at: usize, out: &mut [u16], n: usize, d: usize) -> R
     if !b.ok {
         return b;
     }
-    push(out, b.count, a.count as u16, 5);
+    push(out, b.count, a.count as u16, CONJUNCTION);
     Reading {
         ok: true,
         deep: or(a.deep, b.deep),
@@ -156,6 +179,7 @@ fn conjunction(text: &[u8], at: usize, out: &mut [u16], n: usize, d: usize) -> R
     }
 }
 
+// "A unit is `~` unit, `@v` unit (for all), `?v` unit (exists), a bracketed formula, or a literal"
 fn unit(text: &[u8], at: usize, out: &mut [u16], n: usize, d: usize) -> Reading
     requires { ⌜ Room (now text) (now out) at n d ⌝ }
     ensures { λ r. ⌜ Reads unit (now (text .entry)) (now (out .entry)) (now (out .exit)) at n d r ⌝ }
@@ -178,14 +202,14 @@ fn unit(text: &[u8], at: usize, out: &mut [u16], n: usize, d: usize) -> Reading
         };
     }
     if t.kind == TILDE {
-        return prefixed(text, t.next, out, n, d, 0, 2);
+        return prefixed(text, t.next, out, n, d, 0, NEGATION);
     }
     if within(AT_SIGN, t.kind, QUESTION_MARK) {
         let v = token_at(text, t.next);
         if v.kind != VARIABLE {
             return refused();
         }
-        return prefixed(text, v.next, out, n, d, v.value, t.kind - 2);
+        return prefixed(text, v.next, out, n, d, v.value, t.kind - QUANTIFIER);
     }
     if t.kind == VARIABLE {
         return variable_literal(text, t.value, t.next, out, n, d);
@@ -261,10 +285,10 @@ fn variable_literal(text: &[u8], v: u8, at: usize, out: &mut [u16], n: usize, d:
 {
     let t = token_at(text, at);
     if t.kind == COLON {
-        return operand(text, v, 0, SET, t.next, out, n, d);
+        return operand(text, v, IN, SET, t.next, out, n, d);
     }
     if t.kind == SLASH {
-        return operand(text, v, 1, SET, t.next, out, n, d);
+        return operand(text, v, NOT_IN, SET, t.next, out, n, d);
     }
     if within(LESS, t.kind, GREATER) {
         return operand(text, v, t.kind, VARIABLE, t.next, out, n, d);
@@ -285,7 +309,7 @@ fn size_literal(text: &[u8], at: usize, out: &mut [u16], n: usize, d: usize) -> 
     if !within(LESS, t.kind, GREATER) {
         return refused();
     }
-    operand(text, s.value, t.kind + 8, NUMBER, t.next, out, n, d)
+    operand(text, s.value, t.kind + SIZE, NUMBER, t.next, out, n, d)
 }
 
 // The set letters at `at`.
@@ -325,7 +349,7 @@ fn no_syntax() -> Syntax
     }
 }
 
-// Reads a whole text; its tree goes into `out`.
+// "Text: `[`, one or more upper-case set letters, `]`, formula.": reads a whole text; its tree goes into `out`.
 pub fn parse(text: &[u8], out: &mut [u16]) -> Syntax
     requires { ⌜ Lent (now text) (now out) ⌝ }
     ensures { λ r. ⌜ Parsed (now (text .entry)) (now (out .exit)) r ⌝ }
