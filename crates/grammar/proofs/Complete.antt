@@ -94,34 +94,42 @@ bracket-found s i a k y on within F z (suc g) h = unit-bracket g s i y ∙ ap (c
 bound-found : (s : List ℕ) (u : ℕ → Part) (q : Quantifier) (i : ℕ) → kindAt s i ≡ 22 → bound s u q i ≡ mapPart (bind q (valueAt s i)) (u (nextAt s i))
 bound-found s u q i e = rw e
 
+-- two parts with a sign between
+paired : (s : List ℕ) (l m k : Level) → Joins l m k → (i j : ℕ) (xs ys : List Symbol) (t : Symbol) (q : Join) (a b : Tree) → i ≤ length s → Tokens s i (xs ++ (t ∷ ys)) j → joinSign l (t .kind) ≡ some q
+    → ((n : ℕ) → Tokens s i xs n → kindAt s n ≡ t .kind → Finds s m i a n) → ((n : ℕ) → n ≤ length s → Tokens s n ys j → Finds s k n b j) → Finds s l i (join q a b) j
+paired s l m k J i j xs ys t q a b h T y F G =
+    let w = split s i xs (t ∷ ys) j T in
+    let p = span s i xs (w .mid) h (w .left) in
+    let u = first s (w .mid) t ys j (w .right) in
+    let v = token-span s (w .mid) (p .within) (u .token) in
+    pair s l m k J i q a b (w .mid) j (F (w .mid) (w .left) (u .kind)) (p .on) (v .0) (v .1) (ap (joinSign l) (u .kind) ∙ y) (G (nextAt s (w .mid)) (v .1) (u .rest))
+
+-- a literal that begins with a variable
+three-found : (s : List ℕ) (i j : ℕ) (x t m : Symbol) (make : ℕ → ℕ → Literal) (wanted : ℕ) → x .kind ≡ 22
+    → (kindAt s (nextAt s i) ≡ t .kind → (v : ℕ) → variableLiteral s v (nextAt s i) ≡ operand s wanted (make v) (nextAt s (nextAt s i)))
+    → m .kind ≡ wanted → i ≤ length s → Tokens s i (x ∷ t ∷ m ∷ []) j → Finds s unit i (leaf (make (x .value) (m .value))) j
+three-found s i j x t m make wanted y step e h T =
+    let u = first s i x (t ∷ m ∷ []) j T in
+    let v = token-span s i h (u .token) in
+    let u′ = first s (nextAt s i) t (m ∷ []) j (u .rest) in
+    let v′ = token-span s (nextAt s i) (v .1) (u′ .token) in
+    rw (← u .value)
+    (at-once s i (leaf (make (valueAt s i) (m .value))) j (λ g. unit-variable g s i (u .kind ∙ y) ∙ step (u′ .kind) (valueAt s i)
+    ∙ operand-found s wanted (make (valueAt s i)) m (nextAt s (nextAt s i)) j e (v′ .1) (u′ .rest)))
+
 pub complete : {l : Level} {xs : List Symbol} {a : Tree} → Derives l xs a → (s : List ℕ) (i j : ℕ) → i ≤ length s → Tokens s i xs j → Follow l (kindAt s j) → Finds s l i a j
 complete (one-disjunction {a = a} d) s i j h T F = lone s formula disjunction disjunction joins-formula i a j (complete d s i j h T (F .0, F .1)) (F .2)
 complete (one-conjunction {a = a} d) s i j h T F = lone s disjunction conjunction disjunction joins-disjunction i a j (complete d s i j h T (F .0)) (F .1)
 complete (one-unit {a = a} d) s i j h T F = lone s conjunction unit conjunction joins-conjunction i a j (complete d s i j h T tt) F
 complete (arrow t {j = q} {xs = xs} {ys = ys} {a = a} {b = b} d A e) s i j h T F =
-    let w = split s i xs (t ∷ ys) j T in
-    let p = span s i xs (w .mid) h (w .left) in
-    let u = first s (w .mid) t ys j (w .right) in
-    let v = token-span s (w .mid) (p .within) (u .token) in
-    pair s formula disjunction disjunction joins-formula i q a b (w .mid) j
-    (complete d s i (w .mid) h (w .left) (rw (u .kind) (arrow-follows A))) (p .on) (v .0) (v .1) (ap (joinSign formula) (u .kind) ∙ arrow-sign A)
-    (complete e s (nextAt s (w .mid)) j (v .1) (u .rest) (F .0, F .1))
+    paired s formula disjunction disjunction joins-formula i j xs ys t q a b h T (arrow-sign A)
+    (λ n U k. complete d s i n h U (rw k (arrow-follows A))) (λ n p U. complete e s n j p U (F .0, F .1))
 complete (or t {xs = xs} {ys = ys} {a = a} {b = b} d y e) s i j h T F =
-    let w = split s i xs (t ∷ ys) j T in
-    let p = span s i xs (w .mid) h (w .left) in
-    let u = first s (w .mid) t ys j (w .right) in
-    let v = token-span s (w .mid) (p .within) (u .token) in
-    pair s disjunction conjunction disjunction joins-disjunction i disj a b (w .mid) j
-    (complete d s i (w .mid) h (w .left) (rw (u .kind, y) refl)) (p .on) (v .0) (v .1) (ap (joinSign disjunction) (u .kind ∙ y))
-    (complete e s (nextAt s (w .mid)) j (v .1) (u .rest) F)
+    paired s disjunction conjunction disjunction joins-disjunction i j xs ys t disj a b h T (ap (joinSign disjunction) y)
+    (λ n U k. complete d s i n h U (rw (k, y) refl)) (λ n p U. complete e s n j p U F)
 complete (and t {xs = xs} {ys = ys} {a = a} {b = b} d y e) s i j h T F =
-    let w = split s i xs (t ∷ ys) j T in
-    let p = span s i xs (w .mid) h (w .left) in
-    let u = first s (w .mid) t ys j (w .right) in
-    let v = token-span s (w .mid) (p .within) (u .token) in
-    pair s conjunction unit conjunction joins-conjunction i conj a b (w .mid) j
-    (complete d s i (w .mid) h (w .left) tt) (p .on) (v .0) (v .1) (ap (joinSign conjunction) (u .kind ∙ y))
-    (complete e s (nextAt s (w .mid)) j (v .1) (u .rest) F)
+    paired s conjunction unit conjunction joins-conjunction i j xs ys t conj a b h T (ap (joinSign conjunction) y)
+    (λ n U k. complete d s i n h U tt) (λ n p U. complete e s n j p U F)
 complete (negation t {xs = xs} {a = a} y d) s i j h T F =
     let u = first s i t xs j T in
     let v = token-span s i h (u .token) in
@@ -145,30 +153,9 @@ complete (bracketed t x {xs = xs} {a = a} y d z) s i j h T F =
     let k = u′ .kind ∙ z in
     rw (← nothing-left s (nextAt s (w .mid)) j (u′ .rest))
     (bracket-found s i a (w .mid) (u .kind ∙ y) (v .0) (v .1) (complete d s (nextAt s i) (w .mid) (v .1) (w .left) (rw k (refl, refl, refl))) k)
-complete (member x t m y z e) s i j h T F =
-    let u = first s i x (t ∷ m ∷ []) j T in
-    let v = token-span s i h (u .token) in
-    let u′ = first s (nextAt s i) t (m ∷ []) j (u .rest) in
-    let v′ = token-span s (nextAt s i) (v .1) (u′ .token) in
-    rw (← u .value)
-    (at-once s i _ j (λ g. unit-variable g s i (u .kind ∙ y) ∙ colon-found s (valueAt s i) (nextAt s i) (u′ .kind ∙ z)
-    ∙ operand-found s 23 (isin (valueAt s i)) m (nextAt s (nextAt s i)) j e (v′ .1) (u′ .rest)))
-complete (no-member x t m y z e) s i j h T F =
-    let u = first s i x (t ∷ m ∷ []) j T in
-    let v = token-span s i h (u .token) in
-    let u′ = first s (nextAt s i) t (m ∷ []) j (u .rest) in
-    let v′ = token-span s (nextAt s i) (v .1) (u′ .token) in
-    rw (← u .value)
-    (at-once s i _ j (λ g. unit-variable g s i (u .kind ∙ y) ∙ slash-found s (valueAt s i) (nextAt s i) (u′ .kind ∙ z)
-    ∙ operand-found s 23 (notin (valueAt s i)) m (nextAt s (nextAt s i)) j e (v′ .1) (u′ .rest)))
-complete (ports x t m r y z e) s i j h T F =
-    let u = first s i x (t ∷ m ∷ []) j T in
-    let v = token-span s i h (u .token) in
-    let u′ = first s (nextAt s i) t (m ∷ []) j (u .rest) in
-    let v′ = token-span s (nextAt s i) (v .1) (u′ .token) in
-    rw (← u .value)
-    (at-once s i _ j (λ g. unit-variable g s i (u .kind ∙ y) ∙ relation-found s (valueAt s i) (nextAt s i) r (u′ .kind ∙ z)
-    ∙ operand-found s 22 (port r (valueAt s i)) m (nextAt s (nextAt s i)) j e (v′ .1) (u′ .rest)))
+complete (member x t m y z e) s i j h T F = three-found s i j x t m isin 23 y (λ k v. colon-found s v (nextAt s i) (k ∙ z)) e h T
+complete (no-member x t m y z e) s i j h T F = three-found s i j x t m notin 23 y (λ k v. slash-found s v (nextAt s i) (k ∙ z)) e h T
+complete (ports x t m r y z e) s i j h T F = three-found s i j x t m (port r) 22 y (λ k v. relation-found s v (nextAt s i) r (k ∙ z)) e h T
 complete (sizes x m t c r y n z e) s i j h T F =
     let u = first s i x (m ∷ t ∷ c ∷ []) j T in
     let v = token-span s i h (u .token) in
