@@ -1,0 +1,3 @@
+-- Laws of the tokens.
+pub mod Examples
+pub mod Laws
