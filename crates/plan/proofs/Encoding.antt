@@ -140,7 +140,7 @@ begins-true (x ∷ xs) [] h = absurd (false≢true h)
 begins-true (x ∷ xs) (y ∷ ys) h =
     ap₂ _∷_ (sym (eqb-true x y (and-left (eqb x y) _ h))) (begins-true xs ys (and-right (eqb x y) _ h))
 
-length-header : (u n k : ℕ) → length (header u n k) ≡ headerLength
+pub length-header : (u n k : ℕ) → length (header u n k) ≡ headerLength
 unfolding header wordBytes headerLength
 length-header u n k = refl
 

@@ -8,7 +8,7 @@ use native.Mathlib.Numerals.{add-one}
 use native.Mathlib.Omega.{arith}
 use lib.Bits.{bitOr}
 use lib.Dec.{eqb}
-use lib.ListN.{length, getD, take, drop, set, length-append, length-drop, take-append-drop}
+use lib.ListN.{length, getD, take, drop, set, length-append, length-take, length-drop, take-append-drop}
 use lib.Seq.{take-all, take-append-seam, drop-append-add, drop-drop, drop-cons, length-take-le}
 use borrow.Author.Tests.{eqb-true, eq-eqb, leb-true}
 use Rattle.esol.specs.Formula.{Node, Forest, none, tree, kindNumber, nodeCount, childDepth}
@@ -437,7 +437,7 @@ accept-none (b ∷ l) i parent d ports sets above first r x y z h good t c u = a
 module _ (l : List ℕ) (i parent d ports sets above width first e : ℕ) (x y z : List ℕ) (place : Placed l i parent d ports sets width first x y z)
     (long : recordLength ≤ length l) (rule : recordRule sets d above parent l ≡ true) (en : EndIs l e) (after : i < e)
     (within : recordLength * (e - i) ≤ length l) where
-  pub width-fits : width ≤ 262144
+  width-fits : width ≤ 262144
   width-fits =
       let w = width-low ports d (place .ports1) (place .ports64) (depth-here l i parent d sets above e long rule en after within) in
       omega (arith, place .width-is)
@@ -485,7 +485,7 @@ module _ (l : List ℕ) (i parent d ports sets above width first e : ℕ) (x y z
   }
 
 -- what is counted stays small
-pub judged-low : (l : List ℕ) (i parent d ports sets above first : ℕ) (r : Checked) (x y z x′ y′ z′ : List ℕ)
+judged-low : (l : List ℕ) (i parent d ports sets above first : ℕ) (r : Checked) (x y z x′ y′ z′ : List ℕ)
     → Judged l i parent d ports sets above first r x y z x′ y′ z′ → r .ok ≡ true → 1 ≤ ports → ports ≤ 64
     → (recordLength * r .trees ≤ length l) × (recordLength * r .cells ≤ 262144 * length l)
 unfolding recordLength
@@ -493,3 +493,21 @@ judged-low l i parent d ports sets above first r x y z x′ y′ z′ j ok u1 u6
     let a = j .accepts ok in
     let n = sound-length (a .1) in
     (omega (arith, n, a .2 .trees, trees-few (a .0)), omega (arith, n, a .2 .cells, cells-few ports sets (a .0) d u1 u64 (a .1 .rules)))
+
+-- the numbers of a place are small
+pub placed-low : {l : List ℕ} {i parent d ports sets width first : ℕ} {x y z : List ℕ} → Placed l i parent d ports sets width first x y z
+    → (width ≤ 16777216) × (first ≤ 536870912) × (length l ≤ 4096)
+unfolding recordLength
+placed-low {d} {ports} p =
+    let w : ports ^ d ≤ 16777216 = le-trans (pow-le-pow-left (p .ports64) d) (pow-le-pow-right (omega arith) (p .depth)) in
+    (omega (arith, p .width-is), omega (arith, p .first-low, p .few), omega (arith, p .few))
+
+-- and so is what is counted in a part of a short part
+pub counted-low : (whole : List ℕ) (a b : ℕ) {i parent d ports sets above first : ℕ} (r : Checked) {x y z x′ y′ z′ : List ℕ}
+    → Judged (take a (drop b whole)) i parent d ports sets above first r x y z x′ y′ z′ → r .ok ≡ true → 1 ≤ ports → ports ≤ 64
+    → length whole ≤ 4096 → (r .trees ≤ 512) × (r .cells ≤ 134217728)
+unfolding recordLength
+counted-low whole a b {i} {parent} {d} {ports} {sets} {above} {first} r {x} {y} {z} {x′} {y′} {z′} j ok u1 u64 few =
+    let low = judged-low (take a (drop b whole)) i parent d ports sets above first r x y z x′ y′ z′ j ok u1 u64 in
+    let short : length (take a (drop b whole)) ≤ 4096 = omega (arith, length-take a (drop b whole), length-drop b whole) in
+    (omega (arith, low .0), omega (arith, low .1))

@@ -3,3 +3,6 @@ pub mod Encoding
 pub mod Fields
 pub mod Judging
 pub mod Whole
+pub mod Own
+pub mod Facts
+pub mod BrokenTables

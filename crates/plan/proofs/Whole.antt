@@ -60,7 +60,7 @@ nodesOf l = word (getD l 7 0) (getD l 8 0)
 abbrev pub belowRoot : List ℕ → ℕ → List ℕ
 belowRoot l nodes = take (headerLength + recordLength * nodes - (headerLength + recordLength)) (drop (headerLength + recordLength) l)
 
-abbrev rooted : ℕ → ℕ → Forest → Plan
+abbrev pub rooted : ℕ → ℕ → Forest → Plan
 rooted u n c = record { ports = u; sets = n; formula = tree root c none }
 
 -- the bytes of a plan of k nodes whose root ends at e
@@ -165,11 +165,11 @@ pub record RootedIs (u n : ℕ) (c : Forest) : Type 0 where
   pub rules : everyNode (nodeRule n) c 0 ≡ true
   pub few : cellCount u c 0 < 1048576
 
-rooted-cells : (u n : ℕ) (c : Forest) → ownCells (rooted u n c) ≡ suc (cellCount u c 0)
+pub rooted-cells : (u n : ℕ) (c : Forest) → ownCells (rooted u n c) ≡ suc (cellCount u c 0)
 unfolding ownCells cellCount childDepth
 rooted-cells u n c = omega (arith, pow-zero u)
 
-rooted-nodes : (c : Forest) → nodeCount (tree root c none) ≡ suc (nodeCount c)
+pub rooted-nodes : (c : Forest) → nodeCount (tree root c none) ≡ suc (nodeCount c)
 unfolding nodeCount
 rooted-nodes c = omega arith
 

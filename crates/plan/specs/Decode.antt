@@ -2,7 +2,7 @@
 use mathlib.Core.Path.{_≡_}
 use mathlib.Core.Bool.{Bool, true, false, cond, _&&_}
 use mathlib.Core.List.{List, [], _∷_, _++_}
-use Prim.Native.Nat.{ℕ, zero, suc, _-_, _*_}
+use Prim.Native.Nat.{ℕ, zero, suc, _+_, _-_, _*_}
 use lib.Dec.{eqb}
 use lib.ListN.{getD, take, drop}
 use Rattle.esol.specs.Formula.{Forest, none, tree, Plan}
@@ -25,6 +25,10 @@ forestOf (suc m) (x ∷ xs) i =
     tree (nodeOf (kindField l) (relationField l) (aField l) (bField l))
     (forestOf m (take (span - recordLength) (drop recordLength l)) (suc i))
     (forestOf m (drop span l) (endField l))
+
+-- "Bytes [..] past a plan's own": how many bytes are the plan's own, by the node count in the header.
+unfoldable pub ownBytes : List ℕ → ℕ
+ownBytes l = headerLength + recordLength * word (getD l 7 0) (getD l 8 0)
 
 -- The plan that bytes would be the table of.
 unfoldable pub candidate : List ℕ → Plan

@@ -3,3 +3,5 @@ pub mod Rules
 pub mod Decode
 pub mod Index
 pub mod Check
+pub mod Facts
+pub mod BrokenTables

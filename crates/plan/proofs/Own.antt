@@ -1,0 +1,179 @@
+-- Bytes past a plan's own are never read, and every plan within the rules has a table of bytes. Assumes nothing.
+use mathlib.Core.Path.{_≡_, refl, sym, ap, ap₂, _∙_, subst}
+use mathlib.Core.Bool.{true, false≢true}
+use mathlib.Core.List.{List, [], _∷_, _++_, append-nil}
+use Prim.Native.Nat.{ℕ, zero, suc, _+_, _*_, _/_, _%_, _≤_, _<_}
+use native.Mathlib.Omega.{arith}
+use lib.Dec.{ltb}
+use lib.ListN.{length, getD, take, drop, length-append, take-append-drop, List·getD-append}
+use lib.Seq.{take-at, getD-take, length-take-le}
+use borrow.Author.Tests.{leb-true, ltb-true}
+use Rattle.esol.specs.Formula.{isin, notin, port, size, Node, root, all, any, and, or, lit, Forest, none, tree, Plan, kindNumber, nodeCount, childDepth}
+use Rattle.esol.proofs.Lists.{and-left, and-right}
+use Rattle.esol.proofs.Relations.{relation-number-le}
+use Rattle.plan.specs.Bytes.{headerLength, recordLength, word, wordBytes, relationByte, aByte, bByte, recordOf, records, header, encoding}
+use Rattle.plan.specs.Rules.{everyNode, depthRule, literalRule, innerRule, nodeRule, planRule}
+use Rattle.plan.specs.Decode.{TableOf, Decoded, broken, sound, decode, ownBytes}
+use Rattle.plan.proofs.Encoding.{word-of-bytes, length-header, length-records, decode-complete, decode-sound}
+use Rattle.plan.proofs.Judging.{every-node}
+use Rattle.plan.proofs.Whole.{rooted, RootedIs, rooted-nodes, front-is, open-table, refused, is-rooted, rooted-is}
+
+-- a table cut short is broken
+pub cut-short : (l : List ℕ) → length l < ownBytes l → decode l ≡ broken
+unfolding ownBytes
+cut-short l h = refused l (λ P t. omega (arith, front-is l (open-table l P t .front) .whole))
+
+-- a plan's own bytes are its encoding
+own-encoding : (P : Plan) (rest : List ℕ) → length (encoding P) ≡ ownBytes (encoding P ++ rest)
+unfolding ownBytes encoding header wordBytes
+own-encoding P rest =
+    let k = nodeCount (P .formula) in
+    length-append (header (P .ports) (P .sets) k) (records (P .formula) 0 65535)
+    ∙ ap₂ _+_ (length-header (P .ports) (P .sets) k) (length-records (P .formula) 0 65535)
+    ∙ ap (λ (x : ℕ). headerLength + recordLength * x) (sym (word-of-bytes k))
+
+own-table : (l rest : List ℕ) (P : Plan) → TableOf l P → TableOf (take (ownBytes l) l ++ rest) P
+own-table l rest P t = record {
+  rest = rest;
+  is = ap (λ (x : List ℕ). x ++ rest)
+      (ap (λ (x : List ℕ). take (ownBytes x) x) (t .is)
+      ∙ take-at (encoding P) (t .rest) (ownBytes (encoding P ++ t .rest)) (own-encoding P (t .rest)));
+  rules = t .rules;
+}
+
+-- the header stands in a table's own bytes
+own-same : (l rest : List ℕ) → ownBytes l ≤ length l → ownBytes (take (ownBytes l) l ++ rest) ≡ ownBytes l
+unfolding ownBytes headerLength
+own-same l rest h =
+    let m = ownBytes l in
+    let long = length-take-le m l h in
+    let at : (i : ℕ) → i < 9 → getD (take m l ++ rest) i 0 ≡ getD l i 0 = λ i b.
+    List·getD-append (take m l) rest 0 i (omega arith) ∙ getD-take m l i 0 (omega arith) in
+    ap₂ (λ (x y : ℕ). 9 + recordLength * word x y) (at 7 (omega arith)) (at 8 (omega arith))
+
+-- "Bytes [..] past a plan's own are never [..] read."
+pub own-only : (l rest : List ℕ) → ownBytes l ≤ length l → decode (take (ownBytes l) l ++ rest) ≡ decode l
+own-only l rest h = go (decode l) refl
+  where
+    m : ℕ
+    m = ownBytes l
+
+    other : List ℕ
+    other = take m l ++ rest
+
+    long : length (take m l) ≡ ownBytes other
+    long = length-take-le m l h ∙ sym (own-same l rest h)
+
+    back : take (ownBytes other) other ++ drop m l ≡ l
+    back = ap (λ (x : List ℕ). x ++ drop m l) (take-at (take m l) rest (ownBytes other) long) ∙ take-append-drop m l
+
+    sound-both : (x y : List ℕ) (P : Plan) → decode x ≡ sound P → decode (take (ownBytes x) x ++ y) ≡ sound P
+    sound-both x y P e = decode-complete (take (ownBytes x) x ++ y) P (own-table x y P (decode-sound x P e))
+
+    none-else : (x : Decoded) → decode other ≡ x → decode l ≡ broken → x ≡ broken
+    none-else broken e b = refl
+    none-else (sound P) e b = sym (sound-both other (drop m l) P e) ∙ ap decode back ∙ b
+
+    go : (x : Decoded) → decode l ≡ x → decode other ≡ x
+    go broken e = none-else (decode other) refl e
+    go (sound P) e = sound-both l rest P e
+
+-- Every number of a list is a byte.
+abbrev Bytes : List ℕ → Type 0
+Bytes l = (i : ℕ) → getD l i 0 < 256
+
+bytes-cons : (x : ℕ) (xs : List ℕ) → x < 256 → Bytes xs → Bytes (x ∷ xs)
+bytes-cons x xs h r zero = h
+bytes-cons x xs h r (suc i) = r i
+
+bytes-append : (xs ys : List ℕ) → Bytes xs → Bytes ys → Bytes (xs ++ ys)
+bytes-append [] ys a b = b
+bytes-append (x ∷ xs) ys a b = bytes-cons x (xs ++ ys) (a 0) (bytes-append xs ys (λ i. a (suc i)) b)
+
+no-bytes : Bytes []
+no-bytes i = omega arith
+
+word-bytes : (x : ℕ) → x < 65536 → Bytes (wordBytes x)
+unfolding wordBytes
+word-bytes x h = bytes-cons (x % 256) ((x / 256) ∷ []) (omega arith) (bytes-cons (x / 256) [] (omega arith) no-bytes)
+
+-- A node's own bytes.
+record NodeBytes (n : Node) : Type 0 where
+  pub kind : kindNumber n < 256
+  pub relation : relationByte n < 256
+  pub a : aByte n < 256
+  pub b : bByte n < 256
+
+record-bytes : (n : Node) (p e : ℕ) → NodeBytes n → p < 65536 → e < 65536 → Bytes (recordOf n p e)
+unfolding recordOf
+record-bytes n p e b hp he =
+    let l = wordBytes p ++ wordBytes e in
+    bytes-cons (kindNumber n) (relationByte n ∷ aByte n ∷ bByte n ∷ l) (b .kind)
+    (bytes-cons (relationByte n) (aByte n ∷ bByte n ∷ l) (b .relation)
+    (bytes-cons (aByte n) (bByte n ∷ l) (b .a) (bytes-cons (bByte n) l (b .b) (bytes-append (wordBytes p) (wordBytes e) (word-bytes p hp) (word-bytes e he)))))
+
+root-bytes : NodeBytes root
+unfolding kindNumber relationByte aByte bByte
+root-bytes = record { kind = omega arith; relation = omega arith; a = omega arith; b = omega arith }
+
+node-bytes : (sets d : ℕ) (n : Node) → sets ≤ 16 → d ≤ 3 → innerRule sets n d ≡ true → NodeBytes n
+unfolding innerRule literalRule kindNumber relationByte aByte bByte
+node-bytes sets d root s e h = absurd (false≢true h)
+node-bytes sets d all s e h = record { kind = omega arith; relation = omega arith; a = omega arith; b = omega arith }
+node-bytes sets d any s e h = record { kind = omega arith; relation = omega arith; a = omega arith; b = omega arith }
+node-bytes sets d and s e h = record { kind = omega arith; relation = omega arith; a = omega arith; b = omega arith }
+node-bytes sets d or s e h = record { kind = omega arith; relation = omega arith; a = omega arith; b = omega arith }
+node-bytes sets d (lit (isin v S)) s e h =
+    let x = ltb-true v d (and-left (ltb v d) _ h) in
+    let y = ltb-true S sets (and-right (ltb v d) _ h) in
+    record { kind = omega arith; relation = omega arith; a = omega arith; b = omega arith }
+node-bytes sets d (lit (notin v S)) s e h =
+    let x = ltb-true v d (and-left (ltb v d) _ h) in
+    let y = ltb-true S sets (and-right (ltb v d) _ h) in
+    record { kind = omega arith; relation = omega arith; a = omega arith; b = omega arith }
+node-bytes sets d (lit (port r v w)) s e h =
+    let x = ltb-true v d (and-left (ltb v d) _ h) in
+    let y = ltb-true w d (and-right (ltb v d) _ h) in
+    record { kind = omega arith; relation = omega (arith, relation-number-le r); a = omega arith; b = omega arith }
+node-bytes sets d (lit (size r S c)) s e h =
+    let x = ltb-true S sets (and-left (ltb S sets) _ h) in
+    let y = leb-true c 64 (and-right (ltb S sets) _ h) in
+    record { kind = omega arith; relation = omega (arith, relation-number-le r); a = omega arith; b = omega arith }
+
+records-bytes : (sets : ℕ) → sets ≤ 16 → (f : Forest) (d i p : ℕ) → everyNode (nodeRule sets) f d ≡ true → i + nodeCount f < 65536 → p < 65536
+    → Bytes (records f i p)
+unfolding records nodeCount depthRule
+records-bytes sets hs none d i p h few hp = no-bytes
+records-bytes sets hs (tree n c s) d i p h few hp =
+    let r = every-node sets n c s d h in
+    let e = i + suc (nodeCount c) in
+    bytes-append (recordOf n p e) (records c (suc i) i ++ records s e p)
+    (record-bytes n p e (node-bytes sets d n hs (leb-true d 3 (r .1)) (r .0)) hp (omega arith))
+    (bytes-append (records c (suc i) i) (records s e p)
+    (records-bytes sets hs c (childDepth n d) (suc i) i (r .4) (omega arith) (omega arith)) (records-bytes sets hs s d e p (r .5) (omega arith) hp))
+
+rooted-bytes : (u n : ℕ) (c : Forest) → RootedIs u n c → Bytes (encoding (rooted u n c))
+unfolding encoding header wordBytes records
+rooted-bytes u n c r =
+    let k = nodeCount (tree root c none) in
+    let e = 0 + suc (nodeCount c) in
+    let small : k < 65536 = omega (arith, rooted-nodes c, r .nodes512) in
+    let l = u ∷ n ∷ wordBytes k in
+    bytes-append (header u n k) (records (tree root c none) 0 65535)
+    (bytes-append (80 ∷ 76 ∷ 78 ∷ 1 ∷ 0 ∷ []) l
+    (bytes-cons 80 (76 ∷ 78 ∷ 1 ∷ 0 ∷ []) (omega arith)
+    (bytes-cons 76 (78 ∷ 1 ∷ 0 ∷ []) (omega arith) (bytes-cons 78 (1 ∷ 0 ∷ []) (omega arith) (bytes-cons 1 (0 ∷ []) (omega arith) (bytes-cons 0 [] (omega arith) no-bytes)))))
+    (bytes-cons u (n ∷ wordBytes k) (omega (arith, r .ports64)) (bytes-cons n (wordBytes k) (omega (arith, r .sets16)) (word-bytes k small))))
+    (bytes-append (recordOf root 65535 e) (records c 1 0 ++ [])
+    (record-bytes root 65535 e root-bytes (omega arith) (omega (arith, r .nodes512)))
+    (bytes-append (records c 1 0) [] (records-bytes n (r .sets16) c 0 1 0 (r .rules) (omega (arith, r .nodes512)) (omega arith)) no-bytes))
+
+-- a plan within the rules has a table of bytes
+pub encoding-bytes : (P : Plan) → planRule P ≡ true → (i : ℕ) → getD (encoding P) i 0 < 256
+encoding-bytes P h =
+    let c = is-rooted P h in
+    subst (λ Q. Bytes (encoding Q)) (sym (c .1)) (rooted-bytes (P .ports) (P .sets) (c .0) (rooted-is P h))
+
+-- and the table passes
+pub own-decodes : (P : Plan) → planRule P ≡ true → decode (encoding P) ≡ sound P
+own-decodes P h = decode-complete (encoding P) P record { rest = []; is = sym (append-nil (encoding P)); rules = h }
