@@ -13,7 +13,7 @@ use Rattle.esol.proofs.Lists.{or-left, or-right, and-left, and-right, and-true}
 use Rattle.syntax.specs.Tree.{Quantifier, forall, exists, Tree, leaf, neg, par, bind, join}
 use Rattle.core.specs.Names.{among, setNumber, variableNumber, misdeclared, misnamedLiteral, misnamed, ground5, highLiteral, ground6, fourth, ground7}
 use Rattle.core.specs.Core.{Above, alone, inside, jointNode, Part, joint, two, quantifierNode, memberAt, literalAt, place, coreOf}
-use Rattle.core.specs.Rules.{everyNode, treeCount, arityRule, maySit, nestingRule, depthRule, literalRule, innerRule, nodeRule, formulaRule}
+use Rattle.plan.specs.Rules.{everyNode, treeCount, arityRule, maySit, nestingRule, depthRule, literalRule, innerRule, nodeRule, formulaRule}
 use Rattle.core.proofs.Decided.{joined}
 use Rattle.core.proofs.SameTruth.{variable-below}
 
