@@ -79,7 +79,7 @@ fill-none l i above ports depth over at masks cells h n outer none up kn dn on i
   ends-at = sym (add-zero at);
   cells-are = λ A G X R e lA lG lX.
       let x : X ≡ [] = no-length X lX in
-      e ∙ ap₂ (λ (a b : List ℕ). a ++ (G ++ (b ++ R))) (sym (tabulate-getD A over lA)) x
+      e ∙ ap₂ (λ (a b : List ℕ). a ++ (G ++ (b ++ R))) (sym (tabulate-getD A over lA)) x;
 }
   where
     no-length : (X : List ℕ) → length X ≡ 0 → X ≡ []
@@ -118,16 +118,16 @@ fill-opened l i up depth sets e m c s is rules en =
       kind = k;
       node-is = ap (λ (x : List ℕ). nodeOf (kindField x) (relationField x) (aField x) (bField x)) is ∙ node-of-record m up E t;
       fields = ap (λ (x : List ℕ). fieldRule sets depth (kindField x) (relationField x) (aField x) (bField x)) is
-      ∙ (λ j. fieldRule sets depth (kind-of-record m up E t j) (relation-of-record m up E t j) (a-of-record m up E t j) (b-of-record m up E t j)) ∙ f;
+          ∙ (λ j. fieldRule sets depth (kind-of-record m up E t j) (relation-of-record m up E t j) (a-of-record m up E t j) (b-of-record m up E t j)) ∙ f;
       depth3 = leb-true depth 3 (r .1);
       below = kind-depth sets depth m (r .0) ∙ ap (λ (x : ℕ). kindDepth x depth) (sym k);
       arity = r .2;
       rules-kids = r .4;
       rules-rest = r .5;
       kids = ap₂ (λ (x : ℕ) (y : List ℕ). take (recordLength * (x - i) - recordLength) (drop recordLength y)) q is ∙ children-part m c s i up
-      ∙ ap (λ (x : ℕ). records c x i) (sym (add-one i));
+          ∙ ap (λ (x : ℕ). records c x i) (sym (add-one i));
       rest = ap₂ (λ (x : ℕ) (y : List ℕ). drop (recordLength * (x - i)) y) q is ∙ siblings-part m c s i up ∙ ap (λ (x : ℕ). records s x up) (sym q);
-      long = ap length is ∙ length-records (tree m c s) i up
+      long = ap length is ∙ length-records (tree m c s) i up;
     }
 
 -- the constants of nodes that keep the rules are low
@@ -336,7 +336,7 @@ module _ (l : List ℕ) (i up above ports sets depth width over at outer : ℕ) 
           ∙ ap (λ (x : List ℕ). (A ++ G) ++ x)
           (ap (λ (x : List ℕ). x ++ R) (split X width cc) ∙ append-assoc (take width X) (take cc Y ++ drop cc Y) R
           ∙ ap (λ (x : List ℕ). take width X ++ x) (append-assoc (take cc Y) (drop cc Y) R)))
-          lA lG (length-take-le width X (omega arith)) (length-take-le cc Y (omega arith)) (omega (arith, length-drop cc Y))
+          lA lG (length-take-le width X (omega arith)) (length-take-le cc Y (omega arith)) (omega (arith, length-drop cc Y));
     }
 
 not-none : (l : List ℕ) (i up : ℕ) → l ≡ records none i up → recordLength ≤ length l → ⊥
@@ -430,12 +430,12 @@ fill-facts l i above ports sets depth width over at masks xs p long e en = go (p
             width-is = w;
             room = omega arith;
             sets-masks = p .sets-masks;
-            stray = p .stray
+            stray = p .stray;
           };
           kids = λ ys ly below wider bd wd.
               let lb = back-length at xs ys (omega arith) ly in
               let lz : length (lent at (back at xs ys)) ≡ length xs - at =
-                length-take-le (length (back at xs ys) - at) (drop at (back at xs ys)) (rw (length-drop at (back at xs ys)) (omega arith)) ∙ ap (λ (x : ℕ). x - at) lb in
+              length-take-le (length (back at xs ys) - at) (drop at (back at xs ys)) (rw (length-drop at (back at xs ys)) (omega arith)) ∙ ap (λ (x : ℕ). x - at) lb in
               let b = bd ∙ sym (o .below) in
               record {
                 parent = m;
@@ -456,7 +456,7 @@ fill-facts l i above ports sets depth width over at masks xs p long e en = go (p
                 sets-masks = p .sets-masks;
                 stray = p .stray;
                 after = omega arith;
-                room = omega (arith, lz, ap (cellCount ports c) b)
+                room = omega (arith, lz, ap (cellCount ports c) b);
               };
           merging = omega (arith, ap₂ (λ (x y : ℕ). x * spreadOf y ports) (p .over-is) (sym (p .kind-is)) ∙ spread-width (p .parent) ports (p .outer) ∙ ap (λ (x : ℕ). ports ^ x) (sym (p .depth-is)));
           rest = λ nn below bd H ws lw.
@@ -483,7 +483,7 @@ fill-facts l i above ports sets depth width over at masks xs p long e en = go (p
                   sets-masks = p .sets-masks;
                   stray = p .stray;
                   after = omega (arith, p .after);
-                  room = omega arith
+                  room = omega arith;
                 },
-              )
+              );
         }

@@ -4,14 +4,15 @@ use mathlib.Core.Bool.{true, cond, _&&_}
 use mathlib.Core.List.{List, [], _∷_, _++_}
 use Prim.Native.Nat.{ℕ, zero, suc, _+_, _-_, _*_, _%_, _^_, _≤_, _<_}
 use lib.Dec.{leb}
-use lib.ListN.{length, getD, drop}
-use Rattle.esol.specs.Formula.{Node, root, all, any, and, or, lit, Literal, Forest, none, tree, kindNumber, childDepth}
-use Rattle.esol.specs.Configuration.{Configuration, configuration, inMasks, withinPorts}
+use lib.ListN.{length, getD, take, drop}
+use Rattle.esol.specs.Formula.{Node, root, all, any, and, or, lit, Literal, Forest, none, tree, Plan, kindNumber, nodeCount, childDepth}
+use Rattle.esol.specs.Configuration.{Configuration, configuration, inMasks, ownMasks, spelled, withinPorts}
 use Rattle.esol.specs.Truth.{Tuple}
 use Rattle.esol.specs.Penalty.{literalPenalty, below, penalty}
-use Rattle.esol.specs.Cells.{cellCount, tupleAt, tabulate, layout}
+use Rattle.esol.specs.Cells.{cellCount, tupleAt, tabulate, layout, ownCells, cells as planCells}
 use Rattle.plan.specs.Bytes.{recordLength, kindField, relationField, aField, bField, nodeOf, records}
 use Rattle.plan.specs.Rules.{everyNode, nodeRule}
+use Rattle.plan.specs.Decode.{sound, decode}
 use Rattle.plan.specs.Check.{fieldRule}
 use Rattle.load.specs.Joined.{unitOf, joinAll}
 
@@ -97,3 +98,19 @@ unfoldable pub Fills : List ℕ → ℕ → ℕ → ℕ → ℕ → ℕ → ℕ 
 Fills l i above ports depth over at masks before after r =
     (n : Node) (outer : ℕ) (f : Forest) (up : ℕ) → kindNumber n ≡ above → depth ≡ childDepth n outer → over ≡ ports ^ outer → l ≡ records f i up
     → Filled above ports depth over at outer n f masks before after r
+
+-- A table that passed its check, masks within the ports and room for every cell.
+pub record FillReady (bytes : List ℕ) (ports sets nodes : ℕ) (masks cells : List ℕ) : Type 0 where
+  pub plan : Plan
+  pub decodes : decode bytes ≡ sound plan
+  pub ports-are : ports ≡ plan .ports
+  pub sets-are : sets ≡ plan .sets
+  pub nodes-are : nodes ≡ nodeCount (plan .formula)
+  pub own-masks : sets ≤ length masks
+  pub stray : NoStray ports sets masks
+  pub own-cells : ownCells plan ≤ length cells
+
+-- Every cell is Definition 5's penalty under the plan's own masks, and the rest is as it was.
+unfoldable pub FillsPlan : List ℕ → List ℕ → List ℕ → List ℕ → Type 0
+FillsPlan bytes masks before after =
+    (P : Plan) → decode bytes ≡ sound P → after ≡ planCells P (spelled P (take (ownMasks P) masks)) ++ drop (ownCells P) before

@@ -1,2 +1,3 @@
 pub mod Joined
 pub mod Fill
+pub mod Load

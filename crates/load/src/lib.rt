@@ -1,9 +1,12 @@
 // Load: fills every cell of a plan. Paper 01, section Penalty.
+use esol::within_ports;
 use literals::put_literal;
+use plan::HEADER;
+use plan::RECORD;
+use plan::check;
 use plan::child_depth;
 use plan::child_width;
 use plan::end_of;
-use plan::RECORD;
 use std::num::wrapping_add_u32;
 ghost use mathlib.Core.Path.{_≡_};
 ghost use mathlib.Core.List.{_++_};
@@ -11,7 +14,9 @@ ghost use Prim.Native.Nat.{ℕ, _+_, _*_, _≤_, _<_};
 ghost use lib.ListN.{length, getD, take, drop};
 ghost use Rattle.esol.specs.Cells.{tabulate};
 ghost use Rattle.load.specs.Joined.{meet, unitOf, joinAll, merged};
-ghost use Rattle.load.specs.Fill.{joinOf, spreadOf, StartPlaced, started, FillPlaced, Fills};
+ghost use Rattle.load.specs.Fill.{joinOf, spreadOf, StartPlaced, started, FillPlaced, Fills, FillReady, FillsPlan};
+ghost use Rattle.load.specs.Load.{allWithin, loads};
+ghost use Rattle.plan.specs.Decode.{decode};
 
 // Two numbers joined: 0 adds, any other takes the minimum. True penalties stay below 2^32, so no sum of them wraps.
 fn meet_of(join: u8, x: u32, y: u32) -> u32
@@ -111,7 +116,18 @@ fn start_cells(
     ensures { λ _. ⌜ now (cells .exit) ≡ started kind relation a b ports depth width (now (masks .entry)) (now (cells .entry)) ⌝ }
 {
     if 5 <= kind {
-        put_literal(kind, relation, a, b, sets, ports, depth, width, masks, cells);
+        put_literal(
+            kind,
+            relation,
+            a,
+            b,
+            sets,
+            ports,
+            depth,
+            width,
+            masks,
+            cells,
+        );
         return;
     }
     put_unit(join_of(kind), width, cells);
@@ -141,10 +157,120 @@ fn fill_forest(
     let end = end_of(part);
     let span = RECORD * (end - i);
     let kind = part[0];
-    start_cells(kind, part[1], part[2], part[3], sets, ports, depth, width, masks, &mut cells[at..]);
+    start_cells(
+        kind,
+        part[1],
+        part[2],
+        part[3],
+        sets,
+        ports,
+        depth,
+        width,
+        masks,
+        &mut cells[at..],
+    );
     let below = child_depth(kind, depth);
     let wider = child_width(kind, width, ports);
-    let n = fill_forest(&part[RECORD..span], i + 1, kind, ports, sets, below, wider, width, width, masks, &mut cells[at..]);
+    let n = fill_forest(
+        &part[RECORD..span],
+        i + 1,
+        kind,
+        ports,
+        sets,
+        below,
+        wider,
+        width,
+        width,
+        masks,
+        &mut cells[at..],
+    );
     merge(join_of(above), over, spread_of(above, ports), at, cells);
-    fill_forest(&part[span..], end, above, ports, sets, depth, width, over, at + n, masks, cells)
+    fill_forest(
+        &part[span..],
+        end,
+        above,
+        ports,
+        sets,
+        depth,
+        width,
+        over,
+        at + n,
+        masks,
+        cells,
+    )
+}
+
+// Fills every cell of a plan, whose table and masks are sound: the root's cell, then what stands below it.
+pub fn fill(table: &[u8], ports: usize, sets: usize, nodes: usize, masks: &[u64], cells: &mut [u32])
+    requires { ⌜ FillReady (now table) ports sets nodes (now masks) (now cells) ⌝ }
+    ensures { λ _. ⌜ FillsPlan (now (table .entry)) (now (masks .entry)) (now (cells .entry)) (now (cells .exit)) ⌝ }
+{
+    let from = HEADER + RECORD;
+    let last = HEADER + RECORD * nodes;
+    put_unit(1, 1, cells);
+    fill_forest(
+        &table[from..last],
+        1,
+        0,
+        ports,
+        sets,
+        0,
+        1,
+        1,
+        1,
+        &masks[0..sets],
+        cells,
+    );
+}
+
+pub enum Loaded {
+    Accepted { root: u32, cells: u32 },
+    Refused(u8),
+}
+
+// Whether no mask of the first `sets` has a port of `ports` or more.
+fn masks_ok(masks: &[u64], sets: usize, ports: usize) -> bool
+    requires { ⌜ (sets ≤ length (now masks)) × (ports ≤ 64) ⌝ }
+    ensures { λ r. ⌜ r ≡ allWithin ports (take sets (now (masks .entry))) ⌝ }
+{
+    let u = ports as u32;
+    let mut s = 0;
+    while s < sets {
+        if !within_ports(masks[s], u) {
+            return false;
+        }
+        s += 1;
+    }
+    true
+}
+
+// Load: checks the tables (11, 12, 13) and fills every cell; the answer is root and cell total.
+pub fn load(table: &[u8], masks: &[u64], cells: &mut [u32]) -> Loaded
+    ensures { λ r. ⌜ (r, now (cells .exit)) ≡ loads (decode (now (table .entry))) (now (masks .entry)) (now (cells .entry)) ⌝ }
+{
+    let mut firsts = [0u32; 512];
+    let mut ends = [0u16; 512];
+    let mut uses = [0u64; 512];
+    let info = check(table, &mut firsts, &mut ends, &mut uses);
+    if !info.ok {
+        return Loaded::Refused(11);
+    }
+    let ports = info.ports;
+    let sets = info.sets;
+    let nodes = info.nodes;
+    let total = info.cells;
+    if masks.len() < sets {
+        return Loaded::Refused(12);
+    }
+    if cells.len() < total {
+        return Loaded::Refused(12);
+    }
+    if !masks_ok(masks, sets, ports) {
+        return Loaded::Refused(13);
+    }
+    fill(table, ports, sets, nodes, masks, cells);
+    Loaded::Accepted {
+        root: cells[0],
+        cells: total as u32,
+    }
 }

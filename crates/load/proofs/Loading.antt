@@ -1,0 +1,207 @@
+-- A whole plan: its masks, its root and what stands below the root. Assumes nothing.
+use mathlib.Core.Path.{_≡_, refl, sym, ap, ap₂, _∙_, subst}
+use mathlib.Core.Bool.{Bool, true, false, _&&_, false≢true, true≢false}
+use mathlib.Core.List.{List, [], _∷_, _++_, append-nil}
+use Prim.Native.Nat.{ℕ, zero, suc, _+_, _-_, _*_, _^_, _≤_, _<_}
+use native.Mathlib.Nat.{pow-zero}
+use native.Mathlib.Numerals.{add-one}
+use native.Mathlib.Omega.{arith}
+use lib.ListN.{length, getD, take, drop, length-append, length-drop, take-append-drop}
+use lib.Seq.{take-suc, take-at, getD-take, length-take-le, drop-drop}
+use Rattle.esol.specs.Formula.{Node, root, Forest, none, tree, Plan, kindNumber, nodeCount, childDepth}
+use Rattle.esol.specs.Configuration.{Configuration, configuration, inMasks, ownMasks, spelled, withinPorts}
+use Rattle.esol.specs.Penalty.{penalty}
+use Rattle.esol.specs.Cells.{cellCount, tupleAt, tabulate, layout, ownCells, cells}
+use borrow.Author.Tests.{eq-eqb}
+use Rattle.esol.proofs.Lists.{and-left, and-right, and-true}
+use Rattle.plan.specs.Bytes.{headerLength, recordLength, wordBytes, relationByte, aByte, bByte, recordOf, records, header, encoding}
+use Rattle.plan.specs.Rules.{planRule, treeCount, arityRule}
+use Rattle.plan.specs.Decode.{TableOf, sound, decode}
+use Rattle.plan.proofs.Encoding.{length-records, decode-sound, one-plan}
+use Rattle.plan.proofs.Whole.{RootedIs, is-rooted, rooted-is}
+use Rattle.load.specs.Joined.{unitOf, joinAll}
+use Rattle.load.specs.Fill.{joinOf, startCell, treewise, config, table, NoStray, FillPlaced, Filled, Fills, FillReady, FillsPlan}
+use Rattle.load.specs.Load.{allWithin}
+use Rattle.load.proofs.Values.{own-cell, table-tree}
+use Rattle.load.proofs.Filling.{low-below}
+
+-- masks within the ports
+within-append : (u : ℕ) (xs ys : List ℕ) → allWithin u xs ≡ true → allWithin u ys ≡ true → allWithin u (xs ++ ys) ≡ true
+unfolding allWithin
+within-append u [] ys h k = k
+within-append u (x ∷ xs) ys h k = and-true _ _ (and-left (withinPorts u x) _ h) (within-append u xs ys (and-right (withinPorts u x) _ h) k)
+
+pub within-next : (u s : ℕ) (ms : List ℕ) → s < length ms → allWithin u (take s ms) ≡ true → withinPorts u (getD ms s 0) ≡ true → allWithin u (take (s + 1) ms) ≡ true
+unfolding allWithin
+within-next u s ms l h k =
+    ap (λ (j : ℕ). allWithin u (take j ms)) (add-one s) ∙ ap (allWithin u) (take-suc ms s 0 l)
+    ∙ within-append u (take s ms) (getD ms s 0 ∷ []) h (and-true _ _ k refl)
+
+pub within-each : (u n : ℕ) (ms : List ℕ) → n ≤ length ms → allWithin u (take n ms) ≡ true → NoStray u n ms
+unfolding NoStray allWithin
+within-each u zero ms l h S q = absurd (omega arith)
+within-each u (suc n) [] l h S q = absurd (omega arith)
+within-each u (suc n) (m ∷ ms) l h zero q = and-left (withinPorts u m) _ h
+within-each u (suc n) (m ∷ ms) l h (suc S) q = within-each u n ms (omega arith) (and-right (withinPorts u m) _ h) S (omega arith)
+
+pub within-fails : (u s n : ℕ) (ms : List ℕ) → s < n → n ≤ length ms → withinPorts u (getD ms s 0) ≡ false → false ≡ allWithin u (take n ms)
+within-fails u s n ms h l k = go (allWithin u (take n ms)) refl
+  where
+    go : (b : Bool) → allWithin u (take n ms) ≡ b → false ≡ b
+    go false e = refl
+    go true e = absurd (false≢true (sym k ∙ unfold NoStray in within-each u n ms l e s h))
+
+-- the records below the root
+abbrev rooted : ℕ → ℕ → Forest → Plan
+rooted u n c = record { ports = u; sets = n; formula = tree root c none }
+
+below-bytes : (u n : ℕ) (c : Forest) (rest : List ℕ) → drop 17 (encoding (rooted u n c) ++ rest) ≡ records c 1 0 ++ [] ++ rest
+unfolding encoding header wordBytes records recordOf kindNumber relationByte aByte bByte
+below-bytes u n c rest = refl
+
+rooted-count : (c : Forest) → nodeCount (tree root c none) ≡ suc (nodeCount c)
+unfolding nodeCount
+rooted-count c = omega arith
+
+rooted-total : (u n : ℕ) (c : Forest) → ownCells (rooted u n c) ≡ suc (cellCount u c 0)
+unfolding ownCells cellCount childDepth
+rooted-total u n c = omega (arith, pow-zero u)
+
+own-zero : (u n : ℕ) (c : Forest) → ownCells (rooted u n c) ≡ cellCount u (tree root c none) 0
+unfolding ownCells
+own-zero u n c = refl
+
+-- What a table that passed gives for filling.
+pub record Ready (bytes : List ℕ) (P : Plan) (nodes : ℕ) : Type 0 where
+  pub below : Forest
+  pub is-root : P ≡ rooted (P .ports) (P .sets) below
+  pub facts : RootedIs (P .ports) (P .sets) below
+  pub count : nodes ≡ suc (nodeCount below)
+  pub total : ownCells P ≡ suc (cellCount (P .ports) below 0)
+  pub long : headerLength + recordLength * nodes ≤ length bytes
+  pub part : take (headerLength + recordLength * nodes - (headerLength + recordLength)) (drop (headerLength + recordLength) bytes) ≡ records below 1 0
+
+pub ready : (bytes : List ℕ) (P : Plan) (nodes : ℕ) → decode bytes ≡ sound P → nodes ≡ nodeCount (P .formula) → Ready bytes P nodes
+unfolding headerLength recordLength
+ready bytes P nodes d k =
+    let t = decode-sound bytes P d in
+    let r = is-rooted P (t .rules) in
+    let c = r .0 in
+    let e : bytes ≡ encoding (rooted (P .ports) (P .sets) c) ++ t .rest = t .is ∙ ap (λ (Q : Plan). encoding Q ++ t .rest) (r .1) in
+    let kk : nodes ≡ suc (nodeCount c) = k ∙ ap (λ (Q : Plan). nodeCount (Q .formula)) (r .1) ∙ rooted-count c in
+    let tail : drop 17 bytes ≡ records c 1 0 ++ [] ++ t .rest = ap (drop 17) e ∙ below-bytes (P .ports) (P .sets) c (t .rest) in
+    let own : length (records c 1 0 ++ []) ≡ 8 * nodeCount c = ap length (append-nil (records c 1 0)) ∙ length-records c 1 0 in
+    record {
+      below = c;
+      is-root = r .1;
+      facts = rooted-is P (t .rules);
+      count = kk;
+      total = ap ownCells (r .1) ∙ rooted-total (P .ports) (P .sets) c;
+      long = omega (arith, ap length tail, length-drop 17 bytes, length-append (records c 1 0 ++ []) (t .rest), rooted-is P (t .rules) .nodes2);
+      part = ap (take (9 + 8 * nodes - 17)) tail
+      ∙ take-at (records c 1 0 ++ []) (t .rest) (9 + 8 * nodes - 17) (own ∙ (let q : 8 * nodeCount c ≡ 9 + 8 * nodes - 17 = omega arith in q)) ∙ append-nil (records c 1 0)
+    }
+
+stray-own : (u n : ℕ) (ms : List ℕ) → NoStray u n ms → NoStray u n (take n ms)
+unfolding NoStray
+stray-own u n ms h S q = ap (withinPorts u) (getD-take n ms S 0 q) ∙ h S q
+
+pub placed-plan : (bytes : List ℕ) (P : Plan) (nodes : ℕ) (masks xs : List ℕ) → Ready bytes P nodes → P .sets ≤ length masks → NoStray (P .ports) (P .sets) masks
+    → ownCells P ≤ length xs
+    → FillPlaced (take (headerLength + recordLength * nodes - (headerLength + recordLength)) (drop (headerLength + recordLength) bytes)) 1 0 (P .ports) (P .sets) 0 1 1 1
+    (take (P .sets) masks) xs
+unfolding headerLength recordLength kindNumber childDepth
+placed-plan bytes P nodes masks xs r m st l =
+    let f = r .facts in
+    record {
+      parent = root;
+      outer = 0;
+      forest = r .below;
+      up = 0;
+      kind-is = refl;
+      depth-is = refl;
+      over-is = sym (pow-zero (P .ports));
+      width-is = sym (pow-zero (P .ports));
+      is = r .part;
+      rules = f .rules;
+      few = omega (arith, f .few);
+      nodes = omega (arith, ap length (r .part), length-records (r .below) 1 0, f .nodes512);
+      ports1 = f .ports1;
+      ports64 = f .ports64;
+      depth4 = omega arith;
+      sets-masks = omega (arith, length-take-le (P .sets) masks m);
+      stray = stray-own (P .ports) (P .sets) masks st;
+      after = omega arith;
+      room = omega (arith, r .total)
+    }
+
+-- the root over what is filled below it
+root-cells : (u : ℕ) (k : Configuration) (c : Forest) → table u k (tree root c none) 0 ≡ penalty u k root c [] ∷ table u k c 0
+unfolding tabulate tupleAt childDepth table layout
+root-cells u k c =
+    table-tree u k root c none 0
+    ∙ ap₂ (λ (a : ℕ) (b : List ℕ). tabulate a (λ i. penalty u k root c []) ++ b) (pow-zero u) (append-nil (table u k c 0))
+
+root-own : (P : Plan) (own : List ℕ) (c : Forest) → RootedIs (P .ports) (P .sets) c
+    → joinAll (joinOf 0) (unitOf 1) (treewise (P .ports) (config (P .ports) own) root c []) ≡ penalty (P .ports) (config (P .ports) own) root c []
+unfolding kindNumber startCell joinOf arityRule childDepth
+root-own P own c f =
+    own-cell (P .ports) (config (P .ports) own) root c [] (f .ports1) (eq-eqb (treeCount c) 1 (f .one))
+    (low-below (P .ports) (P .sets) own root c none 0 [] (f .ports1) (f .ports64) (f .rules) (omega (arith, rooted-total (P .ports) (P .sets) c, own-zero (P .ports) (P .sets) c, f .few)))
+
+root-first : (P : Plan) (own : List ℕ) (c : Forest) → RootedIs (P .ports) (P .sets) c
+    → joinAll (joinOf 0) (getD (unitOf 1 ∷ []) 0 0) (treewise (P .ports) (config (P .ports) own) root c (tupleAt (P .ports) 0 0))
+    ≡ penalty (P .ports) (config (P .ports) own) root c []
+unfolding tupleAt
+root-first P own c f = root-own P own c f
+
+first-one : (g : ℕ → ℕ) → tabulate 1 g ≡ g 0 ∷ []
+unfolding tabulate
+first-one g = refl
+
+plan-table : (P : Plan) (own : List ℕ) (c : Forest) → P ≡ rooted (P .ports) (P .sets) c
+    → cells P (spelled P own) ≡ penalty (P .ports) (config (P .ports) own) root c [] ∷ table (P .ports) (config (P .ports) own) c 0
+unfolding cells spelled table
+plan-table P own c e =
+    ap (λ (Q : Plan). layout (P .ports) (λ n c b d x. penalty (P .ports) (config (P .ports) own) n c x) (Q .formula) 0 0) e
+    ∙ root-cells (P .ports) (config (P .ports) own) c
+
+pub plan-filled : (bytes : List ℕ) (P : Plan) (nodes r : ℕ) (masks xs ys zs : List ℕ) → decode bytes ≡ sound P → Ready bytes P nodes → ownCells P ≤ length xs
+    → ys ≡ tabulate 1 (λ _. unitOf 1) ++ drop 1 xs
+    → Fills (take (headerLength + recordLength * nodes - (headerLength + recordLength)) (drop (headerLength + recordLength) bytes)) 1 0 (P .ports) 0 1 1 (take (P .sets) masks) ys zs r
+    → FillsPlan bytes masks xs zs
+unfolding Fills FillsPlan ownMasks kindNumber childDepth
+plan-filled bytes P nodes r masks xs ys zs d rd l ye fl Q dq = subst (λ (R : Plan). zs ≡ cells R (spelled R (take (R .sets) masks)) ++ drop (ownCells R) xs) one whole
+  where
+    u : ℕ
+    u = P .ports
+
+    c : Forest
+    c = rd .below
+
+    own : List ℕ
+    own = take (P .sets) masks
+
+    one : P ≡ Q
+    one = one-plan bytes P Q (decode-sound bytes P d) (decode-sound bytes Q dq)
+
+    m : ℕ
+    m = cellCount u c 0
+
+    X : List ℕ
+    X = take m (drop 1 xs)
+
+    got : zs ≡ tabulate 1 (λ t. joinAll (joinOf 0) (getD (unitOf 1 ∷ []) t 0) (treewise u (config u own) root c (tupleAt u 0 t))) ++ ([] ++ (table u (config u own) c 0 ++ drop (1 + m) xs))
+    got =
+        fl root 0 c 0 refl refl (sym (pow-zero u)) (rd .part) .cells-are (unitOf 1 ∷ []) [] X (drop (1 + m) xs)
+        (ye ∙ ap₂ (λ (a b : List ℕ). a ++ b) (first-one (λ _. unitOf 1)) (sym (take-append-drop m (drop 1 xs)) ∙ ap (λ (b : List ℕ). X ++ b) (drop-drop m 1 xs)))
+        refl refl (length-take-le m (drop 1 xs) (rw (length-drop 1 xs) (omega (arith, rd .total))))
+
+    whole : zs ≡ cells P (spelled P own) ++ drop (ownCells P) xs
+    whole =
+        got
+        ∙ ap₂ (λ (a : List ℕ) (b : ℕ). a ++ (table u (config u own) c 0 ++ drop b xs))
+        (first-one (λ t. joinAll (joinOf 0) (getD (unitOf 1 ∷ []) t 0) (treewise u (config u own) root c (tupleAt u 0 t)))
+        ∙ ap (λ (x : ℕ). x ∷ []) (root-first P own c (rd .facts)))
+        (let e : 1 + m ≡ ownCells P = omega (arith, rd .total) in e)
+        ∙ ap (λ (a : List ℕ). a ++ drop (ownCells P) xs) (sym (plan-table P own c (rd .is-root)))

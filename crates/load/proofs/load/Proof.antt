@@ -1,0 +1,91 @@
+use mathlib.Core.Path.{_≡_, refl, sym, ap, _∙_}
+use Prim.Native.Nat.{ℕ, _≤_}
+use native.Mathlib.Omega.{arith}
+use borrow.Author.Tests.{not-true, not-false}
+use lib.ListN.{length, take}
+use Rattle.esol.specs.Configuration.{ownMasks}
+use Rattle.plan.proofs.Facts.{plan-facts}
+use Rattle.load.specs.Load.{allWithin}
+use Rattle.load.specs.Fill.{FillsPlan}
+use Rattle.load.proofs.Loading.{ready, within-each}
+use Rattle.load.proofs.Answers.{load-broken, load-few-masks, load-few-cells, load-stray, accepted, load-accepts}
+use borrow.Author.Needs.{needs}
+use Rattle.load.proofs.load.Statement.{statement}
+use Rattle.load.proofs.load.Tie as tie
+use Rattle.load.proofs.load.Reads as reads
+use Rattle.load.proofs.load.Lts as lts
+use Rattle.load.proofs.fill.Reads as fill-reads
+use Rattle.load.proofs.masks_ok.Reads as masks-ok-reads
+use Rattle.plan.proofs.check.Reads as check-reads
+
+slice-aggregate-check : tie.Need-slice-aggregate-check
+slice-aggregate-check c = search needs
+
+slice-aggregate-check-2 : tie.Need-slice-aggregate-check-2
+slice-aggregate-check-2 c = search needs
+
+slice-aggregate-check-3 : tie.Need-slice-aggregate-check-3
+slice-aggregate-check-3 c = search needs
+
+check-requires : tie.Need-check-requires
+check-requires c κs = search needs
+
+returns : tie.Need-returns
+returns c =
+    load-broken (c .before .before .before .before .before .before .before .before .before .before .before .before .args .table .now) (c .before .before .before .before .before .before .before .before .before .before .before .before .args .masks .now) (c .before .before .before .before .before .before .before .before .before .before .before .before .args .cells .now) (c .before .before .before .before .before .check .ensures .refuses (not-true _ (c .if1 .taken)))
+
+returns-2 : tie.Need-returns-2
+unfolding ownMasks
+returns-2 c =
+    load-few-masks (c .before .before .before .before .before .before .before .before .before .before .before .before .before .args .table .now) (c .before .before .before .before .before .before .before .before .before .before .before .before .before .args .masks .now) (c .before .before .before .before .before .before .before .before .before .before .before .before .before .args .cells .now) ((c .before .before .before .before .before .before .check .ensures .accepts (not-false _ (c .before .if1 .left))) .0) ((c .before .before .before .before .before .before .check .ensures .accepts (not-false _ (c .before .if1 .left))) .1) (omega (arith, ((c .before .before .before .before .before .before .check .ensures .accepts (not-false _ (c .before .if1 .left))) .2) .sets-are, c .if2 .taken))
+
+returns-3 : tie.Need-returns-3
+unfolding ownMasks
+returns-3 c =
+    load-few-cells (c .before .before .before .before .before .before .before .before .before .before .before .before .before .before .args .table .now) (c .before .before .before .before .before .before .before .before .before .before .before .before .before .before .args .masks .now) (c .before .before .before .before .before .before .before .before .before .before .before .before .before .before .args .cells .now) ((c .before .before .before .before .before .before .before .check .ensures .accepts (not-false _ (c .before .before .if1 .left))) .0) ((c .before .before .before .before .before .before .before .check .ensures .accepts (not-false _ (c .before .before .if1 .left))) .1) (omega (arith, ((c .before .before .before .before .before .before .before .check .ensures .accepts (not-false _ (c .before .before .if1 .left))) .2) .sets-are, c .before .if2 .left)) (omega (arith, ((c .before .before .before .before .before .before .before .check .ensures .accepts (not-false _ (c .before .before .if1 .left))) .2) .cells-are, c .if3 .taken))
+
+masks-ok-requires : tie.Need-masks-ok-requires
+masks-ok-requires c κs =
+    ?
+
+returns-4 : tie.Need-returns-4
+returns-4 c =
+    ?
+
+fill-requires : tie.Need-fill-requires
+fill-requires c κs =
+    ?
+
+slice-read-t25 : tie.Need-slice-read-t25
+slice-read-t25 c =
+    ?
+
+cast-t26 : tie.Need-cast-t26
+cast-t26 c =
+    ?
+
+same-length : tie.Need-same-length
+same-length c = search needs
+
+returns-5 : tie.Need-returns-5
+returns-5 c =
+    ?
+
+pub load-spec : {M : Type 1} → statement M
+load-spec =
+    tie.close
+    (tie.spec
+    slice-aggregate-check
+    slice-aggregate-check-2
+    slice-aggregate-check-3
+    check-requires
+    returns
+    returns-2
+    returns-3
+    masks-ok-requires
+    returns-4
+    fill-requires
+    slice-read-t25
+    cast-t26
+    same-length
+    returns-5)
