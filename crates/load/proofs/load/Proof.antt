@@ -1,10 +1,9 @@
-use mathlib.Core.Path.{_≡_, refl, sym, ap, _∙_}
+use mathlib.Core.Path.{_≡_, refl, sym, ap, ap₂, _∙_}
 use Prim.Native.Nat.{ℕ, _≤_}
 use native.Mathlib.Omega.{arith}
 use borrow.Author.Tests.{not-true, not-false}
 use lib.ListN.{length, take}
 use Rattle.esol.specs.Configuration.{ownMasks}
-use Rattle.plan.proofs.Facts.{plan-facts}
 use Rattle.load.specs.Load.{allWithin}
 use Rattle.load.specs.Fill.{FillsPlan}
 use Rattle.load.proofs.Loading.{ready, within-each}
@@ -46,30 +45,32 @@ returns-3 c =
 
 masks-ok-requires : tie.Need-masks-ok-requires
 masks-ok-requires c κs =
-    ?
+    (c .before .if2 .left, omega (arith, ((c .before .before .before .before .before .before .before .check .ensures .accepts (not-false _ (c .before .before .if1 .left))) .2) .ports-are, (ready (c .before .before .before .before .before .before .before .before .before .before .before .before .before .before .args .table .now) ((c .before .before .before .before .before .before .before .check .ensures .accepts (not-false _ (c .before .before .if1 .left))) .0) (c .before .before .before .before .before .before .before .check .result .nodes) ((c .before .before .before .before .before .before .before .check .ensures .accepts (not-false _ (c .before .before .if1 .left))) .1) (((c .before .before .before .before .before .before .before .check .ensures .accepts (not-false _ (c .before .before .if1 .left))) .2) .nodes-are)) .facts .ports64))
 
 returns-4 : tie.Need-returns-4
+unfolding ownMasks
 returns-4 c =
-    ?
+    load-stray (c .before .before .before .before .before .before .before .before .before .before .before .before .before .before .before .before .args .table .now) (c .before .before .before .before .before .before .before .before .before .before .before .before .before .before .before .before .args .masks .now) (c .before .before .before .before .before .before .before .before .before .before .before .before .before .before .before .before .args .cells .now) ((c .before .before .before .before .before .before .before .before .before .check .ensures .accepts (not-false _ (c .before .before .before .before .if1 .left))) .0) ((c .before .before .before .before .before .before .before .before .before .check .ensures .accepts (not-false _ (c .before .before .before .before .if1 .left))) .1) (omega (arith, ((c .before .before .before .before .before .before .before .before .before .check .ensures .accepts (not-false _ (c .before .before .before .before .if1 .left))) .2) .sets-are, c .before .before .before .if2 .left)) (omega (arith, ((c .before .before .before .before .before .before .before .before .before .check .ensures .accepts (not-false _ (c .before .before .before .before .if1 .left))) .2) .cells-are, c .before .before .if3 .left)) (ap₂ (λ (u n : ℕ). allWithin u (take n (c .before .before .before .before .before .before .before .before .before .before .before .before .before .before .before .before .args .masks .now))) (sym (((c .before .before .before .before .before .before .before .before .before .check .ensures .accepts (not-false _ (c .before .before .before .before .if1 .left))) .2) .ports-are)) (sym (((c .before .before .before .before .before .before .before .before .before .check .ensures .accepts (not-false _ (c .before .before .before .before .if1 .left))) .2) .sets-are)) ∙ sym (c .before .masks-ok .ensures) ∙ not-true _ (c .if4 .taken))
 
 fill-requires : tie.Need-fill-requires
 fill-requires c κs =
-    ?
+    record { plan = ((c .before .before .before .before .before .before .before .before .before .before .check .ensures .accepts (not-false _ (c .before .before .before .before .before .if1 .left))) .0); decodes = ((c .before .before .before .before .before .before .before .before .before .before .check .ensures .accepts (not-false _ (c .before .before .before .before .before .if1 .left))) .1); ports-are = ((c .before .before .before .before .before .before .before .before .before .before .check .ensures .accepts (not-false _ (c .before .before .before .before .before .if1 .left))) .2) .ports-are; sets-are = ((c .before .before .before .before .before .before .before .before .before .before .check .ensures .accepts (not-false _ (c .before .before .before .before .before .if1 .left))) .2) .sets-are; nodes-are = ((c .before .before .before .before .before .before .before .before .before .before .check .ensures .accepts (not-false _ (c .before .before .before .before .before .if1 .left))) .2) .nodes-are; own-masks = c .before .before .before .before .if2 .left; stray = within-each (c .before .before .before .before .before .before .before .before .before .before .check .result .ports) (c .before .before .before .before .before .before .before .before .before .before .check .result .sets) (c .before .before .before .before .before .before .before .before .before .before .before .before .before .before .before .before .before .args .masks .now) (c .before .before .before .before .if2 .left) (sym (c .before .before .masks-ok .ensures) ∙ not-false _ (c .before .if4 .left)); own-cells = omega (arith, ((c .before .before .before .before .before .before .before .before .before .before .check .ensures .accepts (not-false _ (c .before .before .before .before .before .if1 .left))) .2) .cells-are, c .before .before .before .if3 .left) }
 
 slice-read-t25 : tie.Need-slice-read-t25
 slice-read-t25 c =
-    ?
+    omega (arith, c .before .before .before .fill .kept .1 .1 .1 .1 .1 .0, (ready (c .before .before .before .before .before .before .before .before .before .before .before .before .before .before .before .before .before .before .before .before .before .args .table .now) ((c .before .before .before .before .before .before .before .before .before .before .before .before .before .before .check .ensures .accepts (not-false _ (c .before .before .before .before .before .before .before .before .before .if1 .left))) .0) (c .before .before .before .before .before .before .before .before .before .before .before .before .before .before .check .result .nodes) ((c .before .before .before .before .before .before .before .before .before .before .before .before .before .before .check .ensures .accepts (not-false _ (c .before .before .before .before .before .before .before .before .before .if1 .left))) .1) (((c .before .before .before .before .before .before .before .before .before .before .before .before .before .before .check .ensures .accepts (not-false _ (c .before .before .before .before .before .before .before .before .before .if1 .left))) .2) .nodes-are)) .total, ((c .before .before .before .before .before .before .before .before .before .before .before .before .before .before .check .ensures .accepts (not-false _ (c .before .before .before .before .before .before .before .before .before .if1 .left))) .2) .cells-are, c .before .before .before .before .before .before .before .if3 .left)
 
 cast-t26 : tie.Need-cast-t26
 cast-t26 c =
-    ?
+    omega (arith, (ready (c .before .before .before .before .before .before .before .before .before .before .before .before .before .before .before .before .before .before .before .before .before .args .table .now) ((c .before .before .before .before .before .before .before .before .before .before .before .before .before .before .check .ensures .accepts (not-false _ (c .before .before .before .before .before .before .before .before .before .if1 .left))) .0) (c .before .before .before .before .before .before .before .before .before .before .before .before .before .before .check .result .nodes) ((c .before .before .before .before .before .before .before .before .before .before .before .before .before .before .check .ensures .accepts (not-false _ (c .before .before .before .before .before .before .before .before .before .if1 .left))) .1) (((c .before .before .before .before .before .before .before .before .before .before .before .before .before .before .check .ensures .accepts (not-false _ (c .before .before .before .before .before .before .before .before .before .if1 .left))) .2) .nodes-are)) .total, (ready (c .before .before .before .before .before .before .before .before .before .before .before .before .before .before .before .before .before .before .before .before .before .args .table .now) ((c .before .before .before .before .before .before .before .before .before .before .before .before .before .before .check .ensures .accepts (not-false _ (c .before .before .before .before .before .before .before .before .before .if1 .left))) .0) (c .before .before .before .before .before .before .before .before .before .before .before .before .before .before .check .result .nodes) ((c .before .before .before .before .before .before .before .before .before .before .before .before .before .before .check .ensures .accepts (not-false _ (c .before .before .before .before .before .before .before .before .before .if1 .left))) .1) (((c .before .before .before .before .before .before .before .before .before .before .before .before .before .before .check .ensures .accepts (not-false _ (c .before .before .before .before .before .before .before .before .before .if1 .left))) .2) .nodes-are)) .facts .few, ((c .before .before .before .before .before .before .before .before .before .before .before .before .before .before .check .ensures .accepts (not-false _ (c .before .before .before .before .before .before .before .before .before .if1 .left))) .2) .cells-are)
 
 same-length : tie.Need-same-length
 same-length c = search needs
 
 returns-5 : tie.Need-returns-5
+unfolding ownMasks FillsPlan
 returns-5 c =
-    ?
+    load-accepts (c .before .before .before .before .before .before .before .before .before .before .before .before .before .before .before .before .before .before .before .before .before .args .table .now) (c .before .before .before .before .before .before .before .before .before .before .before .before .before .before .before .before .before .before .before .before .before .args .masks .now) (c .before .before .before .before .before .before .before .before .before .before .before .before .before .before .before .before .before .before .before .before .before .args .cells .now) _ ((c .before .before .before .before .before .before .before .before .before .before .before .before .before .before .check .ensures .accepts (not-false _ (c .before .before .before .before .before .before .before .before .before .if1 .left))) .0) _ _ ((c .before .before .before .before .before .before .before .before .before .before .before .before .before .before .check .ensures .accepts (not-false _ (c .before .before .before .before .before .before .before .before .before .if1 .left))) .1) (accepted (c .before .before .before .before .before .before .before .before .before .before .before .before .before .before .before .before .before .before .before .before .before .args .masks .now) (c .before .before .before .before .before .before .before .before .before .before .before .before .before .before .before .before .before .before .before .before .before .args .cells .now) ((c .before .before .before .before .before .before .before .before .before .before .before .before .before .before .check .ensures .accepts (not-false _ (c .before .before .before .before .before .before .before .before .before .if1 .left))) .0) (omega (arith, ((c .before .before .before .before .before .before .before .before .before .before .before .before .before .before .check .ensures .accepts (not-false _ (c .before .before .before .before .before .before .before .before .before .if1 .left))) .2) .sets-are, c .before .before .before .before .before .before .before .before .if2 .left)) (omega (arith, ((c .before .before .before .before .before .before .before .before .before .before .before .before .before .before .check .ensures .accepts (not-false _ (c .before .before .before .before .before .before .before .before .before .if1 .left))) .2) .cells-are, c .before .before .before .before .before .before .before .if3 .left)) (ap₂ (λ (u n : ℕ). allWithin u (take n (c .before .before .before .before .before .before .before .before .before .before .before .before .before .before .before .before .before .before .before .before .before .args .masks .now))) (sym (((c .before .before .before .before .before .before .before .before .before .before .before .before .before .before .check .ensures .accepts (not-false _ (c .before .before .before .before .before .before .before .before .before .if1 .left))) .2) .ports-are)) (sym (((c .before .before .before .before .before .before .before .before .before .before .before .before .before .before .check .ensures .accepts (not-false _ (c .before .before .before .before .before .before .before .before .before .if1 .left))) .2) .sets-are)) ∙ sym (c .before .before .before .before .before .before .masks-ok .ensures) ∙ not-false _ (c .before .before .before .before .before .if4 .left))) (c .before .before .before .fill .ensures ((c .before .before .before .before .before .before .before .before .before .before .before .before .before .before .check .ensures .accepts (not-false _ (c .before .before .before .before .before .before .before .before .before .if1 .left))) .0) ((c .before .before .before .before .before .before .before .before .before .before .before .before .before .before .check .ensures .accepts (not-false _ (c .before .before .before .before .before .before .before .before .before .if1 .left))) .1)) (omega (arith, (ready (c .before .before .before .before .before .before .before .before .before .before .before .before .before .before .before .before .before .before .before .before .before .args .table .now) ((c .before .before .before .before .before .before .before .before .before .before .before .before .before .before .check .ensures .accepts (not-false _ (c .before .before .before .before .before .before .before .before .before .if1 .left))) .0) (c .before .before .before .before .before .before .before .before .before .before .before .before .before .before .check .result .nodes) ((c .before .before .before .before .before .before .before .before .before .before .before .before .before .before .check .ensures .accepts (not-false _ (c .before .before .before .before .before .before .before .before .before .if1 .left))) .1) (((c .before .before .before .before .before .before .before .before .before .before .before .before .before .before .check .ensures .accepts (not-false _ (c .before .before .before .before .before .before .before .before .before .if1 .left))) .2) .nodes-are)) .total)) refl (((c .before .before .before .before .before .before .before .before .before .before .before .before .before .before .check .ensures .accepts (not-false _ (c .before .before .before .before .before .before .before .before .before .if1 .left))) .2) .cells-are)
 
 pub load-spec : {M : Type 1} → statement M
 load-spec =
