@@ -69,3 +69,30 @@ load-accepts bytes masks xs ys P r t d e y one re te =
     (λ i. (Accepted (first i) (te i), y i))
     ∙ sym (ap (λ (x : Decoded). loads x masks xs) d
     ∙ ap (λ (x : ℕ). let q = loadOr x P own (take (ownCells P) xs) in (q .0, q .1 ++ drop (ownCells P) xs)) e)
+
+-- After an accepted load the root is 0 exactly when the formula is true under the plan's own masks (demand 2).
+pub load-zero : (masks xs : List ℕ) (P : Plan) → Nonempty (P .formula) → ground P masks xs ≡ 0
+    → loadRoot (loads (sound P) masks xs .0) ≡ 0 ↔ PlanTrue P (spelled P (take (ownMasks P) masks))
+unfolding loads loadPlan loadOr loadRoot
+load-zero masks xs P n e =
+    let own = take (ownMasks P) masks in
+    let r : loadRoot (loads (sound P) masks xs .0) ≡ rootPenalty P (spelled P own) =
+      ap (λ (x : ℕ). loadRoot (loadOr x P own (take (ownCells P) xs) .0)) e in
+    let z = root-zero P (spelled P own) n in
+    ((λ h. z .0 (sym r ∙ h)), (λ t. r ∙ z .1 t))
+
+-- After an accepted load each own cell is Definition 5's penalty, and every cell past them is as it was.
+pub load-cells : (masks xs : List ℕ) (P : Plan) → ground P masks xs ≡ 0
+    → loads (sound P) masks xs .1 ≡ cells P (spelled P (take (ownMasks P) masks)) ++ drop (ownCells P) xs
+unfolding loads loadPlan loadOr
+load-cells masks xs P e = ap (λ (x : ℕ). loadOr x P (take (ownMasks P) masks) (take (ownCells P) xs) .1 ++ drop (ownCells P) xs) e
+
+-- Two loads that agree on the plan's own masks and cells, and on which tables are long enough, have the same answer and leave the
+-- same own cells: nothing past them is read.
+pub load-own : (P : Plan) (masks masks′ xs xs′ : List ℕ) → take (ownMasks P) masks ≡ take (ownMasks P) masks′ → take (ownCells P) xs ≡ take (ownCells P) xs′
+    → ltb (length masks) (ownMasks P) ≡ ltb (length masks′) (ownMasks P) → ltb (length xs) (ownCells P) ≡ ltb (length xs′) (ownCells P)
+    → loadPlan P (take (ownMasks P) masks) (length masks) (length xs) (take (ownCells P) xs)
+    ≡ loadPlan P (take (ownMasks P) masks′) (length masks′) (length xs′) (take (ownCells P) xs′)
+unfolding loadPlan loadGrounds
+load-own P masks masks′ xs xs′ m x lm lx = λ i.
+    loadOr (refusal ((12, lm i || lx i) ∷ (13, not (allWithin (P .ports) (m i))) ∷ [])) P (m i) (x i)
