@@ -77,7 +77,7 @@ unfolding loads loadPlan loadOr loadRoot
 load-zero masks xs P n e =
     let own = take (ownMasks P) masks in
     let r : loadRoot (loads (sound P) masks xs .0) ≡ rootPenalty P (spelled P own) =
-      ap (λ (x : ℕ). loadRoot (loadOr x P own (take (ownCells P) xs) .0)) e in
+    ap (λ (x : ℕ). loadRoot (loadOr x P own (take (ownCells P) xs) .0)) e in
     let z = root-zero P (spelled P own) n in
     ((λ h. z .0 (sym r ∙ h)), (λ t. r ∙ z .1 t))
 

@@ -2,6 +2,8 @@
 pub mod Answers
 pub mod Filling
 pub mod Loading
+pub mod NodeAnswers
+pub mod NodeParts
 pub mod Prefix
 pub mod Starting
 pub mod Values

@@ -71,6 +71,10 @@ own-zero : (u n : ℕ) (c : Forest) → ownCells (rooted u n c) ≡ cellCount u 
 unfolding ownCells
 own-zero u n c = refl
 
+pub own-count : (P : Plan) → ownCells P ≡ cellCount (P .ports) (P .formula) 0
+unfolding ownCells
+own-count P = refl
+
 -- What a table that passed gives for filling.
 pub record Ready (bytes : List ℕ) (P : Plan) (nodes : ℕ) : Type 0 where
   pub below : Forest
@@ -99,7 +103,7 @@ ready bytes P nodes d k =
       total = ap ownCells (r .1) ∙ rooted-total (P .ports) (P .sets) c;
       long = omega (arith, ap length tail, length-drop 17 bytes, length-append (records c 1 0 ++ []) (t .rest), rooted-is P (t .rules) .nodes2);
       part = ap (take (9 + 8 * nodes - 17)) tail
-      ∙ take-at (records c 1 0 ++ []) (t .rest) (9 + 8 * nodes - 17) (own ∙ (let q : 8 * nodeCount c ≡ 9 + 8 * nodes - 17 = omega arith in q)) ∙ append-nil (records c 1 0)
+          ∙ take-at (records c 1 0 ++ []) (t .rest) (9 + 8 * nodes - 17) (own ∙ (let q : 8 * nodeCount c ≡ 9 + 8 * nodes - 17 = omega arith in q)) ∙ append-nil (records c 1 0);
     }
 
 stray-own : (u n : ℕ) (ms : List ℕ) → NoStray u n ms → NoStray u n (take n ms)
@@ -132,7 +136,7 @@ placed-plan bytes P nodes masks xs r m st l =
       sets-masks = omega (arith, length-take-le (P .sets) masks m);
       stray = stray-own (P .ports) (P .sets) masks st;
       after = omega arith;
-      room = omega (arith, r .total)
+      room = omega (arith, r .total);
     }
 
 -- the root over what is filled below it

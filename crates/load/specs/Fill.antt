@@ -3,7 +3,7 @@ use mathlib.Core.Path.{_≡_}
 use mathlib.Core.Bool.{true, cond, _&&_}
 use mathlib.Core.List.{List, [], _∷_, _++_}
 use Prim.Native.Nat.{ℕ, zero, suc, _+_, _-_, _*_, _%_, _^_, _≤_, _<_}
-use lib.Dec.{leb}
+use lib.Dec.{leb, ltb}
 use lib.ListN.{length, getD, take, drop}
 use Rattle.esol.specs.Formula.{Node, root, all, any, and, or, lit, Literal, Forest, none, tree, Plan, kindNumber, nodeCount, childDepth}
 use Rattle.esol.specs.Configuration.{Configuration, configuration, inMasks, ownMasks, spelled, withinPorts}
@@ -114,3 +114,7 @@ pub record FillReady (bytes : List ℕ) (ports sets nodes : ℕ) (masks cells : 
 unfoldable pub FillsPlan : List ℕ → List ℕ → List ℕ → List ℕ → Type 0
 FillsPlan bytes masks before after =
     (P : Plan) → decode bytes ≡ sound P → after ≡ planCells P (spelled P (take (ownMasks P) masks)) ++ drop (ownCells P) before
+
+-- A node's first cell by the index table, or the end of all cells.
+unfoldable pub boundAt : List ℕ → ℕ → ℕ → ℕ → ℕ
+boundAt firsts i nodes total = cond (ltb i nodes) (getD firsts i 0) total

@@ -1,3 +1,4 @@
 pub mod Joined
 pub mod Fill
 pub mod Load
+pub mod NodeCells

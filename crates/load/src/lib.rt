@@ -14,8 +14,9 @@ ghost use Prim.Native.Nat.{ℕ, _+_, _*_, _≤_, _<_};
 ghost use lib.ListN.{length, getD, take, drop};
 ghost use Rattle.esol.specs.Cells.{tabulate};
 ghost use Rattle.load.specs.Joined.{meet, unitOf, joinAll, merged};
-ghost use Rattle.load.specs.Fill.{joinOf, spreadOf, StartPlaced, started, FillPlaced, Fills, FillReady, FillsPlan};
+ghost use Rattle.load.specs.Fill.{joinOf, spreadOf, StartPlaced, started, FillPlaced, Fills, FillReady, FillsPlan, boundAt};
 ghost use Rattle.load.specs.Load.{allWithin, loads};
+ghost use Rattle.load.specs.NodeCells.{nodeCells};
 ghost use Rattle.plan.specs.Decode.{decode};
 
 // Two numbers joined: 0 adds, any other takes the minimum. True penalties stay below 2^32, so no sum of them wraps.
@@ -273,4 +274,45 @@ pub fn load(table: &[u8], masks: &[u64], cells: &mut [u32]) -> Loaded
         root: cells[0],
         cells: total as u32,
     }
+}
+
+fn wide_cell(x: u32) -> usize
+    ensures { λ r. ⌜ r ≡ x ⌝ }
+{
+    x as usize
+}
+
+// Where the cells of node i begin; where the last node's end, if there is no node i.
+fn bound_of(firsts: &[u32], i: usize, nodes: usize, total: usize) -> usize
+    requires { ⌜ nodes ≤ length (now firsts) ⌝ }
+    ensures { λ r. ⌜ r ≡ boundAt (now (firsts .entry)) i nodes total ⌝ }
+{
+    if i < nodes {
+        return wide_cell(firsts[i]);
+    }
+    total
+}
+
+// A node's cells, as a part of the caller's cell table; empty where 11, 12 or a node past the count applies.
+pub fn node_cells<'a, 'b>(table: &'b [u8], cells: &'a [u32], node: usize) -> &'a [u32]
+    ensures { λ r. ⌜ now r ≡ nodeCells (decode (now (table .entry))) (now (cells .entry)) node ⌝ }
+{
+    let mut firsts = [0u32; 512];
+    let mut ends = [0u16; 512];
+    let mut uses = [0u64; 512];
+    let info = check(table, &mut firsts, &mut ends, &mut uses);
+    if !info.ok {
+        return &cells[0..0];
+    }
+    let nodes = info.nodes;
+    let total = info.cells;
+    if cells.len() < total {
+        return &cells[0..0];
+    }
+    if nodes <= node {
+        return &cells[0..0];
+    }
+    let from = bound_of(&firsts, node, nodes, total);
+    let to = bound_of(&firsts, node + 1, nodes, total);
+    &cells[from..to]
 }
