@@ -168,5 +168,5 @@ node-bounds u f node from to total h t a b =
       rises = omega arith;
       within = omega arith;
       first = a ∙ ap (λ (l : List ℕ). getD l node 0) (bounded-is u f 0 0) ∙ List·getD-append (firstCells u f 0 0) ((0 + cellCount u f 0) ∷ []) 0 node (omega (arith, length-firsts u f 0 0));
-      width = omega arith
+      width = omega arith;
     }
