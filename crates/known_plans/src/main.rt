@@ -172,8 +172,8 @@ fn table_a() -> [u8; 121] {
     ]
 }
 
-fn room() -> [u32; 70000] {
-    [0; 70000]
+fn room() -> [u32; 800000] {
+    [0; 800000]
 }
 
 // Plan A: its 34 cells and two past them, then the cells of some nodes.
@@ -224,8 +224,8 @@ fn small_plans() {
     show(&all);
 }
 
-// 65,536 conjuncts are false: 16 bits would have stored 0. Then a table of 790,594 cells, which is sound and has not room
-// enough here, and one over the limit.
+// 65,536 conjuncts are false: 16 bits would have stored 0. Then 790,594 cells,
+// and one conjunct more: over the limit.
 fn large_plans() {
     let mut cells = room();
     let empty = [0u64];
