@@ -1,15 +1,15 @@
 -- Filling the cells of some trees, from what the leaf functions and the two recursive calls leave. Assumes nothing.
-use mathlib.Core.Path.{_≡_, refl, sym, ap, ap₂, _∙_, subst}
-use mathlib.Core.Bool.{Bool, true, false}
+use mathlib.Core.Path.{_≡_, refl, sym, ap, ap₂, _∙_}
+use mathlib.Core.Bool.{true}
 use mathlib.Core.List.{List, [], _∷_, _++_, append-assoc, append-nil}
-use Prim.Native.Nat.{ℕ, zero, suc, _+_, _-_, _*_, _^_, _≤_, _<_}
+use Prim.Native.Nat.{ℕ, suc, _+_, _-_, _*_, _^_, _≤_, _<_}
 use native.Mathlib.Nat.{le-trans, add-zero, mul-le-mul-right, mul-left-comm, pow-suc}
 use native.Mathlib.Numerals.{add-one}
 use native.Mathlib.Omega.{arith}
 use lib.Dec.{ltb}
 use lib.ListN.{length, getD, take, drop, length-append, length-drop, take-append-drop, List·getD-append, drop-of-length-le}
-use lib.Seq.{take-all, take-at, drop-at, length-take-le, drop-drop, ext-getD, drop-append-le, drop-append-add}
-use Rattle.esol.specs.Formula.{Literal, isin, notin, port, size, Node, root, all, any, and, or, lit, Forest, none, tree, kindNumber, nodeCount, childDepth, Every, OfLiteral, ConstantLow, ConstantsLow}
+use lib.Seq.{take-all, take-at, drop-at, length-take-le, ext-getD, drop-append-add}
+use Rattle.esol.specs.Formula.{isin, notin, port, size, Node, root, all, any, and, or, lit, Forest, none, tree, kindNumber, nodeCount, childDepth, Every, OfLiteral, ConstantLow, ConstantsLow}
 use Rattle.esol.specs.Configuration.{Configuration, configuration, inMasks}
 use Rattle.esol.specs.Truth.{Tuple}
 use Rattle.esol.specs.Penalty.{sum, below, penalties, penalty}
@@ -26,7 +26,7 @@ use Rattle.plan.proofs.Fields.{node-fields, kind-depth, kind-depth-le, kind-wid
 use Rattle.plan.proofs.Judging.{every-node, width-low}
 use borrow.Author.Tests.{leb-true}
 use Rattle.load.specs.Joined.{joinAll, merged}
-use Rattle.load.specs.Fill.{joinOf, spreadOf, startCell, treewise, config, table, NoStray, StartPlaced, started, FillPlaced, Filled, Fills}
+use Rattle.load.specs.Fill.{joinOf, spreadOf, startCell, treewise, config, table, StartPlaced, started, FillPlaced, Filled, Fills}
 use Rattle.load.proofs.Prefix.{join-append}
 use Rattle.load.proofs.Values.{own-cell, cells-below, table-tree}
 

@@ -1,26 +1,26 @@
 -- A whole plan: its masks, its root and what stands below the root. Assumes nothing.
 use mathlib.Core.Path.{_≡_, refl, sym, ap, ap₂, _∙_, subst}
-use mathlib.Core.Bool.{Bool, true, false, _&&_, false≢true, true≢false}
+use mathlib.Core.Bool.{Bool, true, false, false≢true}
 use mathlib.Core.List.{List, [], _∷_, _++_, append-nil}
-use Prim.Native.Nat.{ℕ, zero, suc, _+_, _-_, _*_, _^_, _≤_, _<_}
+use Prim.Native.Nat.{ℕ, zero, suc, _+_, _-_, _*_, _≤_, _<_}
 use native.Mathlib.Nat.{pow-zero}
 use native.Mathlib.Numerals.{add-one}
 use native.Mathlib.Omega.{arith}
 use lib.ListN.{length, getD, take, drop, length-append, length-drop, take-append-drop}
 use lib.Seq.{take-suc, take-at, getD-take, length-take-le, drop-drop}
-use Rattle.esol.specs.Formula.{Node, root, Forest, none, tree, Plan, kindNumber, nodeCount, childDepth}
-use Rattle.esol.specs.Configuration.{Configuration, configuration, inMasks, ownMasks, spelled, withinPorts}
+use Rattle.esol.specs.Formula.{root, Forest, none, tree, Plan, kindNumber, nodeCount, childDepth}
+use Rattle.esol.specs.Configuration.{Configuration, ownMasks, spelled, withinPorts}
 use Rattle.esol.specs.Penalty.{penalty}
 use Rattle.esol.specs.Cells.{cellCount, tupleAt, tabulate, layout, ownCells, cells}
 use borrow.Author.Tests.{eq-eqb}
 use Rattle.esol.proofs.Lists.{and-left, and-right, and-true}
 use Rattle.plan.specs.Bytes.{headerLength, recordLength, wordBytes, relationByte, aByte, bByte, recordOf, records, header, encoding}
-use Rattle.plan.specs.Rules.{planRule, treeCount, arityRule}
-use Rattle.plan.specs.Decode.{TableOf, sound, decode}
+use Rattle.plan.specs.Rules.{treeCount, arityRule}
+use Rattle.plan.specs.Decode.{sound, decode}
 use Rattle.plan.proofs.Encoding.{length-records, decode-sound, one-plan}
 use Rattle.plan.proofs.Whole.{RootedIs, is-rooted, rooted-is}
 use Rattle.load.specs.Joined.{unitOf, joinAll}
-use Rattle.load.specs.Fill.{joinOf, startCell, treewise, config, table, NoStray, FillPlaced, Filled, Fills, FillReady, FillsPlan}
+use Rattle.load.specs.Fill.{joinOf, startCell, treewise, config, table, NoStray, FillPlaced, Fills, FillsPlan}
 use Rattle.load.specs.Load.{allWithin}
 use Rattle.load.proofs.Values.{own-cell, table-tree}
 use Rattle.load.proofs.Filling.{low-below}

@@ -1,7 +1,7 @@
 -- Tables of which the first cells are written, one after another, and joins of lists. Assumes nothing.
 use mathlib.Core.Path.{_≡_, refl, sym, ap, ap₂, _∙_}
 use mathlib.Core.List.{List, [], _∷_, _++_, append-assoc}
-use Prim.Native.Nat.{ℕ, zero, suc, _+_, _-_, _*_, _≤_, _<_}
+use Prim.Native.Nat.{ℕ, suc, _+_, _-_, _*_, _≤_, _<_}
 use native.Mathlib.Nat.{add-zero, suc-mul, mul-le-mul-right}
 use native.Mathlib.Numerals.{add-one}
 use native.Mathlib.Omega.{arith}
@@ -9,7 +9,7 @@ use lib.ListN.{length, getD, take, drop, set, length-append, length-drop}
 use lib.Seq.{drop-cons, set-at, take-suc, getD-drop, drop-drop, drop-append-add}
 use Rattle.esol.specs.Cells.{tabulate}
 use Rattle.esol.proofs.Tables.{length-tabulate}
-use Rattle.load.specs.Joined.{meet, joinAll, merged}
+use Rattle.load.specs.Joined.{meet, joinAll}
 
 -- a table xs of which the first t cells are g's
 abbrev pub written : (ℕ → ℕ) → ℕ → List ℕ → List ℕ

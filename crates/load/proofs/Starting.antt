@@ -1,10 +1,10 @@
 -- How a node's own cells are begun. Assumes nothing.
 use mathlib.Core.Path.{_≡_, refl}
 use mathlib.Core.Bool.{true}
-use Prim.Native.Nat.{ℕ, zero, suc, _≤_, _<_}
+use Prim.Native.Nat.{ℕ, zero, suc, _≤_}
 use native.Mathlib.Omega.{arith}
 use Rattle.esol.specs.Configuration.{Configuration}
-use Rattle.esol.specs.Formula.{Literal, isin, notin, port, size, Node, root, all, any, and, or, lit, kindNumber, relationOf}
+use Rattle.esol.specs.Formula.{isin, notin, port, size, Node, root, all, any, and, or, lit, kindNumber}
 use Rattle.esol.specs.Truth.{Tuple}
 use Rattle.esol.specs.Penalty.{literalPenalty}
 use Rattle.plan.specs.Bytes.{nodeOf}

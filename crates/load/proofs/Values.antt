@@ -1,26 +1,23 @@
 -- What a node's cells come to when all below them is joined: Definition 5's penalty. Assumes nothing.
-use mathlib.Core.Path.{_≡_, refl, sym, ap, ap₂, _∙_, subst}
-use mathlib.Core.Bool.{Bool, true, false, cond, _&&_, false≢true}
-use mathlib.Core.List.{List, [], _∷_, _++_, append-assoc, append-nil}
-use Prim.Native.Nat.{ℕ, zero, suc, _+_, _-_, _*_, _/_, _%_, _^_, _≤_, _<_, min}
+use mathlib.Core.Path.{_≡_, refl, sym, ap, ap₂, _∙_}
+use mathlib.Core.Bool.{true}
+use mathlib.Core.List.{List, [], _∷_, _++_, append-nil}
+use Prim.Native.Nat.{ℕ, zero, suc, _+_, _-_, _*_, _%_, _^_, _≤_, _<_, min}
 use native.Mathlib.Nat.{mod-eq-of-lt, pow-suc, mul-one, min-le-left, add-zero}
-use native.Mathlib.Numerals.{add-one}
 use native.Mathlib.Omega.{arith}
 use lib.Arith.{digits-div, digits-mod, digits-lt}
 use lib.ListN.{length, getD, take, drop, length-drop, length-append, List·getD-append}
-use lib.Seq.{take-suc, getD-drop, take-append-seam}
-use lib.Dec.{eqb, leb}
+use lib.Seq.{take-suc, getD-drop}
 use borrow.Author.Tests.{eqb-true, leb-true}
-use Rattle.esol.specs.Formula.{Literal, isin, notin, port, size, Node, root, all, any, and, or, lit, Forest, none, tree, kindNumber, childDepth}
+use Rattle.esol.specs.Formula.{isin, notin, port, size, Node, root, all, any, and, or, lit, Forest, none, tree, kindNumber, childDepth}
 use Rattle.esol.specs.Configuration.{Configuration}
 use Rattle.esol.specs.Truth.{Tuple}
 use Rattle.esol.specs.Penalty.{sum, least, copy, combine, literalPenalty, eachPort, below, penalties, penalty}
-use Rattle.esol.specs.Cells.{cellCount, tupleAt, tabulate, siblingFirst, layout, CellRule}
-use Rattle.esol.proofs.Tables.{length-tabulate, getD-tabulate, tabulate-cong}
+use Rattle.esol.specs.Cells.{tupleAt, tabulate, siblingFirst, layout}
+use Rattle.esol.proofs.Tables.{length-tabulate, getD-tabulate}
 use Rattle.plan.specs.Rules.{treeCount, arityRule}
 use Rattle.load.specs.Joined.{meet, unitOf, joinAll}
 use Rattle.load.specs.Fill.{joinOf, spreadOf, startCell, treewise, table}
-use Rattle.load.proofs.Prefix.{join-append}
 
 -- a sum that stays below 2^32
 join-sum : (x : ℕ) (ys : List ℕ) → x + sum ys < 4294967296 → joinAll 0 x ys ≡ x + sum ys

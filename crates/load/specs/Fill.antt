@@ -2,15 +2,15 @@
 use mathlib.Core.Path.{_≡_}
 use mathlib.Core.Bool.{true, cond, _&&_}
 use mathlib.Core.List.{List, [], _∷_, _++_}
-use Prim.Native.Nat.{ℕ, zero, suc, _+_, _-_, _*_, _%_, _^_, _≤_, _<_}
+use Prim.Native.Nat.{ℕ, _+_, _-_, _*_, _%_, _^_, _≤_, _<_}
 use lib.Dec.{leb, ltb}
 use lib.ListN.{length, getD, take, drop}
-use Rattle.esol.specs.Formula.{Node, root, all, any, and, or, lit, Literal, Forest, none, tree, Plan, kindNumber, nodeCount, childDepth}
+use Rattle.esol.specs.Formula.{Node, root, all, any, and, or, lit, Forest, none, tree, Plan, kindNumber, nodeCount, childDepth}
 use Rattle.esol.specs.Configuration.{Configuration, configuration, inMasks, ownMasks, spelled, withinPorts}
 use Rattle.esol.specs.Truth.{Tuple}
 use Rattle.esol.specs.Penalty.{literalPenalty, below, penalty}
 use Rattle.esol.specs.Cells.{cellCount, tupleAt, tabulate, layout, ownCells, cells as planCells}
-use Rattle.plan.specs.Bytes.{recordLength, kindField, relationField, aField, bField, nodeOf, records}
+use Rattle.plan.specs.Bytes.{recordLength, nodeOf, records}
 use Rattle.plan.specs.Rules.{everyNode, nodeRule}
 use Rattle.plan.specs.Decode.{sound, decode}
 use Rattle.plan.specs.Check.{fieldRule}

@@ -1,7 +1,7 @@
 -- How the cells of a node are joined to the cells above them: internal to the crate.
 use mathlib.Core.Bool.{cond}
 use mathlib.Core.List.{List, [], _∷_, _++_}
-use Prim.Native.Nat.{ℕ, zero, suc, _+_, _-_, _*_, _%_, min}
+use Prim.Native.Nat.{ℕ, _+_, _*_, _%_, min}
 use lib.Dec.{eqb}
 use lib.ListN.{getD, take, drop}
 use Rattle.esol.specs.Cells.{tabulate}

@@ -2,7 +2,7 @@
 -- part means that 11, 12 or a node past the count applies." (paper 01, section One move)
 use mathlib.Core.Bool.{cond, _||_}
 use mathlib.Core.List.{List, [], _∷_, _++_}
-use Prim.Native.Nat.{ℕ, zero, suc, _-_, _^_}
+use Prim.Native.Nat.{ℕ, _^_}
 use lib.Dec.{leb, ltb}
 use lib.ListN.{length, getD, take, drop}
 use Rattle.esol.specs.Formula.{Forest, none, tree, Plan, nodeCount, childDepth}

@@ -1,12 +1,11 @@
-use mathlib.Core.Path.{_≡_, refl, sym, ap, ap₂, _∙_}
-use Prim.Native.Nat.{_+_, _-_, _*_, _≤_}
+use mathlib.Core.Path.{ap₂, _∙_}
 use native.Mathlib.Omega.{arith}
 use borrow.Author.Needs.{needs}
 use lib.ListN.{length}
 use Rattle.plan.specs.Bytes.{recordLength, kindField, relationField, aField, bField}
 use Rattle.load.specs.Joined.{merged}
 use Rattle.load.specs.Fill.{Fills}
-use Rattle.load.proofs.Filling.{lent, back, back-length, fill-none, fill-facts, fill-tree}
+use Rattle.load.proofs.Filling.{back, back-length, fill-none, fill-facts, fill-tree}
 use Prim.Native.Nat.{ℕ, _<_}
 use borrow.Fn.Kinds.{In}
 use borrow.Fn.PlainCycle.{Measures, is, falls, and}

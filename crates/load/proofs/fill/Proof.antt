@@ -1,10 +1,8 @@
-use mathlib.Core.Path.{_≡_, refl, sym, ap, _∙_}
-use Prim.Native.Nat.{ℕ, _-_, _≤_}
+use mathlib.Core.Path.{_≡_}
+use Prim.Native.Nat.{_-_}
 use native.Mathlib.Omega.{arith}
-use lib.ListN.{length, take}
 use Rattle.plan.specs.Bytes.{headerLength, recordLength}
-use Rattle.load.specs.Fill.{Fills, NoStray}
-use Rattle.load.proofs.Loading.{Ready, ready, placed-plan, plan-filled}
+use Rattle.load.proofs.Loading.{ready, placed-plan, plan-filled}
 use borrow.Author.Needs.{needs}
 use Rattle.load.proofs.fill.Statement.{statement}
 use Rattle.load.proofs.fill.Tie as tie

@@ -1,9 +1,8 @@
-use mathlib.Core.Path.{_≡_, refl, sym, ap, _∙_}
-use Prim.Native.Nat.{ℕ, _+_, _≤_}
+use mathlib.Core.Path.{_∙_}
+use Prim.Native.Nat.{_+_}
 use native.Mathlib.Omega.{arith}
 use borrow.Author.Needs.{needs}
 use borrow.Author.Tests.{not-true, not-false}
-use lib.ListN.{length}
 use Rattle.load.proofs.Loading.{ready, own-count}
 use Rattle.load.proofs.NodeParts.{bound-read, node-bounds}
 use Rattle.load.proofs.NodeAnswers.{node-broken, node-short, node-past, node-found}
