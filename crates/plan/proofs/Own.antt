@@ -1,13 +1,13 @@
 -- Bytes past a plan's own are never read, and every plan within the rules has a table of bytes. Assumes nothing.
 use mathlib.Core.Path.{_≡_, refl, sym, ap, ap₂, _∙_, subst}
-use mathlib.Core.Bool.{true, false≢true}
+use mathlib.Core.Bool.{Bool, true, false, false≢true}
 use mathlib.Core.List.{List, [], _∷_, _++_, append-nil}
 use Prim.Native.Nat.{ℕ, zero, suc, _+_, _*_, _/_, _%_, _≤_, _<_}
 use native.Mathlib.Omega.{arith}
 use lib.Dec.{ltb}
 use lib.ListN.{length, getD, take, drop, length-append, take-append-drop, List·getD-append}
-use lib.Seq.{take-at, getD-take, length-take-le}
-use borrow.Author.Tests.{leb-true, ltb-true}
+use lib.Seq.{take-all, take-at, getD-take, length-take-le}
+use borrow.Author.Tests.{leb-true, ltb-true, ltb-false}
 use Rattle.esol.specs.Formula.{isin, notin, port, size, Node, root, all, any, and, or, lit, Forest, none, tree, Plan, kindNumber, nodeCount, childDepth}
 use Rattle.esol.proofs.Lists.{and-left, and-right}
 use Rattle.esol.proofs.Relations.{relation-number-le}
@@ -77,6 +77,23 @@ own-only l rest h = go (decode l) refl
     go : (x : Decoded) → decode l ≡ x → decode other ≡ x
     go broken e = none-else (decode other) refl e
     go (sound P) e = sound-both l rest P e
+
+-- Two byte strings that agree on the own bytes of one, and on being long enough for them, are tables of the same plan or of none.
+pub own-agree : (l l′ : List ℕ) → take (ownBytes l) l ≡ take (ownBytes l) l′ → ltb (length l) (ownBytes l) ≡ ltb (length l′) (ownBytes l)
+    → decode l ≡ decode l′
+own-agree l l′ e s = go (ltb (length l) (ownBytes l)) refl
+  where
+    m : ℕ
+    m = ownBytes l
+
+    whole : (x : List ℕ) → ltb (length x) m ≡ true → take m x ≡ x
+    whole x q = take-all m x (omega (arith, ltb-true (length x) m q))
+
+    go : (b : Bool) → ltb (length l) m ≡ b → decode l ≡ decode l′
+    go true q = ap decode (sym (whole l q) ∙ e ∙ whole l′ (sym s ∙ q))
+    go false q =
+        sym (own-only l (drop m l′) (ltb-false (length l) m q))
+        ∙ ap decode (ap (λ (x : List ℕ). x ++ drop m l′) e ∙ take-append-drop m l′)
 
 -- Every number of a list is a byte.
 abbrev Bytes : List ℕ → Type 0
