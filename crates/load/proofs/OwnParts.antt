@@ -35,11 +35,12 @@ load-sound : (P : Plan) (masks masks′ xs xs′ : List ℕ) → SameFirst (ownM
     × (take (ownCells P) (loads (sound P) masks xs .1) ≡ take (ownCells P) (loads (sound P) masks′ xs′ .1))
 unfolding loads loadPlan
 load-sound P masks masks′ xs xs′ m x =
-    let same = load-own P masks masks′ xs xs′ (m .entries) (x .entries) (m .enough) (x .enough) in
-    (ap (λ r. r .0) same,
-    own-after (refusal (loadGrounds P (take (ownMasks P) masks) (length masks) (length xs))) P (take (ownMasks P) masks) xs
-    ∙ ap (λ r. r .1) same
-    ∙ sym (own-after (refusal (loadGrounds P (take (ownMasks P) masks′) (length masks′) (length xs′))) P (take (ownMasks P) masks′) xs′))
+    let same = load-own P masks masks′ xs xs′ (m .entries) (x .entries) (m .enough) (x .enough) in (
+      ap (λ r. r .0) same,
+      own-after (refusal (loadGrounds P (take (ownMasks P) masks) (length masks) (length xs))) P (take (ownMasks P) masks) xs
+          ∙ ap (λ r. r .1) same
+          ∙ sym (own-after (refusal (loadGrounds P (take (ownMasks P) masks′) (length masks′) (length xs′))) P (take (ownMasks P) masks′) xs′),
+    )
 
 -- Two loads whose tables agree on the plan's own bytes, masks and cells, and on being long enough for them, have the same answer and
 -- leave the same own cells.
@@ -48,11 +49,12 @@ pub load-own-parts : (l l′ masks masks′ xs xs′ : List ℕ) → SameFirst (
     → (loads (decode l) masks xs .0 ≡ loads (decode l′) masks′ xs′ .0)
     × ((P : Plan) → decode l ≡ sound P → take (ownCells P) (loads (decode l) masks xs .1) ≡ take (ownCells P) (loads (decode l′) masks′ xs′ .1))
 unfolding loads
-load-own-parts l l′ masks masks′ xs xs′ b same =
-    (go (decode l) refl ∙ ap (λ (d : Decoded). loads d masks′ xs′ .0) agree,
-    λ P e. ap (λ (d : Decoded). take (ownCells P) (loads d masks xs .1)) e
-    ∙ load-sound P masks masks′ xs xs′ (same P e .0) (same P e .1) .1
-    ∙ ap (λ (d : Decoded). take (ownCells P) (loads d masks′ xs′ .1)) (sym e ∙ agree))
+load-own-parts l l′ masks masks′ xs xs′ b same = (
+  go (decode l) refl ∙ ap (λ (d : Decoded). loads d masks′ xs′ .0) agree,
+  λ P e. ap (λ (d : Decoded). take (ownCells P) (loads d masks xs .1)) e
+      ∙ load-sound P masks masks′ xs xs′ (same P e .0) (same P e .1) .1
+      ∙ ap (λ (d : Decoded). take (ownCells P) (loads d masks′ xs′ .1)) (sym e ∙ agree),
+)
   where
     agree : decode l ≡ decode l′
     agree = own-agree l l′ (b .entries) (b .enough)
