@@ -2,3 +2,6 @@
 pub mod Bytes
 pub mod Literals
 pub mod Writing
+pub mod Forests
+pub mod Joints
+pub mod Emitting

@@ -4,11 +4,12 @@ use mathlib.Core.Bool.{Bool, true, false, not}
 use mathlib.Core.List.{List, []}
 use Prim.Native.Nat.{ℕ, zero, suc, _*_, _≤_}
 use lib.ListN.{length}
-use Rattle.esol.specs.Formula.{Forest, none}
+use Rattle.esol.specs.Formula.{Literal, lit, Forest, none, tree, kindNumber}
 use Rattle.syntax.specs.Tree.{Join, conj, disj, imp, rev, iff, Tree}
 use Rattle.syntax.specs.Stored.{joinOperator, Stored}
 use Rattle.core.specs.Names.{fourth, Lettered}
-use Rattle.core.specs.Core.{Above, alone, inside, Part, two, joinWith, place}
+use Rattle.core.specs.Grounds.{ReadAs}
+use Rattle.core.specs.Core.{Above, alone, inside, jointNode, Part, two, literalAt, joinWith, place}
 use Rattle.plan.specs.Bytes.{recordLength}
 use Rattle.emission.specs.declared.Bound.{Bound}
 use Rattle.emission.specs.declared.Up.{Up}
@@ -46,6 +47,15 @@ rightAt imp p = p
 rightAt rev p = not p
 rightAt iff p = p
 
+unfoldable pub JointIs : ℕ → Bool → ℕ → Type 0
+JointIs operator p r = (j : Join) → operator ≡ joinOperator j → r ≡ kindNumber (jointNode (jointAt j p))
+
+unfoldable pub LeftIs : ℕ → Bool → Bool → Type 0
+LeftIs operator p r = (j : Join) → operator ≡ joinOperator j → r ≡ leftAt j p
+
+unfoldable pub RightIs : ℕ → Bool → Bool → Type 0
+RightIs operator p r = (j : Join) → operator ≡ joinOperator j → r ≡ rightAt j p
+
 -- What the joint of a join holds: its two parts, or for `<->` the joints of `->` and `<-`.
 unfoldable pub rowOf : Join → Bool → (Bool → Part) → (Bool → Part) → Forest → Forest
 rowOf conj p F G s = F p (inside p) (G p (inside p) s)
@@ -59,6 +69,12 @@ pub record Ready (sets : List ℕ) (i : ℕ) (out : List ℕ) : Type 0 where
   pub few-sets : length sets ≤ 16
   pub placed : recordLength * i ≤ length out
   pub few : length out ≤ recordLength * 512
+
+-- The record of a literal's node.
+pub record EmitsLiteral (operator payload : ℕ) (sets : List ℕ) (b : Bound) (p : Bool) (parent i : ℕ) (before after : List ℕ) (r : ℕ) : Type 0 where
+  pub placed : recordLength * r ≤ length before
+  pub writes : (l : Literal) → ReadAs operator payload l
+      → Records (tree (lit (literalAt sets (boundLetters b) p l)) none none) parent i before after r
 
 -- The tree whose records end at place e, with d quantifiers around it and no fourth.
 pub record Sound (t : List ℕ) (e d : ℕ) (a : Tree) : Type 0 where

@@ -13,10 +13,13 @@ ghost use mathlib.Core.Bool.{true, false};
 ghost use mathlib.Core.List.{_++_};
 ghost use Prim.Native.Nat.{ℕ, _+_, _*_, _-_, _%_, _≤_, _<_};
 ghost use lib.ListN.{length};
+ghost use Rattle.esol.specs.Formula.{kindNumber};
+ghost use Rattle.core.specs.Core.{jointNode};
 ghost use Rattle.core.specs.Names.{setNumber, variableNumber};
 ghost use Rattle.plan.specs.Bytes.{recordLength, wordBytes};
 ghost use Rattle.emission.specs.Fields.{fieldBytes, boundLetters, Binds, RelationIs, QuantifierIs, MemberIs, LiteralIs};
 ghost use Rattle.emission.specs.Written.{Written};
+ghost use Rattle.emission.specs.Emits.{Ready, EmitsLiteral, JointIs, LeftIs, RightIs, Emits, EmitsJoin, EmitsRow};
 
 // Operators of the tree's records (crate syntax, specs/Stored.antt).
 const PORT: u16 = 16;
@@ -210,4 +213,186 @@ fn put_record(out: &mut [u8], i: usize, f: Fields, parent: u16, end: usize)
     out[at + 3] = f.b;
     put_word(out, at + 4, parent);
     put_word(out, at + 6, end as u16);
+}
+
+// The own bytes of a node that has no relation, a and b.
+fn plain(kind: u8) -> Fields
+    ensures { λ r. ⌜ (r .kind ≡ kind) × (r .relation ≡ 0) × (r .a ≡ 0) × (r .b ≡ 0) ⌝ }
+{
+    Fields {
+        kind: kind,
+        relation: 0,
+        a: 0,
+        b: 0,
+    }
+}
+
+// Writes the record of a literal's node as node i, if there is room; says the next number.
+fn put_literal(
+    operator: u16,
+    x: u16,
+    sets: &[u8],
+    bound: Bound,
+    p: bool,
+    parent: u16,
+    i: usize,
+    out: &mut [u8],
+) -> usize
+    requires { ⌜ Ready (now sets) i (now out) ⌝ }
+    ensures { λ r. ⌜ EmitsLiteral operator x (now (sets .entry)) bound p parent i (now (out .entry)) (now (out .exit)) r ⌝ }
+{
+    if out.len() < RECORD * (i + 1) {
+        return i;
+    }
+    let f = literal_fields(operator, x, sets, bound, p);
+    put_record(out, i, f, parent, i + 1);
+    i + 1
+}
+
+// The kind of "and" where j is true, else of "or".
+fn kind_of(j: bool) -> u8
+    ensures { λ r. ⌜ r ≡ kindNumber (jointNode j) ⌝ }
+{
+    if j {
+        return 3;
+    }
+    4
+}
+
+// The kind of the joint that an operator makes.
+fn joint_kind(operator: u16, p: bool) -> u8
+    ensures { λ r. ⌜ JointIs operator p r ⌝ }
+{
+    if operator == 5 {
+        return kind_of(p);
+    }
+    if operator == 9 {
+        return kind_of(p);
+    }
+    kind_of(flip(p))
+}
+
+// The polarities of an operator's two parts.
+fn left_at(operator: u16, p: bool) -> bool
+    ensures { λ r. ⌜ LeftIs operator p r ⌝ }
+{
+    if operator == 7 {
+        return flip(p);
+    }
+    p
+}
+
+fn right_at(operator: u16, p: bool) -> bool
+    ensures { λ r. ⌜ RightIs operator p r ⌝ }
+{
+    if operator == 8 {
+        return flip(p);
+    }
+    p
+}
+
+// Writes the records of the core of the tree whose records end at e, or of its negation where p is false, below the node
+// `up`, from node i on; says the next number. It is called where the core has few nodes: it visits what it writes.
+fn emit(
+    t: &[u16],
+    e: usize,
+    sets: &[u8],
+    bound: Bound,
+    p: bool,
+    up: Up,
+    i: usize,
+    out: &mut [u8],
+) -> usize
+    requires { ⌜ Ready (now sets) i (now out) ⌝ }
+    ensures { λ r. ⌜ Emits (now (t .entry)) e (now (sets .entry)) bound p up i (now (out .entry)) (now (out .exit)) r ⌝ }
+{
+    if e < 2 {
+        return i;
+    }
+    if t.len() < e {
+        return i;
+    }
+    let operator = operator_at(t, e);
+    let x = payload_at(t, e);
+    if is_literal(operator) {
+        return put_literal(operator, x, sets, bound, p, up.number, i, out);
+    }
+    if operator == 2 {
+        return emit(t, e - 2, sets, bound, flip(p), up, i, out);
+    }
+    if operator < 5 {
+        if out.len() < RECORD * (i + 1) {
+            return i;
+        }
+        let kind = quantifier_kind(p, operator);
+        let below = Up {
+            kind: kind,
+            number: i as u16,
+        };
+        let end = emit(t, e - 2, sets, with_letter(bound, x), p, below, i + 1, out);
+        put_record(out, i, plain(kind), up.number, end);
+        return end;
+    }
+    let m = place(x);
+    if e - 2 < m {
+        return i;
+    }
+    joined(t, m, e - 2, operator, sets, bound, p, up, i, out)
+}
+
+// The same for the two trees whose records end at m and e, joined by an operator. "No "and" is a child of "and"": the joint
+// has no record inside its like.
+fn joined(
+    t: &[u16],
+    m: usize,
+    e: usize,
+    operator: u16,
+    sets: &[u8],
+    bound: Bound,
+    p: bool,
+    up: Up,
+    i: usize,
+    out: &mut [u8],
+) -> usize
+    requires { ⌜ Ready (now sets) i (now out) ⌝ }
+    ensures { λ r. ⌜ EmitsJoin (now (t .entry)) m e operator (now (sets .entry)) bound p up i (now (out .entry)) (now (out .exit)) r ⌝ }
+{
+    let kind = joint_kind(operator, p);
+    if kind == up.kind {
+        return row(t, m, e, operator, sets, bound, p, up, i, out);
+    }
+    if out.len() < RECORD * (i + 1) {
+        return i;
+    }
+    let below = Up {
+        kind: kind,
+        number: i as u16,
+    };
+    let end = row(t, m, e, operator, sets, bound, p, below, i + 1, out);
+    put_record(out, i, plain(kind), up.number, end);
+    end
+}
+
+// What the joint holds: its two parts, or for `<->` the joints of `->` and `<-`.
+fn row(
+    t: &[u16],
+    m: usize,
+    e: usize,
+    operator: u16,
+    sets: &[u8],
+    bound: Bound,
+    p: bool,
+    up: Up,
+    i: usize,
+    out: &mut [u8],
+) -> usize
+    requires { ⌜ Ready (now sets) i (now out) ⌝ }
+    ensures { λ r. ⌜ EmitsRow (now (t .entry)) m e operator (now (sets .entry)) bound p up i (now (out .entry)) (now (out .exit)) r ⌝ }
+{
+    if 9 <= operator {
+        let n = joined(t, m, e, 7, sets, bound, p, up, i, out);
+        return joined(t, m, e, 8, sets, bound, p, up, n, out);
+    }
+    let n = emit(t, m, sets, bound, left_at(operator, p), up, i, out);
+    emit(t, e, sets, bound, right_at(operator, p), up, n, out)
 }
