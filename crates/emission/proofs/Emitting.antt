@@ -28,7 +28,7 @@ use Rattle.emission.proofs.Forests.{shown, records-both, records-tree, 
 use Rattle.emission.proofs.Joints.{join-row, row-two, above-joint, joint-merged, joint-own, above-quantifier}
 
 -- a record written from a node's own bytes
-recorded : (f : Fields) (n : Node) (at parent end : ℕ) (M O : List ℕ) → Shows f n → Written at (fieldBytes f parent end) M O
+pub recorded : (f : Fields) (n : Node) (at parent end : ℕ) (M O : List ℕ) → Shows f n → Written at (fieldBytes f parent end) M O
     → Written at (recordOf n parent end) M O
 recorded f n at parent end M O s w = rw (← shown f n parent end s) w
 

@@ -5,3 +5,4 @@ pub mod Writing
 pub mod Forests
 pub mod Joints
 pub mod Emitting
+pub mod Whole

@@ -1,16 +1,16 @@
 -- What the writers of a core's records ask and ensure.
 use mathlib.Core.Path.{_≡_}
 use mathlib.Core.Bool.{Bool, true, false, not}
-use mathlib.Core.List.{List, []}
-use Prim.Native.Nat.{ℕ, zero, suc, _*_, _≤_}
-use lib.ListN.{length}
-use Rattle.esol.specs.Formula.{Literal, lit, Forest, none, tree, kindNumber}
+use mathlib.Core.List.{List, _++_}
+use Prim.Native.Nat.{ℕ, zero, suc, _+_, _*_, _≤_}
+use lib.ListN.{length, drop}
+use Rattle.esol.specs.Formula.{Literal, lit, Forest, none, tree, kindNumber, nodeCount}
 use Rattle.syntax.specs.Tree.{Join, conj, disj, imp, rev, iff, Tree}
 use Rattle.syntax.specs.Stored.{joinOperator, Stored}
 use Rattle.core.specs.Names.{fourth, Lettered}
 use Rattle.core.specs.Grounds.{ReadAs}
-use Rattle.core.specs.Core.{Above, alone, inside, jointNode, Part, two, literalAt, joinWith, place}
-use Rattle.plan.specs.Bytes.{recordLength}
+use Rattle.core.specs.Core.{Above, alone, inside, jointNode, Part, two, literalAt, joinWith, place, coreOf, planOf}
+use Rattle.plan.specs.Bytes.{headerLength, recordLength, records, encoding}
 use Rattle.emission.specs.declared.Bound.{Bound}
 use Rattle.emission.specs.declared.Up.{Up}
 use Rattle.emission.specs.Fields.{boundLetters}
@@ -100,3 +100,20 @@ pub record EmitsRow (t : List ℕ) (m e operator : ℕ) (sets : List ℕ) (b : B
   pub placed : recordLength * r ≤ length before
   pub writes : (j : Join) → operator ≡ joinOperator j → aboveOf (up .kind) ≡ inside (jointAt j p) → (x y : Tree) → Sound t m (b .count) x → Sound t e (b .count) y
       → Records (rowOf j p (core sets b x) (core sets b y) none) (up .number) i before after r
+
+-- The records of a text's core fill a table of their length. "The root is node 0 with parent 65,535."
+unfoldable pub PutsCore : List ℕ → ℕ → List ℕ → List ℕ → List ℕ → Type 0
+PutsCore t e sets before after =
+    (a : Tree) → Sound t e 0 a → length before ≡ recordLength * nodeCount (coreOf sets a) → after ≡ records (coreOf sets a) 0 65535
+
+-- The table has room for the header and so many records.
+pub record PlanReady (sets : List ℕ) (nodes : ℕ) (table : List ℕ) : Type 0 where
+  pub few-sets : length sets ≤ 16
+  pub some : 1 ≤ nodes
+  pub few : nodes ≤ 512
+  pub room : headerLength + recordLength * nodes ≤ length table
+
+-- "Reading [..] writes the plan table": the bytes of the plan, and behind them what stood there.
+unfoldable pub WritesPlan : ℕ → List ℕ → List ℕ → ℕ → ℕ → List ℕ → List ℕ → Type 0
+WritesPlan u sets t e nodes before after =
+    (a : Tree) → Sound t e 0 a → nodes ≡ nodeCount (coreOf sets a) → after ≡ encoding (planOf u sets a) ++ drop (headerLength + recordLength * nodes) before

@@ -16,10 +16,10 @@ ghost use lib.ListN.{length};
 ghost use Rattle.esol.specs.Formula.{kindNumber};
 ghost use Rattle.core.specs.Core.{jointNode};
 ghost use Rattle.core.specs.Names.{setNumber, variableNumber};
-ghost use Rattle.plan.specs.Bytes.{recordLength, wordBytes};
+ghost use Rattle.plan.specs.Bytes.{headerLength, recordLength, wordBytes, header};
 ghost use Rattle.emission.specs.Fields.{fieldBytes, boundLetters, Binds, RelationIs, QuantifierIs, MemberIs, LiteralIs};
 ghost use Rattle.emission.specs.Written.{Written};
-ghost use Rattle.emission.specs.Emits.{Ready, EmitsLiteral, JointIs, LeftIs, RightIs, Emits, EmitsJoin, EmitsRow};
+ghost use Rattle.emission.specs.Emits.{Ready, EmitsLiteral, JointIs, LeftIs, RightIs, Emits, EmitsJoin, EmitsRow, PutsCore, PlanReady, WritesPlan};
 
 // Operators of the tree's records (crate syntax, specs/Stored.antt).
 const PORT: u16 = 16;
@@ -395,4 +395,48 @@ fn row(
     }
     let n = emit(t, m, sets, bound, left_at(operator, p), up, i, out);
     emit(t, e, sets, bound, right_at(operator, p), up, n, out)
+}
+
+// The number of the root's parent.
+const NO_PARENT: u16 = 65535;
+
+// Writes the header: the mark `PLN`, version 1, u, n and the node count.
+fn put_header(u: u8, n: u8, nodes: u16, table: &mut [u8])
+    requires { ⌜ headerLength ≤ length (now table) ⌝ }
+    ensures { λ _. ⌜ Written 0 (header u n nodes) (now (table .entry)) (now (table .exit)) ⌝ }
+{
+    table[0] = 80;
+    table[1] = 76;
+    table[2] = 78;
+    put_word(table, 3, 1);
+    table[5] = u;
+    table[6] = n;
+    put_word(table, 7, nodes);
+}
+
+// Writes the records of a text's core: the root is node 0.
+fn put_core(t: &[u16], e: usize, sets: &[u8], out: &mut [u8])
+    requires { ⌜ Ready (now sets) 1 (now out) ⌝ }
+    ensures { λ _. ⌜ PutsCore (now (t .entry)) e (now (sets .entry)) (now (out .entry)) (now (out .exit)) ⌝ }
+{
+    let none = Bound {
+        count: 0,
+        outer: 0,
+        middle: 0,
+        inner: 0,
+    };
+    let root = Up { kind: 0, number: 0 };
+    let end = emit(t, e, sets, none, true, root, 1, out);
+    put_record(out, 0, plain(0), NO_PARENT, end);
+}
+
+// Writes the plan table of the text whose tree's records end at e, over u ports; `nodes` is the node count of its core.
+pub fn write_plan(u: u8, sets: &[u8], t: &[u16], e: usize, nodes: usize, table: &mut [u8])
+    requires { ⌜ PlanReady (now sets) nodes (now table) ⌝ }
+    ensures { λ _. ⌜ WritesPlan u (now (sets .entry)) (now (t .entry)) e nodes (now (table .entry)) (now (table .exit)) ⌝ }
+{
+    put_header(u, sets.len() as u8, nodes as u16, table);
+    let from = HEADER;
+    let last = HEADER + RECORD * nodes;
+    put_core(t, e, sets, &mut table[from..last]);
 }
