@@ -1,0 +1,6 @@
+-- Laws of reading.
+pub mod Letters
+pub mod Gathering
+pub mod Grounds
+pub mod Finishing
+pub mod Answers
