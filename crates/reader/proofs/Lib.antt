@@ -4,3 +4,4 @@ pub mod Gathering
 pub mod Grounds
 pub mod Finishing
 pub mod Answers
+pub mod Theorems
