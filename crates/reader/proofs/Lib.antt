@@ -5,3 +5,4 @@ pub mod Grounds
 pub mod Finishing
 pub mod Answers
 pub mod Theorems
+pub mod Texts
