@@ -38,7 +38,7 @@ add-if2 c = search needs
 returns-2 : tie.Need-returns-2
 unfolding headerLength recordLength
 returns-2 c =
-    finish-short _ _ _ _ _ _ (from-start (c .before .before .before .before .before .before .before .before .before .args .n) (c .before .before .before .before .before .before .before .before .before .args .letters .now)) (c .before .before .before .before .core-answer .result) (c .before .before .before .before .core-answer .ensures) (c .before .before .if1 .left) _ _ refl (c .if2 .taken)
+    finish-short _ _ _ _ _ _ (from-start (c .before .before .before .before .before .before .before .before .before .args .n) (c .before .before .before .before .before .before .before .before .before .args .letters .now)) (c .before .before .before .before .core-answer .result) (c .before .before .before .before .core-answer .ensures) (c .before .before .if1 .left) (c .before .before .before .before .before .before .before .before .before .args .table .now) (c .before .before .before .before .core-answer .result .nodes) refl (omega (arith, c .if2 .taken))
 
 write-plan-requires : tie.Need-write-plan-requires
 unfolding headerLength recordLength

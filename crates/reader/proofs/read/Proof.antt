@@ -22,7 +22,7 @@ returns-2 c =
 
 returns-3 : tie.Need-returns-3
 returns-3 c =
-    read-1 _ _ _ (ports-in _ (c .before .before .if1 .left) (c .before .if2 .left)) (c .if3 .taken)
+    read-1 _ (c .before .before .before .before .before .args .text .now) _ (ports-in _ (c .before .before .if1 .left) (c .before .if2 .left)) (omega (arith, c .if3 .taken))
 
 known-bytes-requires : tie.Need-known-bytes-requires
 known-bytes-requires c κs = search needs
