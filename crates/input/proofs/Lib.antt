@@ -1,0 +1,2 @@
+-- Laws of the input's words and lines.
+pub mod Runs
