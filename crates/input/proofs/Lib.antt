@@ -1,2 +1,6 @@
 -- Laws of the input's words and lines.
 pub mod Runs
+pub mod Gathering
+pub mod Splitting
+pub mod Passing
+pub mod Stepping
