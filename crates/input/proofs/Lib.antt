@@ -4,3 +4,4 @@ pub mod Gathering
 pub mod Splitting
 pub mod Passing
 pub mod Stepping
+pub mod Closing

@@ -8,7 +8,7 @@ use lib.ListN.{length, take, set}
 use Rattle.tokens.specs.Tokens.{pick}
 use Rattle.input.specs.declared.Word.{Word}
 use Rattle.input.specs.declared.Scan.{Scan}
-use Rattle.input.specs.Lines.{ends, words, value, isRun, allRuns, values}
+use Rattle.input.specs.Lines.{ends, words, value, isRun, allRuns, values, sound, ports, masks, text}
 use Rattle.input.specs.Words.{IsWord}
 
 -- The lent tables: a plan has at most 16 masks, and a text of 4,097 bytes is too long, whatever follows.
@@ -105,3 +105,18 @@ PassesSecond s b ms r ms′ = (input tx : List ℕ) → s .phase ≡ 1 → Line2
 
 unfoldable pub PassesText : Scan → ℕ → List ℕ → Scan → List ℕ → Type 0
 PassesText s b tx r tx′ = (input ms : List ℕ) → s .phase ≡ 2 → InText input s ms tx → Scanned (input ++ (b ∷ [])) r ms tx′
+
+-- What is known where the input ends: whether its first two lines are as they should be, and then u, the masks and the text.
+pub record Lines (input : List ℕ) (r : Scan) (ms tx : List ℕ) : Type 0 where
+  pub ports-are : r .ports ≡ ports input
+  pub count-is : r .masks ≡ min 17 (length (masks input))
+  pub masks-are : take (min 16 (r .masks)) ms ≡ take 16 (masks input)
+  pub text-is : take (r .length) tx ≡ take 4097 (text input)
+
+pub record Closed (input : List ℕ) (r : Scan) (ms tx : List ℕ) : Type 0 where
+  pub ok-is : r .ok ≡ sound input
+  pub short : r .length ≤ 4097
+  pub lines : sound input ≡ true → Lines input r ms tx
+
+unfoldable pub Closes : Scan → List ℕ → Scan → List ℕ → Type 0
+Closes s ms r ms′ = (input tx : List ℕ) → Scanned input s ms tx → Closed input r ms′ tx

@@ -1,11 +1,11 @@
 // The input of planroot, piece by piece, and the answer. Paper 01, section Known plans.
 ghost use mathlib.Core.Path.{_≡_};
-ghost use mathlib.Core.Bool.{_&&_};
+ghost use mathlib.Core.Bool.{false, _&&_};
 ghost use mathlib.Core.List.{[], _∷_};
 ghost use Prim.Native.Nat.{ℕ, _+_, _*_, _-_, _≤_, _<_, min};
 ghost use lib.ListN.{length};
 ghost use Rattle.input.specs.Words.{IsWord, AddsByte, JudgesWord};
-ghost use Rattle.input.specs.Scans.{Room, Starts, placed, EndsWord, WithWord, NextPhase, PassesFirst, PassesSecond, PassesText, Steps};
+ghost use Rattle.input.specs.Scans.{Room, Starts, placed, EndsWord, WithWord, NextPhase, PassesFirst, PassesSecond, PassesText, Steps, Closes};
 
 // A word so far: nothing (0), the digit run 0 (1), another number (2), or no beginning of a digit run (3); and its number.
 pub struct Word {
@@ -273,4 +273,33 @@ pub fn step(s: Scan, bytes: &[u8], masks: &mut [u64], text: &mut [u8]) -> Scan
         i += 1;
     }
     r
+}
+
+// An input with no line end.
+fn unended() -> Scan
+    ensures { λ r. ⌜ (r .ok ≡ false) × (r .length ≡ 0) ⌝ }
+{
+    let w = empty();
+    Scan {
+        phase: 0,
+        ok: false,
+        word: w,
+        ports: 0,
+        masks: 0,
+        length: 0,
+    }
+}
+
+// The end of the input: "Line 2 may end where the input ends".
+pub fn close(s: Scan, masks: &mut [u64]) -> Scan
+    requires { ⌜ 16 ≤ length (now masks) ⌝ }
+    ensures { λ r. ⌜ Closes s (now (masks .entry)) r (now (masks .exit)) ⌝ }
+{
+    if s.phase == 0 {
+        return unended();
+    }
+    if s.phase == 1 {
+        return end_word(s, masks);
+    }
+    s
 }
