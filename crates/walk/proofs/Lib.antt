@@ -1,0 +1,3 @@
+-- Laws of the walk.
+pub mod Frame
+pub mod InPlace
