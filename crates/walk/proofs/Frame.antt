@@ -1,9 +1,8 @@
 -- Which cells the walk of a change reads and writes: those at or below one tuple. Assumes nothing.
 use mathlib.Core.Path.{_≡_, refl, sym, ap, ap₂, _∙_, subst}
-use mathlib.Core.Logic.{_≢_}
 use mathlib.Core.Bool.{Bool, true, false, cond, not}
 use mathlib.Core.List.{List, [], _∷_}
-use Prim.Native.Nat.{ℕ, zero, suc, _+_, _*_, _^_, _≤_, _<_}
+use Prim.Native.Nat.{ℕ, zero, suc, _+_, _^_, _≤_, _<_}
 use native.Mathlib.Nat.{le-trans}
 use native.Mathlib.Omega.{arith}
 use lib.Dec.{eqb}
@@ -14,9 +13,10 @@ use Rattle.esol.specs.Configuration.{Configuration, indicator}
 use Rattle.esol.specs.Truth.{Tuple}
 use Rattle.esol.specs.Penalty.{sum, below}
 use Rattle.esol.specs.Cells.{cellCount, placeOf, tupleAt, siblingFirst}
-use Rattle.esol.specs.Change.{Change, touched, Renewal, renew, OldCells, cellOf, renewals, newCell}
-use Rattle.esol.proofs.Lists.{TupleOf, empty, more, each-port-cong}
+use Rattle.esol.specs.Change.{Change, forestHit, touched, Renewal, renew, OldCells, cellOf, renewals, newCell}
+use Rattle.esol.proofs.Lists.{TupleOf, more, each-port-cong}
 use Rattle.esol.proofs.Tables.{tuple-place, place-lt}
+use Rattle.esol.proofs.Untouched.{forest-deeper}
 use Rattle.walk.specs.Walk.{changes, eachWritten, writtenBelow, written}
 
 -- x is the tuple of cells directly below the cell e of a node: e itself or, below a quantifier, e with a port
@@ -63,6 +63,16 @@ directly-one (at-any a) (at-any b) h = ap tail h
 directly-one at-and at-and h = h
 directly-one at-or at-or h = h
 directly-one at-lit at-lit h = h
+
+-- a forest without a touched cell at a tuple has none below it
+pub directly-untouched : (u : ℕ) (ch : Change) (n : Node) (c : Forest) (e x : Tuple)
+    → forestHit ch c e ≡ false → Directly u n e x → forestHit ch c x ≡ false
+directly-untouched u ch root c e x h at-root = h
+directly-untouched u ch all c e x h (at-all {p = p} l) = forest-deeper ch c p e h
+directly-untouched u ch any c e x h (at-any {p = p} l) = forest-deeper ch c p e h
+directly-untouched u ch and c e x h at-and = h
+directly-untouched u ch or c e x h at-or = h
+directly-untouched u ch (lit l) c e x h at-lit = h
 
 module _ {A : Type 0} where
   pub below-directly : (u : ℕ) (n : Node) (e : Tuple) (g h : Tuple → List A)

@@ -5,21 +5,20 @@ use mathlib.Core.Bool.{Bool, true, false, cond, _||_}
 use mathlib.Core.List.{List, [], _∷_, _++_}
 use Prim.Native.Nat.{ℕ, zero, suc, _+_, _-_, _^_, _≤_, _<_}
 use native.Mathlib.Decide.{ℕ-discrete}
-use native.Mathlib.Nat.{le-trans, zero-add}
+use native.Mathlib.Nat.{le-trans}
 use native.Mathlib.Omega.{arith}
-use lib.ListN.{length, getD, set, take, drop, length-set, length-drop, take-append-drop}
+use lib.ListN.{length, getD, set, take, drop, length-drop, take-append-drop}
 use lib.Seq.{getD-set-same, getD-set-other, getD-take, getD-drop, ext-getD}
 use Rattle.esol.specs.Formula.{Node, root, all, any, and, or, lit, Forest, none, tree, Plan, childDepth}
 use Rattle.esol.specs.Configuration.{Configuration}
 use Rattle.esol.specs.Truth.{Tuple}
 use Rattle.esol.specs.Cells.{cellCount, placeOf, tupleAt, CellRule, siblingFirst, layout, ownCells}
-use Rattle.esol.specs.Change.{Change, nodeHit, forestHit, touched, OldCells, cellOf, newCell, newCells}
+use Rattle.esol.specs.Change.{Change, nodeHit, forestHit, touched, cellOf, newCell, newCells}
 use Rattle.esol.proofs.Lists.{TupleOf, empty, more, or-left, or-right}
 use Rattle.esol.proofs.Tables.{tabulate-cong, tuple-is, place-lt, layout-read}
-use Rattle.esol.proofs.Untouched.{forest-deeper}
 use Rattle.esol.proofs.Changed.{untouched-kept}
 use Rattle.walk.specs.Walk.{eachWritten, writtenBelow, written}
-use Rattle.walk.proofs.Frame.{Directly, at-root, at-all, at-any, at-and, at-or, at-lit, Region, own, under, later, Agree, directly-tuple, written-agree, length-written, written-outside, bounds, apart, later-kept, port-kept, length-below, each-keeps}
+use Rattle.walk.proofs.Frame.{Directly, at-root, at-all, at-any, at-and, at-or, at-lit, own, under, later, Agree, directly-tuple, directly-untouched, written-agree, length-written, written-outside, bounds, apart, later-kept, port-kept, length-below, each-keeps}
 
 -- a table holds a rule's number at every cell at or below the tuple e of a forest's trees
 unfoldable pub Holds : ℕ → CellRule → List ℕ → Forest → ℕ → ℕ → Tuple → Type 0
@@ -71,14 +70,6 @@ module _ (u : ℕ) (u1 : 1 ≤ u) (k : Configuration) (ch : Change) (old : List 
   abbrev walk : Forest → ℕ → ℕ → Tuple → List ℕ → List ℕ
   walk = written u k ch (cellOf u old)
 
-  directly-untouched : (n : Node) (c : Forest) (e x : Tuple) → forestHit ch c e ≡ false → Directly u n e x → forestHit ch c x ≡ false
-  directly-untouched root c e x h at-root = h
-  directly-untouched all c e x h (at-all {p = p} l) = forest-deeper ch c p e h
-  directly-untouched any c e x h (at-any {p = p} l) = forest-deeper ch c p e h
-  directly-untouched and c e x h at-and = h
-  directly-untouched or c e x h at-or = h
-  directly-untouched (lit l) c e x h at-lit = h
-
   -- cells under an untouched cell are untouched, so the walk may pass over them
   untouched-holds : (xs : List ℕ) (f : Forest) (b d : ℕ) (e : Tuple) → forestHit ch f e ≡ false → Agree u f b d e xs old → Holds u new xs f b d e
   unfolding Holds Agree cellOf forestHit touched
@@ -86,7 +77,7 @@ module _ (u : ℕ) (u1 : 1 ≤ u) (k : Configuration) (ch : Change) (old : List 
   untouched-holds xs (tree n c s) b d e h A =
       let a = or-left (nodeHit ch n e || forestHit ch c e) _ h in (
         A (b + placeOf u e) (own refl) ∙ sym (untouched-kept u k ch (cellOf u old) n c b d e a),
-        (λ x w. untouched-holds xs c (b + u ^ d) (childDepth n d) x (directly-untouched n c e x (or-right (nodeHit ch n e) _ a) w)
+        (λ x w. untouched-holds xs c (b + u ^ d) (childDepth n d) x (directly-untouched u ch n c e x (or-right (nodeHit ch n e) _ a) w)
             (λ j r. A j (under w r))),
         untouched-holds xs s (siblingFirst u n c b d) d e (or-right (nodeHit ch n e || forestHit ch c e) _ h) (λ j r. A j (later r)),
       )
@@ -168,7 +159,7 @@ module _ (u : ℕ) (u1 : 1 ≤ u) (k : Configuration) (ch : Change) (old : List 
             (λ j r. let h = bounds u u1 r (directly-tuple w te) in getD-set-other ys a j v 0 (omega arith))
             (below-holds n c (b + u ^ d) d e te (λ y ty. walk-holds c (b + u ^ d) (childDepth n d) y ty) xs (omega arith)
             (λ y wy j r. A j (under wy r)) x w))
-            (λ h. untouched-holds xs c (b + u ^ d) (childDepth n d) x (directly-untouched n c e x (or-right (nodeHit ch n e) _ h) w)
+            (λ h. untouched-holds xs c (b + u ^ d) (childDepth n d) x (directly-untouched u ch n c e x (or-right (nodeHit ch n e) _ h) w)
             (λ j r. A j (under w r))))),
         walk-holds s (siblingFirst u n c b d) d e te zs (omega arith)
             (λ j r. later-kept u u1 k ch (cellOf u old) n c s b d e te xs j r ∙ A j (later r)),

@@ -1,3 +1,4 @@
 -- Laws of the walk.
+pub mod Count
 pub mod Frame
 pub mod InPlace
