@@ -24,7 +24,7 @@ use Rattle.esol.proofs.Changed.{unlike, differing-layout, untouched-kept}
 use Rattle.walk.specs.Walk.{changes}
 use Rattle.walk.proofs.Frame.{Agree, below-directly, directly-untouched, changes-agree, bounds}
 
--- SUMS OVER THE FIRST NUMBERS
+-- Sums over the first numbers.
 
 abbrev total : ℕ → (ℕ → ℕ) → ℕ
 total m h = sum (tabulate m h)
@@ -71,12 +71,25 @@ total-term (suc m) h i l = go (λ a. total-term m h i a) (ℕ-discrete i m)
     go f (yes a) = subst (λ (x : ℕ). h x ≤ total (suc m) h) (sym a) (omega (arith, total-next m h))
     go f (no a) = omega (arith, total-next m h, f (omega arith))
 
--- WHAT STANDS AT OR BELOW EACH TUPLE
+-- What stands at or below each tuple.
 
 each-port-one : (u : ℕ) (h : ℕ → ℕ) → eachPort u (λ p. h p ∷ []) ≡ tabulate u h
 unfolding eachPort tabulate
 each-port-one zero h = refl
 each-port-one (suc u) h = ap (λ (l : List ℕ). l ++ (h u ∷ [])) (each-port-one u h)
+
+-- one more port, and no less in all
+pub sum-port : (u : ℕ) (h : ℕ → ℕ) → sum (eachPort (suc u) (λ p. h p ∷ [])) ≡ sum (eachPort u (λ p. h p ∷ [])) + h u
+sum-port u h = ap sum (each-port-one (suc u) h) ∙ total-next u h ∙ ap (λ (l : List ℕ). sum l + h u) (sym (each-port-one u h))
+
+pub sum-ports-le : (p u : ℕ) (h : ℕ → ℕ) → p ≤ u → sum (eachPort p (λ x. h x ∷ [])) ≤ sum (eachPort u (λ x. h x ∷ []))
+sum-ports-le p zero h l = let e : p ≡ 0 = omega arith in rw e (omega arith)
+sum-ports-le p (suc u) h l = go (λ a. sum-ports-le p u h a) (ℕ-discrete p (suc u))
+  where
+    go : (p ≤ u → sum (eachPort p (λ x. h x ∷ [])) ≤ sum (eachPort u (λ x. h x ∷ []))) → Dec (p ≡ suc u)
+        → sum (eachPort p (λ x. h x ∷ [])) ≤ sum (eachPort (suc u) (λ x. h x ∷ []))
+    go f (yes a) = rw a (omega arith)
+    go f (no a) = omega (arith, sum-port u h, f (omega arith))
 
 module _ (u : ℕ) where
   -- every tuple with every port: every tuple that is one longer
@@ -170,24 +183,37 @@ differing-le [] ys = omega arith
 differing-le (x ∷ xs) [] = omega arith
 differing-le (x ∷ xs) (y ∷ ys) = omega (arith, indicator-le (not (eqb x y)), differing-le xs ys)
 
--- no more cells are counted than a forest has
-pub changes-le : (u : ℕ) → 1 ≤ u → (k : Configuration) (ch : Change) (t : OldCells) (f : Forest) (b d : ℕ) (e : Tuple) → TupleOf u d e
-    → changes u k ch t f b d e ≤ cellCount u f d
-changes-le u u1 k ch t f b d e te =
-    let h : ℕ → ℕ = λ i. changes u k ch t f b d (tupleAt u d i) in
-    let i = placeOf u e in
-    let g : CellRule = λ n c b d e. t b e in
-    let xs = layout u g f b d in
-    let ys = layout u (newCell u k ch t) f b d in
-    let same : h i ≡ changes u k ch t f b d e = ap (changes u k ch t f b d) (tuple-place u u1 te) in
-    omega (
-      arith,
-      total-term (u ^ d) h i (place-lt u u1 te),
-      layout-changes u k ch t f b d,
-      differing-layout u g (newCell u k ch t) f b d,
-      differing-le xs ys,
-      length-layout u g f b d,
-    )
+module _ (u : ℕ) (u1 : 1 ≤ u) (k : Configuration) (ch : Change) (t : OldCells) where
+  layout-few : (f : Forest) (b d : ℕ) → total (u ^ d) (λ i. changes u k ch t f b d (tupleAt u d i)) ≤ cellCount u f d
+  layout-few f b d =
+      let g : CellRule = λ n c b d e. t b e in
+      omega (
+        arith,
+        layout-changes u k ch t f b d,
+        differing-layout u g (newCell u k ch t) f b d,
+        differing-le (layout u g f b d) (layout u (newCell u k ch t) f b d),
+        length-layout u g f b d,
+      )
+
+  -- no more cells are counted than a forest has: at a tuple, and below a tuple
+  pub changes-le : (f : Forest) (b d : ℕ) (e : Tuple) → TupleOf u d e → changes u k ch t f b d e ≤ cellCount u f d
+  changes-le f b d e te =
+      let h : ℕ → ℕ = λ i. changes u k ch t f b d (tupleAt u d i) in
+      let same : h (placeOf u e) ≡ changes u k ch t f b d e = ap (changes u k ch t f b d) (tuple-place u u1 te) in
+      omega (arith, total-term (u ^ d) h (placeOf u e) (place-lt u u1 te), layout-few f b d)
+
+  pub changes-below-le : (n : Node) (c : Forest) (b d : ℕ) (e : Tuple) → TupleOf u d e
+      → sum (below u n e (λ x. changes u k ch t c b (childDepth n d) x ∷ [])) ≤ cellCount u c (childDepth n d)
+  changes-below-le n c b d e te =
+      let g : Tuple → ℕ = λ x. sum (below u n x (λ y. changes u k ch t c b (childDepth n d) y ∷ [])) in
+      let h : ℕ → ℕ = λ i. g (tupleAt u d i) in
+      let same : h (placeOf u e) ≡ g e = ap g (tuple-place u u1 te) in
+      omega (
+        arith,
+        total-term (u ^ d) h (placeOf u e) (place-lt u u1 te),
+        below-total u n d (changes u k ch t c b (childDepth n d)),
+        layout-few c b (childDepth n d),
+      )
 
 module _ (P : Plan) (u1 : 1 ≤ P .ports) (k : Configuration) (ch : Change) (table : List ℕ) where
   pub changes-own : changes (P .ports) k ch (cellOf (P .ports) table) (P .formula) 0 0 [] ≤ ownCells P

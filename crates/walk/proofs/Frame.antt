@@ -85,7 +85,7 @@ module _ {A : Type 0} where
   below-directly u or e g h H = H e at-or
   below-directly u (lit l) e g h H = H e at-lit
 
--- WHAT IS READ
+-- What is read.
 
 module _ (u : ℕ) (k : Configuration) (ch : Change) (xs ys : List ℕ) where
   -- a cell's new number is decided by its old one and the cells directly below
@@ -133,7 +133,7 @@ module _ (u : ℕ) (k : Configuration) (ch : Change) (xs ys : List ℕ) where
       (λ x w. ap (λ (m : ℕ). m ∷ []) (changes-agree c (b + u ^ d) (childDepth n d) x (λ j r. A j (under w r)))))))
       (changes-agree s (siblingFirst u n c b d) d e (λ j r. A j (later r)))
 
--- WHAT IS WRITTEN
+-- What is written.
 
 each-same : (m : ℕ) (g h : ℕ → List ℕ → List ℕ) → ((p : ℕ) (zs : List ℕ) → p < m → g p zs ≡ h p zs)
     → (zs : List ℕ) → eachWritten m g zs ≡ eachWritten m h zs
@@ -211,7 +211,7 @@ written-outside u k ch t f b d e xs i out =
     written-keeps (λ zs. getD zs i 0 ≡ getD xs i 0) u k ch t f b d e
     (λ j v zs r h. getD-set-other zs j i v 0 (λ q. out (subst (Region u f b d e) (sym q) r)) ∙ h) xs refl
 
--- WHERE THE REGION LIES
+-- Where the region lies.
 
 module _ (u : ℕ) (u1 : 1 ≤ u) where
   pub bounds : {f : Forest} {b d j : ℕ} {e : Tuple} → Region u f b d e j → TupleOf u d e → (b ≤ j) × (j < b + cellCount u f d)
@@ -238,7 +238,7 @@ pub agree-sym : (u : ℕ) (f : Forest) (b d : ℕ) (e : Tuple) (xs ys : List ℕ
 unfolding Agree
 agree-sym u f b d e xs ys A j r = sym (A j r)
 
--- IN PLACE: what is read next is as it was before anything was written
+-- In place: what is read next is as it was before anything was written.
 
 module _ (u : ℕ) (u1 : 1 ≤ u) (k : Configuration) (ch : Change) where
   module _ (t : OldCells) where
@@ -274,6 +274,19 @@ module _ (u : ℕ) (u1 : 1 ≤ u) (k : Configuration) (ch : Change) where
     length-below n c b d e xs =
         below-keeps (λ zs. length zs ≡ length xs) u n e (written u k ch t c b d) (λ x zs w q. length-written u k ch t c b d x zs ∙ q) xs refl
 
+  -- the same with a name for the table written, in the order that the laws of reading want
+  pub later-agrees : (n : Node) (c s : Forest) (b d : ℕ) (e : Tuple) → TupleOf u d e → (t : OldCells) (xs ys : List ℕ)
+      → ys ≡ written u k ch t (tree n c none) b d e xs → Agree u s (siblingFirst u n c b d) d e xs ys
+  later-agrees n c s b d e te t xs ys h =
+      agree-sym u s (siblingFirst u n c b d) d e ys xs
+      (subst (λ (zs : List ℕ). Agree u s (siblingFirst u n c b d) d e zs xs) (sym h) (later-kept t n c s b d e te xs))
+
+  pub port-agrees : (f : Forest) (b d : ℕ) (e : Tuple) (p : ℕ) → TupleOf u d e → p < u → (t : OldCells) (xs ys : List ℕ)
+      → ys ≡ eachWritten p (λ x. written u k ch t f b (suc d) (x ∷ e)) xs → Agree u f b (suc d) (p ∷ e) xs ys
+  port-agrees f b d e p te l t xs ys h =
+      agree-sym u f b (suc d) (p ∷ e) ys xs
+      (subst (λ (zs : List ℕ). Agree u f b (suc d) (p ∷ e) zs xs) (sym h) (port-kept t f b d e p te l xs))
+
   -- so the walk may read the table that it writes: tree by tree, and port by port
   pub written-tree : (n : Node) (c s : Forest) (b d : ℕ) (e : Tuple) → TupleOf u d e → (xs ys : List ℕ)
       → ys ≡ written u k ch (cellOf u xs) (tree n c none) b d e xs
@@ -281,9 +294,7 @@ module _ (u : ℕ) (u1 : 1 ≤ u) (k : Configuration) (ch : Change) where
   unfolding written
   written-tree n c s b d e te xs ys h =
       ap (written u k ch (cellOf u xs) s (siblingFirst u n c b d) d e) (sym h)
-      ∙ written-agree u k ch xs ys s (siblingFirst u n c b d) d e
-      (agree-sym u s (siblingFirst u n c b d) d e ys xs
-      (subst (λ (zs : List ℕ). Agree u s (siblingFirst u n c b d) d e zs xs) (sym h) (later-kept (cellOf u xs) n c s b d e te xs))) ys
+      ∙ written-agree u k ch xs ys s (siblingFirst u n c b d) d e (later-agrees n c s b d e te (cellOf u xs) xs ys h) ys
 
   pub written-port : (f : Forest) (b d : ℕ) (e : Tuple) (p : ℕ) → TupleOf u d e → p < u → (xs ys : List ℕ)
       → ys ≡ eachWritten p (λ x. written u k ch (cellOf u xs) f b (suc d) (x ∷ e)) xs
@@ -291,6 +302,4 @@ module _ (u : ℕ) (u1 : 1 ≤ u) (k : Configuration) (ch : Change) where
   unfolding eachWritten
   written-port f b d e p te l xs ys h =
       ap (written u k ch (cellOf u xs) f b (suc d) (p ∷ e)) (sym h)
-      ∙ written-agree u k ch xs ys f b (suc d) (p ∷ e)
-      (agree-sym u f b (suc d) (p ∷ e) ys xs
-      (subst (λ (zs : List ℕ). Agree u f b (suc d) (p ∷ e) zs xs) (sym h) (port-kept (cellOf u xs) f b d e p te l xs))) ys
+      ∙ written-agree u k ch xs ys f b (suc d) (p ∷ e) (port-agrees f b d e p te l (cellOf u xs) xs ys h) ys
