@@ -91,6 +91,10 @@ sum-ports-le p (suc u) h l = go (λ a. sum-ports-le p u h a) (ℕ-discrete p (su
     go f (yes a) = rw a (omega arith)
     go f (no a) = omega (arith, sum-port u h, f (omega arith))
 
+single : (x : ℕ) → sum (x ∷ []) ≡ x
+unfolding sum
+single x = omega arith
+
 module _ (u : ℕ) where
   -- every tuple with every port: every tuple that is one longer
   ports-total : (d : ℕ) (h : Tuple → ℕ)
@@ -102,10 +106,6 @@ module _ (u : ℕ) where
       ∙ total-same u _ _ (λ p l′. ap₂ (λ (x y : ℕ). h (x ∷ tupleAt u d y)) (sym (digits-mod i l′)) (sym (digits-div i l′))))
       ∙ sym (total-mul (u ^ d) u (λ j. h ((j % u) ∷ tupleAt u d (j / u))))
       ∙ ap (λ (x : ℕ). total x (λ j. h ((j % u) ∷ tupleAt u d (j / u)))) (sym (pow-suc u d))
-
-  single : (x : ℕ) → sum (x ∷ []) ≡ x
-  unfolding sum
-  single x = omega arith
 
   below-total : (n : Node) (d : ℕ) (h : Tuple → ℕ)
       → total (u ^ d) (λ i. sum (below u n (tupleAt u d i) (λ x. h x ∷ []))) ≡ total (u ^ childDepth n d) (λ j. h (tupleAt u (childDepth n d) j))
@@ -169,7 +169,7 @@ module _ (u : ℕ) (k : Configuration) (ch : Change) (t : OldCells) where
         arith,
         same-zero _ _ (untouched-kept u k ch t n c b d e a),
         ap sum z,
-        below-le u 0 n e (λ x. 0 ∷ []) (λ x. omega (arith, single u 0)),
+        below-le u 0 n e (λ x. 0 ∷ []) (λ x. omega (arith, single 0)),
         forest-untouched s (siblingFirst u n c b d) d e (or-right (nodeHit ch n e || forestHit ch c e) _ h),
       )
 

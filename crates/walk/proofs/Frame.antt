@@ -204,6 +204,11 @@ pub length-written : (u : ℕ) (k : Configuration) (ch : Change) (t : OldCells) 
 length-written u k ch t f b d e xs =
     written-keeps (λ zs. length zs ≡ length xs) u k ch t f b d e (λ j v zs r h. length-set zs j v ∙ h) xs refl
 
+pub length-below : (u : ℕ) (k : Configuration) (ch : Change) (t : OldCells) (n : Node) (c : Forest) (b d : ℕ) (e : Tuple) (xs : List ℕ)
+    → length (writtenBelow u n e (written u k ch t c b d) xs) ≡ length xs
+length-below u k ch t n c b d e xs =
+    below-keeps (λ zs. length zs ≡ length xs) u n e (written u k ch t c b d) (λ x zs w q. length-written u k ch t c b d x zs ∙ q) xs refl
+
 -- a place outside the region keeps its number
 pub written-outside : (u : ℕ) (k : Configuration) (ch : Change) (t : OldCells) (f : Forest) (b d : ℕ) (e : Tuple) (xs : List ℕ) (i : ℕ)
     → (Region u f b d e i → ⊥) → getD (written u k ch t f b d e xs) i 0 ≡ getD xs i 0
@@ -268,11 +273,6 @@ module _ (u : ℕ) (u1 : 1 ≤ u) (k : Configuration) (ch : Change) where
         below-keeps (λ zs. getD zs (b + placeOf u e) 0 ≡ getD xs (b + placeOf u e) 0) u n e (written u k ch t c (b + u ^ d) (childDepth n d))
         (λ x zs w q. written-outside u k ch t c (b + u ^ d) (childDepth n d) x zs (b + placeOf u e)
         (λ r. let h = bounds u u1 r (directly-tuple w te) in omega arith) ∙ q) xs refl
-
-    pub length-below : (n : Node) (c : Forest) (b d : ℕ) (e : Tuple) (xs : List ℕ)
-        → length (writtenBelow u n e (written u k ch t c b d) xs) ≡ length xs
-    length-below n c b d e xs =
-        below-keeps (λ zs. length zs ≡ length xs) u n e (written u k ch t c b d) (λ x zs w q. length-written u k ch t c b d x zs ∙ q) xs refl
 
   -- the same with a name for the table written, in the order that the laws of reading want
   pub later-agrees : (n : Node) (c s : Forest) (b d : ℕ) (e : Tuple) → TupleOf u d e → (t : OldCells) (xs ys : List ℕ)

@@ -146,7 +146,7 @@ module _ (u : ℕ) (u1 : 1 ≤ u) (k : Configuration) (ch : Change) (old : List 
       let zs = cond (touched ch n c e) (set ys a v) xs in
       let first : (j : ℕ) → j < siblingFirst u n c b d → getD (walk s (siblingFirst u n c b d) d e zs) j 0 ≡ getD zs j 0 =
       λ j h. written-outside u k ch (cellOf u old) s (siblingFirst u n c b d) d e zs j (λ r. let i = bounds u u1 r te in omega arith) in
-      let ly : length ys ≡ length xs = length-below u u1 k ch (cellOf u old) n c (b + u ^ d) (childDepth n d) e xs in
+      let ly : length ys ≡ length xs = length-below u k ch (cellOf u old) n c (b + u ^ d) (childDepth n d) e xs in
       let lz : length zs ≡ length xs = length-written u k ch (cellOf u old) (tree n c none) b d e xs in (
         first a (omega arith)
             ∙ either-holds (λ ws. getD ws a 0 ≡ v) (touched ch n c e) (set ys a v) xs
