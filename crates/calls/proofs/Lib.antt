@@ -1,0 +1,4 @@
+-- Laws of the calls over a plan's tables, and demand 3.
+pub mod Within
+pub mod Steps
+pub mod Lists
