@@ -2,3 +2,4 @@
 pub mod Within
 pub mod Steps
 pub mod Lists
+pub mod OwnParts
