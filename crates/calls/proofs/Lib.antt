@@ -3,3 +3,4 @@ pub mod Within
 pub mod Steps
 pub mod Lists
 pub mod OwnParts
+pub mod Known
