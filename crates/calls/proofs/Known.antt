@@ -19,7 +19,6 @@ use Rattle.plan.specs.Bytes.{encoding}
 use Rattle.plan.specs.Rules.{everyNode, treeCount, arityRule, maySit, nestingRule, depthRule, literalRule, innerRule, nodeRule, formulaRule, mostCells, planRule}
 use Rattle.plan.specs.Decode.{Decoded, sound, decode}
 use Rattle.plan.proofs.Encoding.{decode-complete}
-use Rattle.load.specs.declared.Loaded.{Loaded}
 use Rattle.load.specs.declared.Loaded.the-variants as loaded
 use Rattle.load.specs.Load.{allWithin, loadGrounds, loadOr, loadPlan, loads}
 use Rattle.calls.specs.declared.Moved.{Moved}
@@ -28,7 +27,7 @@ use Rattle.calls.specs.declared.Improved.{Improved}
 use Rattle.calls.specs.declared.Improved.the-variants as improved
 use Rattle.calls.specs.MoveCall.{tableGrounds, moveCallGrounds, cellsAfter, moveAnswer, moveOr, movePlan, moves}
 use Rattle.calls.specs.TrialCall.{trialOr, trialPlan, trials}
-use Rattle.calls.specs.ImproveCall.{improveGrounds, rootNow, rootAfter, Chosen, ImprovesOr, ImprovesPlan, OwnAfter, Improves}
+use Rattle.calls.specs.ImproveCall.{improveGrounds, rootNow, rootAfter, Chosen, ImprovesOr, ImprovesPlan, Improves}
 use Rattle.calls.specs.Lists.{Call, moveCall, trialCall, improveCall, Answer, moveAnswered, trialAnswered, improveAnswered, State, Step, Run, ended, called, bookAfter, AllRight, Kept}
 use Rattle.calls.proofs.Lists.{lists-right}
 

@@ -1,26 +1,30 @@
 -- Demand 3 as one claim over every list of calls. Assumes nothing.
 use mathlib.Core.Path.{_≡_, refl, sym, ap, _∙_, subst}
-use mathlib.Core.Bool.{Bool, true, false, cond, not, _||_}
-use mathlib.Core.List.{List, [], _∷_, _++_}
+use mathlib.Core.Logic.{_↔_}
+use mathlib.Core.Bool.{true, cond, not, _||_}
+use mathlib.Core.List.{List, _++_}
 use Prim.Native.Nat.{ℕ, zero, suc, _≤_}
 use native.Mathlib.Omega.{arith}
 use lib.Dec.{ltb}
 use lib.ListN.{length, take, drop, take-append-drop}
 use lib.Seq.{length-take-le}
 use borrow.Author.Tests.{ltb-false, not-false}
+use Rattle.esol.specs.declared.Move.{Move}
 use Rattle.esol.specs.Formula.{Plan}
 use Rattle.esol.specs.Configuration.{Sets, inMasks, ownMasks, spelled}
-use Rattle.esol.specs.Cells.{ownCells, cells as planCells}
-use Rattle.esol.specs.Moves.{refusal}
-use Rattle.esol.proofs.Lists.{or-left, or-right}
+use Rattle.esol.specs.Cells.{ownCells}
+use Rattle.esol.specs.Moves.{refusal, legal, ofKinds}
+use Rattle.esol.proofs.Lists.{or-left}
 use Rattle.plan.specs.Decode.{Decoded, broken, sound, decode}
 use Rattle.load.specs.declared.Loaded.{Loaded}
 use Rattle.load.specs.declared.Loaded.the-variants.{Accepted, Refused}
 use Rattle.load.specs.Load.{allWithin, loadNumber, loadGrounds, loadOr, loadPlan, loads}
 use Rattle.load.proofs.Answers.{load-cells}
+use Rattle.calls.specs.declared.Improved.{Improved}
+use Rattle.calls.specs.declared.Improved.the-variants as improved
 use Rattle.calls.specs.Book.{bookStep}
-use Rattle.calls.specs.Lists.{Call, Answer, State, Run, ended, called, feed, bookAfter, bookCells, Right, AllRight, Kept}
-use Rattle.calls.proofs.Steps.{either-ground, OwnKept, Holds, own-holds, step-right}
+use Rattle.calls.specs.Lists.{Call, Answer, State, Run, ended, called, feed, bookAfter, bookRoot, bookCells, bookMade, ImprovedRight, AllRight, Kept}
+use Rattle.calls.proofs.Steps.{either-ground, Holds, own-holds, step-right}
 
 -- an accepted load's answer is no refusal
 refused-not : (number root total : ℕ) (xs ys : List ℕ) → _≡_ {A = Loaded × List ℕ} (Refused (suc number), xs) (Accepted root total, ys) → ⊥
@@ -95,3 +99,19 @@ lists-right bytes masks before cells root total h P d calls answers s r =
     let q = run-right bytes P d (inMasks (take (ownMasks P) masks)) (drop (ownMasks P) masks) (drop (ownCells P) before)
     record { masks = masks; cells = cells } calls answers s (load-holds P masks before cells root total l) r in
     (q .0, q .1 .kept)
+
+-- An accepted improve answers "no better move" exactly when no legal move of its kinds lowers the root.
+isNoBetter : Improved → Type 0
+isNoBetter (improved.Made chosen before after changed) = ⊥
+isNoBetter (improved.NoBetter root) = Unit {0}
+isNoBetter (improved.Refused number) = ⊥
+
+pub no-better-exactly : (P : Plan) (k : Sets) (kinds : ℕ) (r : Improved) → ImprovedRight 0 P k kinds r
+    → ((root : ℕ) × (r ≡ improved.NoBetter root)) ↔ ((m : Move) → ofKinds kinds m ≡ true → legal P k m ≡ true → bookRoot P k ≤ bookRoot P (bookMade m k))
+unfolding ImprovedRight isNoBetter
+no-better-exactly P k kinds (improved.Made m b a n) x = (
+  (λ e. absurd (subst isNoBetter (sym (e .1)) tt)),
+  (λ H. let h = H m (x .of-kinds) (x .is-legal) in absurd (omega (arith, x .lowers))),
+)
+no-better-exactly P k kinds (improved.NoBetter root) x = ((λ e. x .none), (λ H. (root, refl)))
+no-better-exactly P k kinds (improved.Refused number) x = absurd x

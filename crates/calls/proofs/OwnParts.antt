@@ -6,28 +6,30 @@ use Prim.Native.Nat.{ℕ, zero, suc, _≤_}
 use native.Mathlib.Decide.{decLe}
 use native.Mathlib.Omega.{arith}
 use lib.Dec.{ltb}
-use lib.ListN.{length, take, drop, take-append-drop, length-take, length-drop, drop-of-length-le}
-use lib.Seq.{take-at, take-all, length-take-le}
+use lib.ListN.{length, take, drop, length-take, drop-of-length-le}
+use lib.Seq.{take-at, drop-at, take-all, length-take-le, length-front}
+use borrow.Author.Tests.{ltb-false}
 use Rattle.esol.specs.declared.Move.{Move}
 use Rattle.esol.specs.Formula.{Plan}
-use Rattle.esol.specs.Configuration.{inMasks, ownMasks, spelled}
+use Rattle.esol.specs.Configuration.{inMasks, ownMasks}
 use Rattle.esol.specs.Cells.{ownCells}
-use Rattle.esol.specs.Moves.{Ground, refusal, moveGrounds, moveMasks, movePairs, kindsKnown}
-use Rattle.esol.specs.Change.{someOf, pairsChange, newCells}
+use Rattle.esol.specs.Moves.{Ground, refusal, moveGrounds, kindsKnown}
+use Rattle.esol.specs.Change.{someOf, newCells}
+use Rattle.esol.proofs.Lists.{or-left, or-right}
 use Rattle.esol.proofs.Tables.{length-layout}
 use Rattle.plan.specs.Decode.{Decoded, broken, sound, decode, ownBytes}
 use Rattle.plan.proofs.Own.{own-agree}
 use Rattle.load.specs.Load.{allWithin}
 use Rattle.load.proofs.OwnParts.{SameFirst}
-use Rattle.calls.specs.declared.Moved.{Moved}
 use Rattle.calls.specs.declared.Improved.{Improved}
 use Rattle.calls.specs.declared.Improved.the-variants as improved
 use Rattle.calls.specs.MoveCall.{tableGrounds, moveCallGrounds, cellsAfter, moveOr, movePlan, moves}
 use Rattle.calls.specs.TrialCall.{trialOr, trialPlan, trials}
-use Rattle.calls.specs.ImproveCall.{improveGrounds, Chosen, ImprovesOr, ImprovesPlan, OwnAfter, Improves}
+use Rattle.calls.specs.ImproveCall.{improveGrounds, Chosen, ImprovesOr, ImprovesPlan, Improves}
 use Rattle.calls.proofs.Within.{move-length}
+use Rattle.calls.proofs.Steps.{either-ground}
 
--- a table of which the first part, so long as it was, is written anew
+-- A table of which the first part, so long as it was, is written anew: that part, what is past it, and the length.
 front : (n : ℕ) (ys l : List ℕ) → length ys ≡ length (take n l) → take n (ys ++ drop n l) ≡ ys
 front n ys l e = go (decLe n (length l))
   where
@@ -37,22 +39,94 @@ front n ys l e = go (decLe n (length l))
         ap (λ (r : List ℕ). take n (ys ++ r)) (drop-of-length-le l {i = n} (omega arith)) ∙ ap (take n) (append-nil ys)
         ∙ take-all n ys (omega (arith, length-take n l))
 
-length-after : (P : Plan) (m : Move) (own before : List ℕ) → length (cellsAfter P m own before) ≡ ownCells P
+past : (n : ℕ) (ys l : List ℕ) → length ys ≡ length (take n l) → drop n (ys ++ drop n l) ≡ drop n l
+past n ys l e = go (decLe n (length l))
+  where
+    go : Dec (n ≤ length l) → drop n (ys ++ drop n l) ≡ drop n l
+    go (yes h) = drop-at ys (drop n l) n (e ∙ length-take-le n l h)
+    go (no h) =
+        drop-of-length-le (ys ++ drop n l) {i = n} (omega (arith, length-front l ys n e)) ∙ sym (drop-of-length-le l {i = n} (omega arith))
+
+-- a call that no ground stops is lent enough cells
+cells-enough : (P : Plan) (own : List ℕ) (masks-length : ℕ) (cells : List ℕ) (lengths : List ℕ) (gs : List Ground)
+    → refusal (tableGrounds P own masks-length (length cells ∷ lengths) ++ gs) ≡ 0 → ownCells P ≤ length cells
+unfolding tableGrounds refusal someOf
+cells-enough P own masks-length cells lengths gs e =
+    let few = ltb masks-length (ownMasks P) in
+    let short = ltb (length cells) (ownCells P) in
+    let g = either-ground (few || (short || someOf (λ l. ltb l (ownCells P)) lengths)) 11 _ e .0 in
+    ltb-false (length cells) (ownCells P) (or-left short _ (or-right few _ g))
+
+length-after : (P : Plan) (m : Move) (own cells : List ℕ) → ownCells P ≤ length cells
+    → length (cellsAfter P m own (take (ownCells P) cells)) ≡ length (take (ownCells P) cells)
 unfolding cellsAfter newCells ownCells
-length-after P m own before = length-layout (P .ports) _ (P .formula) 0 0
+length-after P m own cells h = length-layout (P .ports) _ (P .formula) 0 0 ∙ sym (length-take-le (ownCells P) cells h)
 
--- the plan's own masks and cells after a move
-masks-after : (g : ℕ) (P : Plan) (m : Move) (masks before : List ℕ)
-    → (let n = ownMasks P in take n (moveOr g P m (take n masks) before .1 ++ drop n masks) ≡ moveOr g P m (take n masks) before .1)
+-- a move leaves as many own masks and cells as there were
+move-lengths : (g : ℕ) (P : Plan) (m : Move) (own cells : List ℕ) → (g ≡ 0 → ownCells P ≤ length cells)
+    → (let r = moveOr g P m own (take (ownCells P) cells) in (length (r .1) ≡ length own) × (length (r .2) ≡ length (take (ownCells P) cells)))
 unfolding moveOr
-masks-after zero P m masks before = front (ownMasks P) (moveMasks m (take (ownMasks P) masks)) masks (move-length m (take (ownMasks P) masks))
-masks-after (suc g) P m masks before = ap (take (ownMasks P)) (take-append-drop (ownMasks P) masks)
+move-lengths zero P m own cells h = (move-length m own, length-after P m own cells (h refl))
+move-lengths (suc g) P m own cells h = (refl, refl)
 
-cells-after : (g : ℕ) (P : Plan) (m : Move) (own cells : List ℕ)
-    → (let n = ownCells P in take n (moveOr g P m own (take n cells) .2 ++ drop n cells) ≡ moveOr g P m own (take n cells) .2)
-unfolding moveOr
-cells-after zero P m own cells = take-at (cellsAfter P m own (take (ownCells P) cells)) (drop (ownCells P) cells) (ownCells P) (length-after P m own _)
-cells-after (suc g) P m own cells = ap (take (ownCells P)) (take-append-drop (ownCells P) cells)
+-- so does improve, whatever it answers
+improve-lengths : (g : ℕ) (P : Plan) (kinds : ℕ) (own cells : List ℕ) → (g ≡ 0 → ownCells P ≤ length cells)
+    → (r : Improved) (own′ after : List ℕ) → ImprovesOr g P kinds own (take (ownCells P) cells) r own′ after
+    → (length own′ ≡ length own) × (length after ≡ length (take (ownCells P) cells))
+unfolding ImprovesOr Chosen
+improve-lengths zero P kinds own cells h (improved.Made m b a n) own′ after x =
+    (ap length (x .masks-are) ∙ move-length m own, ap length (x .cells-are) ∙ length-after P m own cells (h refl))
+improve-lengths zero P kinds own cells h (improved.NoBetter root) own′ after x = (ap length (x .masks-kept), ap length (x .cells-kept))
+improve-lengths zero P kinds own cells h (improved.Refused number) own′ after x = absurd x
+improve-lengths (suc g) P kinds own cells h r own′ after x = (ap length (x .1), ap length (x .2))
+
+module _ (P : Plan) (masks cells : List ℕ) where
+  abbrev ownM : List ℕ
+  ownM = take (ownMasks P) masks
+
+  abbrev ownC : List ℕ
+  ownC = take (ownCells P) cells
+
+  -- over the tables: a move
+  move-fits : (m : Move) → (let r = movePlan P m ownM ownC (length masks) (length cells) in (length (r .1) ≡ length ownM) × (length (r .2) ≡ length ownC))
+  unfolding movePlan moveCallGrounds
+  move-fits m = move-lengths (refusal (moveCallGrounds P ownM (length masks) (length cells ∷ []) m)) P m ownM cells (cells-enough P ownM (length masks) cells [] _)
+
+  -- and improve
+  improve-fits : (kinds scratch-length : ℕ) (r : Improved) (own′ after : List ℕ)
+      → ImprovesPlan P kinds ownM ownC (length masks) (length cells) scratch-length r own′ after → (length own′ ≡ length ownM) × (length after ≡ length ownC)
+  unfolding ImprovesPlan improveGrounds
+  improve-fits kinds scratch-length r own′ after x =
+      improve-lengths (refusal (improveGrounds P ownM (length masks) (length cells ∷ scratch-length ∷ []) kinds)) P kinds ownM cells
+      (cells-enough P ownM (length masks) cells (scratch-length ∷ []) _) r own′ after x
+
+  -- "An accepted move writes its masks and touched cells": what is past the plan's own masks and cells stays, accepted or not.
+  pub move-past : (m : Move) → (let r = moves (sound P) m masks cells in
+      (drop (ownMasks P) (r .1) ≡ drop (ownMasks P) masks) × (length (r .1) ≡ length masks)
+      × (drop (ownCells P) (r .2) ≡ drop (ownCells P) cells) × (length (r .2) ≡ length cells))
+  unfolding moves
+  move-past m =
+      let r = movePlan P m ownM ownC (length masks) (length cells) in
+      let f = move-fits m in (
+        past (ownMasks P) (r .1) masks (f .0),
+        length-front masks (r .1) (ownMasks P) (f .0),
+        past (ownCells P) (r .2) cells (f .1),
+        length-front cells (r .2) (ownCells P) (f .1),
+      )
+
+  -- The same, whatever improve answers.
+  pub improve-past : (kinds scratch-length : ℕ) (r : Improved) (masks′ cells′ : List ℕ)
+      → Improves (sound P) kinds masks cells scratch-length r masks′ cells′
+      → (drop (ownMasks P) masks′ ≡ drop (ownMasks P) masks) × (length masks′ ≡ length masks)
+      × (drop (ownCells P) cells′ ≡ drop (ownCells P) cells) × (length cells′ ≡ length cells)
+  unfolding Improves
+  improve-past kinds scratch-length r masks′ cells′ x =
+      let f = improve-fits kinds scratch-length r (x .own-masks) (x .own-cells) (x .improves) in (
+        ap (drop (ownMasks P)) (x .masks-are) ∙ past (ownMasks P) (x .own-masks) masks (f .0),
+        ap length (x .masks-are) ∙ length-front masks (x .own-masks) (ownMasks P) (f .0),
+        ap (drop (ownCells P)) (x .cells-are) ∙ past (ownCells P) (x .own-cells) cells (f .1),
+        ap length (x .cells-are) ∙ length-front cells (x .own-cells) (ownCells P) (f .1),
+      )
 
 -- The tables of two calls that agree on the plan's own masks and cells and on being long enough for them.
 pub record SameTables (P : Plan) (masks masks′ cells cells′ : List ℕ) : Type 0 where
@@ -87,13 +161,13 @@ module _ (P : Plan) (masks masks′ cells cells′ : List ℕ) (t : SameTables P
   move-sound : (m : Move) → (moves (sound P) m masks cells .0 ≡ moves (sound P) m masks′ cells′ .0)
       × (take (ownMasks P) (moves (sound P) m masks cells .1) ≡ take (ownMasks P) (moves (sound P) m masks′ cells′ .1))
       × (take (ownCells P) (moves (sound P) m masks cells .2) ≡ take (ownCells P) (moves (sound P) m masks′ cells′ .2))
-  unfolding moves movePlan
+  unfolding moves
   move-sound m =
-      let g = refusal (moveCallGrounds P (take (ownMasks P) masks) (length masks) (length cells ∷ []) m) in
-      let g′ = refusal (moveCallGrounds P (take (ownMasks P) masks′) (length masks′) (length cells′ ∷ []) m) in (
+      let f = move-fits P masks cells m in
+      let f′ = move-fits P masks′ cells′ m in (
         ap (λ r. r .0) (move-same m),
-        masks-after g P m masks (take (ownCells P) cells) ∙ ap (λ r. r .1) (move-same m) ∙ sym (masks-after g′ P m masks′ (take (ownCells P) cells′)),
-        cells-after g P m (take (ownMasks P) masks) cells ∙ ap (λ r. r .2) (move-same m) ∙ sym (cells-after g′ P m (take (ownMasks P) masks′) cells′),
+        front (ownMasks P) _ masks (f .0) ∙ ap (λ r. r .1) (move-same m) ∙ sym (front (ownMasks P) _ masks′ (f′ .0)),
+        front (ownCells P) _ cells (f .1) ∙ ap (λ r. r .2) (move-same m) ∙ sym (front (ownCells P) _ cells′ (f′ .1)),
       )
 
   trial-sound : (m : Move) (scratch scratch′ : List ℕ) → ltb (length scratch) (ownCells P) ≡ ltb (length scratch′) (ownCells P)
@@ -104,28 +178,6 @@ module _ (P : Plan) (masks masks′ cells cells′ : List ℕ) (t : SameTables P
       (same-grounds P masks masks′ cells cells′ (length scratch ∷ []) (length scratch′ ∷ []) (λ own. moveGrounds P (inMasks own) m) t
       (ap (λ (b : Bool). b || false) e) i)
       P m (t .same-masks .entries i) (t .same-cells .entries i)
-
--- the plan's own masks and cells after improve
-improved-masks : (g : ℕ) (P : Plan) (kinds : ℕ) (masks before : List ℕ) (r : Improved) (own′ after : List ℕ)
-    → ImprovesOr g P kinds (take (ownMasks P) masks) before r own′ after → take (ownMasks P) (own′ ++ drop (ownMasks P) masks) ≡ own′
-unfolding ImprovesOr Chosen
-improved-masks zero P kinds masks before (improved.Made m b a n) own′ after x =
-    front (ownMasks P) own′ masks (ap length (x .masks-are) ∙ move-length m (take (ownMasks P) masks))
-improved-masks zero P kinds masks before (improved.NoBetter root) own′ after x = front (ownMasks P) own′ masks (ap length (x .masks-kept))
-improved-masks zero P kinds masks before (improved.Refused number) own′ after x = absurd x
-improved-masks (suc g) P kinds masks before r own′ after x = front (ownMasks P) own′ masks (ap length (x .1))
-
-kept-front : (n : ℕ) (ys l : List ℕ) → ys ≡ take n l → take n (ys ++ drop n l) ≡ ys
-kept-front n ys l e = front n ys l (ap length e)
-
-improved-cells : (g : ℕ) (P : Plan) (kinds : ℕ) (own cells : List ℕ) (r : Improved) (own′ after : List ℕ)
-    → ImprovesOr g P kinds own (take (ownCells P) cells) r own′ after → take (ownCells P) (after ++ drop (ownCells P) cells) ≡ after
-unfolding ImprovesOr Chosen
-improved-cells zero P kinds own cells (improved.Made m b a n) own′ after x =
-    take-at after (drop (ownCells P) cells) (ownCells P) (ap length (x .cells-are) ∙ length-after P m own _)
-improved-cells zero P kinds own cells (improved.NoBetter root) own′ after x = kept-front (ownCells P) after cells (x .cells-kept)
-improved-cells zero P kinds own cells (improved.Refused number) own′ after x = absurd x
-improved-cells (suc g) P kinds own cells r own′ after x = kept-front (ownCells P) after cells (x .2)
 
 -- The answer r with the plan's own parts of masks₁ and cells₁ afterwards is one that improve may give over these tables.
 pub record Allows (d : Decoded) (kinds : ℕ) (masks cells scratch : List ℕ) (r : Improved) (masks₁ cells₁ : List ℕ) : Type 0 where
@@ -160,14 +212,16 @@ improve-sound P masks masks′ cells cells′ t kinds scratch scratch′ e r mas
       t .same-cells .entries i,
     ))
     (x .improves) in
+    let f = improve-fits P masks cells kinds (length scratch) r own after (x .improves) in
+    let f′ = improve-fits P masks′ cells′ kinds (length scratch′) r own after y in
     record {
       masks-left = own ++ drop (ownMasks P) masks′;
       cells-left = after ++ drop (ownCells P) cells′;
       allowed = record { own-masks = own; own-cells = after; improves = y; masks-are = refl; cells-are = refl };
       own-masks = λ Q q. subst (λ (R : Plan). take (ownMasks R) (own ++ drop (ownMasks P) masks′) ≡ take (ownMasks R) masks₁) (one-sound P Q q)
-          (improved-masks _ P kinds masks′ _ r own after y ∙ sym (ap (take (ownMasks P)) (x .masks-are) ∙ improved-masks _ P kinds masks _ r own after (x .improves)));
+          (front (ownMasks P) own masks′ (f′ .0) ∙ sym (ap (take (ownMasks P)) (x .masks-are) ∙ front (ownMasks P) own masks (f .0)));
       own-cells = λ Q q. subst (λ (R : Plan). take (ownCells R) (after ++ drop (ownCells P) cells′) ≡ take (ownCells R) cells₁) (one-sound P Q q)
-          (improved-cells _ P kinds _ cells′ r own after y ∙ sym (ap (take (ownCells P)) (x .cells-are) ∙ improved-cells _ P kinds _ cells r own after (x .improves)));
+          (front (ownCells P) after cells′ (f′ .1) ∙ sym (ap (take (ownCells P)) (x .cells-are) ∙ front (ownCells P) after cells (f .1)));
     }
 
 -- Two moves whose tables agree on the plan's own bytes, masks and cells, and on being long enough for them, have the same answer and

@@ -1,9 +1,9 @@
 -- One call keeps what is kept: for every call and every answer that the calls' definitions allow, the answer is right under the
 -- book's sets, and masks and cells are the book's afterwards. Assumes nothing.
-use mathlib.Core.Path.{_≡_, refl, sym, ap, ap₂, _∙_, subst}
-use mathlib.Core.Bool.{Bool, true, false, cond, not, _&&_, _||_}
+use mathlib.Core.Path.{_≡_, refl, sym, ap, _∙_, subst}
+use mathlib.Core.Bool.{Bool, true, false, cond, not, _||_}
 use mathlib.Core.List.{List, [], _∷_, _++_}
-use Prim.Native.Nat.{ℕ, zero, suc, _+_, _≤_, _<_}
+use Prim.Native.Nat.{ℕ, zero, suc, _≤_}
 use native.Mathlib.Omega.{arith}
 use lib.Dec.{eqb, ltb}
 use lib.ListN.{length, getD, take, drop, length-append}
@@ -13,24 +13,23 @@ use Rattle.esol.specs.declared.Move.{Move}
 use Rattle.esol.specs.Formula.{Plan}
 use Rattle.esol.specs.Configuration.{Sets, configuration, inMasks, ownMasks, spelled}
 use Rattle.esol.specs.Cells.{ownCells, cells as planCells, rootPenalty}
-use Rattle.esol.specs.Moves.{Ground, refusal, moveGrounds, known, fits, legal, moveMasks, movePairs, flips, kindsKnown, ofKinds}
-use Rattle.esol.specs.Change.{someOf, pairsChange, newCells, differing}
+use Rattle.esol.specs.Moves.{Ground, refusal, moveGrounds, known, legal, moveMasks, movePairs, flips, kindsKnown}
+use Rattle.esol.specs.Change.{someOf, pairsChange, differing}
 use Rattle.esol.proofs.Moves.{move-masks, move-spells}
 use Rattle.esol.proofs.Theorems.{move-true, length-cells}
 use Rattle.esol.proofs.Changed as changed
-use Rattle.plan.specs.Decode.{Decoded, broken, sound, decode}
+use Rattle.plan.specs.Decode.{Decoded, sound, decode}
 use Rattle.plan.specs.Facts.{PlanFacts}
 use Rattle.plan.proofs.Encoding.{decode-sound}
 use Rattle.plan.proofs.Facts.{plan-facts}
 use Rattle.load.specs.Load.{allWithin}
 use Rattle.calls.specs.declared.Moved.{Moved}
-use Rattle.calls.specs.declared.Moved.the-variants as moved
 use Rattle.calls.specs.declared.Improved.{Improved}
 use Rattle.calls.specs.declared.Improved.the-variants as improved
 use Rattle.calls.specs.MoveCall.{tableGrounds, moveCallGrounds, cellsAfter, moveAnswer, moveOr, movePlan, moves}
 use Rattle.calls.specs.TrialCall.{trialOr, trialPlan, trials}
-use Rattle.calls.specs.ImproveCall.{improveGrounds, rootNow, rootAfter, Candidate, MadeBest, NoneBetter, Chosen, ImprovesOr, ImprovesPlan, OwnAfter, Improves}
-use Rattle.calls.specs.Book.{Fed, fedMove, fedTrial, fedImprove, chosenStep, bookStep}
+use Rattle.calls.specs.ImproveCall.{improveGrounds, rootNow, rootAfter, MadeBest, NoneBetter, Chosen, ImprovesOr, ImprovesPlan, Improves}
+use Rattle.calls.specs.Book.{fedMove, chosenStep, bookStep}
 use Rattle.calls.specs.Lists.{Call, moveCall, trialCall, improveCall, Answer, moveAnswered, trialAnswered, improveAnswered, State, Step, feed, bookRoot, bookCells, bookMade, NumbersRight, MovedRight, scratchGround, BestMade, NoneLowers, ImprovedRight, Right, Kept}
 use Rattle.calls.proofs.Within.{move-within, move-length}
 

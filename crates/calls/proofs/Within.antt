@@ -1,6 +1,6 @@
 -- The masks that a legal move leaves have no port of u or more, so that ground 13 does not come up in a list. Assumes nothing.
-use mathlib.Core.Path.{_≡_, refl, sym, ap, _∙_}
-use mathlib.Core.Bool.{Bool, true, false, cond, not, _&&_}
+use mathlib.Core.Path.{_≡_, refl, ap, _∙_}
+use mathlib.Core.Bool.{Bool, true, false, cond, not}
 use mathlib.Core.List.{List, [], _∷_}
 use Prim.Native.Nat.{ℕ, zero, suc, _^_, _≤_, _<_}
 use native.Mathlib.Omega.{arith}
@@ -10,7 +10,7 @@ use lib.Pow.{pow-pos}
 use borrow.Author.Tests.{lt-ltb, ne-eqb}
 use Rattle.esol.specs.declared.Move.{Move}
 use Rattle.esol.specs.Formula.{Plan}
-use Rattle.esol.specs.Configuration.{Sets, inMask, inMasks, ownMasks, withinPorts, enter, leave}
+use Rattle.esol.specs.Configuration.{Sets, inMask, inMasks, ownMasks, withinPorts, leave}
 use Rattle.esol.specs.Moves.{MoveKind, add, drop, transfer, swap, unknown, moveKind, known, legal, kindMasks, moveMasks, Pair, movePairs, flip, flips}
 use Rattle.esol.proofs.Lists.{and-left, and-right, and-true, and-false}
 use Rattle.esol.proofs.Touched.{PortsBelow}
