@@ -141,7 +141,7 @@ rules-A = refl
 pub decode-A : decode bytesA ≡ sound planA
 decode-A = decode-complete bytesA planA record { rest = 99 ∷ []; is = refl; rules = rules-A }
 
--- "Plan A prints `penalty 1 cells 34`": cells of any numbers before.
+-- "Plan A prints `penalty 1 cells 34`". The cells held other numbers before.
 pub known-load : loads (decode bytesA) (masksWith 3 7 1) (lent (replicate 34 4294967295)) ≡ (loaded.Accepted 1 34, lent cellsA)
 unfolding computing
 known-load = ap (λ (d : Decoded). loads d (masksWith 3 7 1) (lent (replicate 34 4294967295))) decode-A

@@ -40,18 +40,18 @@ pub record OwnKept (P : Plan) (k : Sets) (own before : List ℕ) : Type 0 where
   pub within : allWithin (P .ports) own ≡ true
   pub penalties : before ≡ bookCells P k
 
--- no ground applies to a legal move only
+-- grounds answer 0 only if the first does not apply and the rest answer 0
 pub either-ground : (a : Bool) (i g : ℕ) → cond a (suc i) g ≡ 0 → (a ≡ false) × (g ≡ 0)
 either-ground true i g h = absurd (omega arith)
 either-ground false i g h = (refl, h)
 
+-- a move that meets neither 14 nor 15 is legal
 pub grounds-legal : (P : Plan) (k : Sets) (m : Move) → refusal (moveGrounds P k m) ≡ 0 → legal P k m ≡ true
 unfolding refusal moveGrounds
 grounds-legal P k m h =
     let r = either-ground (not (known P m)) 13 (cond (not (legal P k m)) 15 0) h in
     not-false _ (either-ground (not (legal P k m)) 14 0 (r .1) .0)
 
--- behind ground 12 or another
 later-ground : (i : ℕ) (b : Bool) (gs : List Ground) → refusal ((suc i, b) ∷ gs) ≡ 0 → refusal gs ≡ 0
 unfolding refusal
 later-ground i b gs h = either-ground b i (refusal gs) h .1
@@ -63,6 +63,7 @@ pub tables-pass : (P : Plan) (own : List ℕ) (masks-length cells-length : ℕ) 
 unfolding tableGrounds refusal someOf
 tables-pass P own ml cl ls gs a b w = rw (le-ltb ml (ownMasks P) a, le-ltb cl (ownCells P) b, w)
 
+-- the same where scratch is lent
 or-nothing : (b : Bool) → (b || false) ≡ b
 or-nothing true = refl
 or-nothing false = refl
