@@ -58,7 +58,7 @@ module _ (P : Plan) (masks before cells : List ℕ) (root total : ℕ) (h : load
           (sym (ap (λ (x : ℕ). let r = loadOr x P own (take (ownCells P) before) in (r .0, r .1 ++ drop (ownCells P) before)) e) ∙ h))
 
   -- The tables as an accepted load leaves them hold what they must.
-  load-holds : Holds P (inMasks own) (drop (ownMasks P) masks) (drop (ownCells P) before) record { masks = masks; cells = cells }
+  pub load-holds : Holds P (inMasks own) (drop (ownMasks P) masks) (drop (ownCells P) before) record { masks = masks; cells = cells }
   unfolding loadGrounds refusal bookCells spelled
   load-holds =
       let short = ltb (length masks) (ownMasks P) in
@@ -86,7 +86,7 @@ run-right bytes P d k tm tc s calls answers s″ h (called {s′ = s′} {call =
     let w = run-right bytes P d (bookStep P k (feed call answer)) tm tc s′ rest others s″ (q .1) r in
     ((q .0, w .0), w .1)
 
--- Demand 3. From the tables as an accepted load leaves them, for every list of calls and every answers that the calls' contracts
+-- Demand 3. From the tables as an accepted load leaves them, for every list of calls and all answers that the calls' contracts
 -- allow: each answer is right under the book's sets before its call; afterwards the masks are the book's sets, each cell is
 -- Definition 5's penalty under them, and what is past the plan's own is as it was.
 pub lists-right : (bytes masks before cells : List ℕ) (root total : ℕ) → loads (decode bytes) masks before ≡ (Accepted root total, cells)
@@ -100,12 +100,12 @@ lists-right bytes masks before cells root total h P d calls answers s r =
     record { masks = masks; cells = cells } calls answers s (load-holds P masks before cells root total l) r in
     (q .0, q .1 .kept)
 
--- An accepted improve answers "no better move" exactly when no legal move of its kinds lowers the root.
 isNoBetter : Improved → Type 0
 isNoBetter (improved.Made chosen before after changed) = ⊥
 isNoBetter (improved.NoBetter root) = Unit {0}
 isNoBetter (improved.Refused number) = ⊥
 
+-- An accepted improve that is right answers "no better move" exactly when no legal move of its kinds lowers the root.
 pub no-better-exactly : (P : Plan) (k : Sets) (kinds : ℕ) (r : Improved) → ImprovedRight 0 P k kinds r
     → ((root : ℕ) × (r ≡ improved.NoBetter root)) ↔ ((m : Move) → ofKinds kinds m ≡ true → legal P k m ≡ true → bookRoot P k ≤ bookRoot P (bookMade m k))
 unfolding ImprovedRight isNoBetter
