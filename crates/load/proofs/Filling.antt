@@ -21,11 +21,11 @@ use Rattle.esol.proofs.Bound.{spread, spread-pos, subtreeCells, subtree-count, 
 use Rattle.plan.specs.Rules.{everyNode, nodeRule, innerRule, literalRule, depthRule, treeCount, arityRule}
 use Rattle.plan.specs.Check.{fieldRule, kindDepth, kindWidth}
 use Rattle.plan.specs.Decode.{forestOf}
-use Rattle.plan.proofs.Parts.{rest-all, length-rest-all, one-fits, some-record, length-children, end-below, children-below, siblings-below, span-within}
+use Rattle.plan.proofs.Parts.{siblingsOf, rest-all, length-rest-all, one-fits, some-record, length-children, end-below, children-below, siblings-below, span-within}
 use Rattle.plan.proofs.Bytes.{record-pos, kind-of-record, relation-of-record, a-of-record, b-of-record, end-of-record}
 use Rattle.plan.proofs.Encoding.{forest-of-records, length-records, node-of-record, children-part, siblings-part}
 use Rattle.plan.proofs.Fields.{node-fields, kind-depth, kind-depth-le, kind-width}
-use Rattle.plan.proofs.Judging.{every-node, width-low}
+use Rattle.plan.proofs.Judging.{kidsOf, restOf, every-node, width-low}
 use borrow.Author.Tests.{leb-true}
 use Rattle.load.specs.Joined.{joinAll, merged}
 use Rattle.load.specs.Fill.{joinOf, spreadOf, startCell, treewise, config, table, StartPlaced, started, FillPlaced, Filled, Fills}
@@ -101,8 +101,8 @@ pub record FillOpened (l : List ℕ) (i up depth sets : ℕ) (m : Node) (c s : F
   pub arity : arityRule (kindNumber m) (treeCount c) ≡ true
   pub rules-kids : everyNode (nodeRule sets) c (childDepth m depth) ≡ true
   pub rules-rest : everyNode (nodeRule sets) s depth ≡ true
-  pub kids : take (recordLength * (e - i) - recordLength) (drop recordLength l) ≡ records c (i + 1) i
-  pub rest : drop (recordLength * (e - i)) l ≡ records s e up
+  pub kids : kidsOf l i e ≡ records c (i + 1) i
+  pub rest : siblingsOf recordLength (e - i) l ≡ records s e up
   pub long : length l ≡ recordLength * nodeCount (tree m c s)
 
 pub fill-opened : (l : List ℕ) (i up depth sets e : ℕ) (m : Node) (c s : Forest) → l ≡ records (tree m c s) i up
@@ -126,9 +126,9 @@ fill-opened l i up depth sets e m c s is rules en =
       arity = r .2;
       rules-kids = r .4;
       rules-rest = r .5;
-      kids = ap₂ (λ (x : ℕ) (y : List ℕ). take (recordLength * (x - i) - recordLength) (drop recordLength y)) q is ∙ children-part m c s i up
+      kids = ap₂ (λ (x : ℕ) (y : List ℕ). kidsOf y i x) q is ∙ children-part m c s i up
           ∙ ap (λ (x : ℕ). records c x i) (sym (add-one i));
-      rest = ap₂ (λ (x : ℕ) (y : List ℕ). drop (recordLength * (x - i)) y) q is ∙ siblings-part m c s i up ∙ ap (λ (x : ℕ). records s x up) (sym q);
+      rest = ap₂ (λ (x : ℕ) (y : List ℕ). siblingsOf recordLength (x - i) y) q is ∙ siblings-part m c s i up ∙ ap (λ (x : ℕ). records s x up) (sym q);
       long = ap length is ∙ length-records (tree m c s) i up;
     }
 
@@ -351,9 +351,9 @@ pub fill-tree : (l : List ℕ) (i above ports sets depth width over at : ℕ) (m
     → (kind relation a b : ℕ) → kind ≡ kindField l → relation ≡ relationField l → a ≡ aField l → b ≡ bField l
     → (below′ nn r : ℕ) → below′ ≡ kindDepth kind depth → (ys₁ zs₁ xs₃ xs₄ : List ℕ) → recordLength ≤ length l
     → ys₁ ≡ started kind relation a b ports depth width masks (lent at xs)
-    → Fills (take (recordLength * (e - i) - recordLength) (drop recordLength l)) (i + 1) kind ports below′ width width masks (lent at (back at xs ys₁)) zs₁ nn
+    → Fills (kidsOf l i e) (i + 1) kind ports below′ width width masks (lent at (back at xs ys₁)) zs₁ nn
     → xs₃ ≡ merged (joinOf above) over (spreadOf above ports) at (back at (back at xs ys₁) zs₁)
-    → Fills (take (length l - recordLength * (e - i)) (drop (recordLength * (e - i)) l)) e above ports depth over (at + nn) masks xs₃ xs₄ r
+    → Fills (restOf l i e) e above ports depth over (at + nn) masks xs₃ xs₄ r
     → Fills l i above ports depth over at masks xs xs₄ r
 unfolding Fills
 fill-tree l i above ports sets depth width over at masks xs p e en kind relation a b ki ri ai bi below′ nn r bd ys₁ zs₁ xs₃ xs₄ long st kids mg rest n outer f up kn dn on is =
@@ -376,18 +376,18 @@ pub record FillFacts (l : List ℕ) (i above ports sets depth width over at : �
   pub after : i < e
   pub few : e ≤ 512
   pub within : recordLength * (e - i) ≤ length l
-  pub kids-shorter : length (take (recordLength * (e - i) - recordLength) (drop recordLength l)) < length l
-  pub rest-shorter : length (take (length l - recordLength * (e - i)) (drop (recordLength * (e - i)) l)) < length l
+  pub kids-shorter : length (kidsOf l i e) < length l
+  pub rest-shorter : length (restOf l i e) < length l
   pub depth3 : depth ≤ 3
   pub width-low : width ≤ 262144
   pub start : StartPlaced kind relation a b sets ports depth width masks (lent at xs)
   pub kids : (ys : List ℕ) → length ys ≡ length (lent at xs) → (below wider : ℕ) → below ≡ kindDepth kind depth → wider ≡ kindWidth kind width ports
-      → FillPlaced (take (recordLength * (e - i) - recordLength) (drop recordLength l)) (i + 1) kind ports sets below wider width width masks (lent at (back at xs ys))
+      → FillPlaced (kidsOf l i e) (i + 1) kind ports sets below wider width width masks (lent at (back at xs ys))
   pub merging : at + over * spreadOf above ports ≤ length xs
   pub rest : (nn below : ℕ) → below ≡ kindDepth kind depth → ((m : Node) (outer : ℕ) (c : Forest) (up : ℕ) → kindNumber m ≡ kind → below ≡ childDepth m outer → width ≡ ports ^ outer
-      → take (recordLength * (e - i) - recordLength) (drop recordLength l) ≡ records c (i + 1) up → nn ≡ width + cellCount ports c below)
+      → kidsOf l i e ≡ records c (i + 1) up → nn ≡ width + cellCount ports c below)
       → (ws : List ℕ) → length ws ≡ length xs
-      → (at + nn ≤ length xs) × FillPlaced (take (length l - recordLength * (e - i)) (drop (recordLength * (e - i)) l)) e above ports sets depth width over (at + nn) masks ws
+      → (at + nn ≤ length xs) × FillPlaced (restOf l i e) e above ports sets depth width over (at + nn) masks ws
 
 spread-width : (n : Node) (ports outer : ℕ) → ports ^ outer * spreadOf (kindNumber n) ports ≡ ports ^ childDepth n outer
 unfolding spreadOf kindNumber childDepth

@@ -17,7 +17,7 @@ use Rattle.esol.proofs.Relations.{relation-of-number}
 use Rattle.plan.specs.Bytes.{headerLength, recordLength, kindField, relationField, aField, bField, endField, relationByte, aByte, bByte, nodeOf, recordOf, records, header, encoding}
 use Rattle.plan.specs.Rules.{planRule}
 use Rattle.plan.specs.Decode.{TableOf, forestOf, candidate, begins, Decoded, broken, sound, decode}
-use Rattle.plan.proofs.Parts.{span-tree, span-children, span-forest}
+use Rattle.plan.proofs.Parts.{childrenOf, siblingsOf, span-tree, span-children, span-forest}
 use Rattle.plan.proofs.Bytes.{record-pos, length-record, kind-of-record, relation-of-record, a-of-record, b-of-record, end-of-record, length-header, ports-of-header, sets-of-header, nodes-of-header}
 
 -- a node's bytes name it
@@ -57,14 +57,14 @@ module _ (n : Node) (c s : Forest) (i p : ℕ) where
   abbrev whole : List ℕ
   whole = recordOf n p end ++ (records c (suc i) i ++ records s end p)
 
-  pub children-part : take (recordLength * (end - i) - recordLength) (drop recordLength whole) ≡ records c (suc i) i
+  pub children-part : childrenOf recordLength (end - i) whole ≡ records c (suc i) i
   children-part =
       ap (take (recordLength * (end - i) - recordLength))
       (drop-at (recordOf n p end) (records c (suc i) i ++ records s end p) recordLength (length-record n p end))
       ∙ take-at (records c (suc i) i) (records s end p) (recordLength * (end - i) - recordLength)
       (length-records c (suc i) i ∙ span-children recordLength record-pos i (nodeCount c))
 
-  pub siblings-part : drop (recordLength * (end - i)) whole ≡ records s end p
+  pub siblings-part : siblingsOf recordLength (end - i) whole ≡ records s end p
   siblings-part =
       ap (drop (recordLength * (end - i))) (sym (append-assoc (recordOf n p end) (records c (suc i) i) (records s end p)))
       ∙ drop-at (recordOf n p end ++ records c (suc i) i) (records s end p) (recordLength * (end - i))
@@ -75,8 +75,8 @@ module _ (n : Node) (c s : Forest) (i p : ℕ) where
 forest-of-part : (m : ℕ) (l : List ℕ) (i : ℕ) → recordLength ≤ length l
     → forestOf (suc m) l i
     ≡ tree (nodeOf (kindField l) (relationField l) (aField l) (bField l))
-    (forestOf m (take (recordLength * (endField l - i) - recordLength) (drop recordLength l)) (suc i))
-    (forestOf m (drop (recordLength * (endField l - i)) l) (endField l))
+    (forestOf m (childrenOf recordLength (endField l - i) l) (suc i))
+    (forestOf m (siblingsOf recordLength (endField l - i) l) (endField l))
 unfolding forestOf
 forest-of-part m [] i h = absurd (omega (arith, record-pos))
 forest-of-part m (x ∷ xs) i h = refl
@@ -90,7 +90,7 @@ forest-step m n c s i p =
     let t = records c (suc i) i ++ records s e p in
     let l = recordOf n p e ++ t in
     let parts : ℕ → Forest × Forest = λ x.
-    (forestOf m (take (recordLength * (x - i) - recordLength) (drop recordLength l)) (suc i), forestOf m (drop (recordLength * (x - i)) l) x) in
+    (forestOf m (childrenOf recordLength (x - i) l) (suc i), forestOf m (siblingsOf recordLength (x - i) l) x) in
     forest-of-part m l i (omega (arith, length-append (recordOf n p e) t, length-record n p e))
     ∙ ap₂ (λ (x : Node) (y : Forest × Forest). tree x (y .0) (y .1)) (node-of-record n p e t)
     (ap parts (end-of-record n p e t)

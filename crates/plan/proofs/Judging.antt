@@ -21,10 +21,17 @@ use Rattle.plan.specs.Index.{firstCells, ends, nodeUses, forestUses, use
 use Rattle.plan.specs.Decode.{forestOf}
 use Rattle.plan.specs.Check.{fieldRule, recordRule, FieldIs, kindDepth, kindWidth, kindUses, laid, Placed, Sound, Indexed, Judged}
 use Rattle.plan.proofs.Conjunctions.{two-true, four-true}
-use Rattle.plan.proofs.Parts.{rest-all, length-rest-all, cancel-le, cancel-children, no-record, span-within, length-children, parts-join, first-below, children-below, siblings-below}
+use Rattle.plan.proofs.Parts.{childrenOf, siblingsOf, rest-all, length-rest-all, cancel-le, cancel-children, no-record, span-within, length-children, parts-join, first-below, children-below, siblings-below}
 use Rattle.plan.proofs.Bytes.{record-pos, kind-of-record, relation-of-record, a-of-record, b-of-record, parent-of-record, end-of-record, record-is}
 use Rattle.plan.proofs.Encoding.{length-records, children-part, siblings-part, forest-of-records}
 use Rattle.plan.proofs.Fields.{NodeIs, fields-node, node-fields, kind-depth, kind-depth-le, kind-width, kind-uses}
+
+-- the records of node i's children and of its later siblings, where its tree ends at e, as the code lends them
+abbrev pub kidsOf : List ℕ → ℕ → ℕ → List ℕ
+kidsOf l i e = childrenOf recordLength (e - i) l
+
+abbrev pub restOf : List ℕ → ℕ → ℕ → List ℕ
+restOf l i e = take (length l - recordLength * (e - i)) (siblingsOf recordLength (e - i) l)
 
 -- What a sound part that is not empty begins with.
 pub record Opened (l : List ℕ) (i parent d sets above : ℕ) : Type 0 where
@@ -37,8 +44,8 @@ pub record Opened (l : List ℕ) (i parent d sets above : ℕ) : Type 0 where
   pub kind : kindField l ≡ kindNumber node
   pub inner : innerRule sets node d ≡ true
   pub arity : arityRule (kindNumber node) (treeCount children) ≡ true
-  pub kids : Sound (take (recordLength * (endField l - i) - recordLength) (drop recordLength l)) (suc i) i (childDepth node d) sets (kindNumber node) children
-  pub rest : Sound (drop (recordLength * (endField l - i)) l) (endField l) parent d sets above siblings
+  pub kids : Sound (kidsOf l i (endField l)) (suc i) i (childDepth node d) sets (kindNumber node) children
+  pub rest : Sound (siblingsOf recordLength (endField l - i) l) (endField l) parent d sets above siblings
 
 pub sound-length : {l : List ℕ} {i parent d sets above : ℕ} {f : Forest} → Sound l i parent d sets above f → length l ≡ recordLength * nodeCount f
 sound-length {i} {parent} {f} s = ap length (s .is) ∙ length-records f i parent
@@ -93,12 +100,12 @@ opened-tree n c s i parent d sets above rules nested =
       inner = r .0;
       arity = r .2;
       kids = record {
-        is = ap (λ (x : ℕ). take (recordLength * (x - i) - recordLength) (drop recordLength l)) q ∙ children-part n c s i parent;
+        is = ap (kidsOf l i) q ∙ children-part n c s i parent;
         rules = r .4;
         nested = r .3;
       };
       rest = record {
-        is = ap (λ (x : ℕ). drop (recordLength * (x - i)) l) q ∙ siblings-part n c s i parent ∙ ap (λ (x : ℕ). records s x parent) (sym q);
+        is = ap (λ (x : ℕ). siblingsOf recordLength (x - i) l) q ∙ siblings-part n c s i parent ∙ ap (λ (x : ℕ). records s x parent) (sym q);
         rules = r .5;
         nested = m .1;
       };
@@ -122,13 +129,6 @@ pub refuse : {l : List ℕ} {i parent d ports sets above first : ℕ} (r : Check
     → ((f : Forest) → Sound l i parent d sets above f → ⊥) → Judged l i parent d ports sets above first r x y z x′ y′ z′
 refuse r e h = record { accepts = λ q. absurd (false≢true (sym e ∙ q)); refuses = λ q f s. h f s }
 
--- the children's records and the later siblings', as the code lends them
-abbrev pub kidsOf : List ℕ → ℕ → ℕ → List ℕ
-kidsOf l i e = take (recordLength * (e - i) - recordLength) (drop recordLength l)
-
-abbrev pub restOf : List ℕ → ℕ → ℕ → List ℕ
-restOf l i e = take (length l - recordLength * (e - i)) (drop (recordLength * (e - i)) l)
-
 module _ (l : List ℕ) (i parent d sets above : ℕ) (some : length l ≡ 0 → ⊥) where
   pub too-short : length l < recordLength → (f : Forest) → Sound l i parent d sets above f → ⊥
   too-short h f s = some (no-record recordLength record-pos (length l) (nodeCount f) (sound-length s) h)
@@ -149,15 +149,15 @@ module _ (l : List ℕ) (i parent d sets above : ℕ) (some : length l ≡ 0 →
           let k = o .kids in
           let b : childDepth (o .node) d ≡ below = kind-depth sets d (o .node) (o .inner) ∙ ap (λ (x : ℕ). kindDepth x d) (sym (ki ∙ o .kind)) ∙ sym bd in
           record {
-            is = ap (λ (x : ℕ). take (recordLength * (x - i) - recordLength) (drop recordLength l)) en ∙ k .is
+            is = ap (kidsOf l i) en ∙ k .is
                 ∙ ap (λ (x : ℕ). records (o .children) x i) (sym (add-one i));
             rules = ap (everyNode (nodeRule sets) (o .children)) (sym b) ∙ k .rules;
             nested = ap (λ (x : ℕ). nestingRule x (o .children)) (ki ∙ o .kind) ∙ k .nested;
           }
 
-      rest-is : (restOf l i e) ≡ drop (recordLength * (endField l - i)) l
+      rest-is : restOf l i e ≡ siblingsOf recordLength (endField l - i) l
       rest-is =
-          rest-all (recordLength * (e - i)) l ∙ ap (λ (x : ℕ). drop (recordLength * (x - i)) l) en
+          rest-all (recordLength * (e - i)) l ∙ ap (λ (x : ℕ). siblingsOf recordLength (x - i) l) en
 
       rest-sound : (o : Opened l i parent d sets above) → Sound (restOf l i e) e parent d sets above (o .siblings)
       rest-sound o =

@@ -1,5 +1,5 @@
--- Parts of a table of records, for any length r of a record: where a record is followed by the records of its children and then
--- by those of its later siblings, and its tree has m records. Assumes nothing.
+-- Parts of a table of records, for any length r of a record. A part begins with a record; those of its children follow, and then
+-- those of its later siblings. Assumes nothing.
 use mathlib.Core.Path.{_≡_, sym, ap, ap₂, _∙_}
 use mathlib.Core.List.{List, _++_}
 use Prim.Native.Nat.{ℕ, zero, suc, _+_, _-_, _*_, _≤_, _<_}
@@ -16,8 +16,15 @@ rest-all k l = take-all (length l - k) (drop k l) (rw (length-drop k l) (omega a
 pub length-rest-all : (k : ℕ) (l : List ℕ) → length (take (length l - k) (drop k l)) ≡ length l - k
 length-rest-all k l = ap length (rest-all k l) ∙ length-drop k l
 
+-- the children's records and the later siblings', where the first tree of a part has m records of length r
+abbrev pub childrenOf : ℕ → ℕ → List ℕ → List ℕ
+childrenOf r m l = take (r * m - r) (drop r l)
+
+abbrev pub siblingsOf : ℕ → ℕ → List ℕ → List ℕ
+siblingsOf r m l = drop (r * m) l
+
 module _ (r : ℕ) (pos : 1 ≤ r) where
-  -- how many records
+  -- how many records so many bytes are
   pub cancel-le : (n m : ℕ) → r * n ≤ r * m → n ≤ m
   cancel-le n m h = le-of-mul-le-mul-left h pos
 
@@ -47,16 +54,16 @@ module _ (r : ℕ) (pos : 1 ≤ r) where
   pub span-within : (m n : ℕ) → m ≤ n → r * m ≤ r * n
   span-within m n h = mul-le-mul-left r h
 
-  -- the parts and their lengths
+  -- the two parts are what follows the first record
   module _ (m : ℕ) (l : List ℕ) (within : r * m ≤ length l) where
-    pub length-children : length (take (r * m - r) (drop r l)) ≡ r * m - r
+    pub length-children : length (childrenOf r m l) ≡ r * m - r
     length-children = length-take-le (r * m - r) (drop r l) (rw (length-drop r l) (omega arith))
 
-    pub parts-join : 1 ≤ m → drop r l ≡ take (r * m - r) (drop r l) ++ drop (r * m) l
+    pub parts-join : 1 ≤ m → drop r l ≡ childrenOf r m l ++ siblingsOf r m l
     parts-join h =
         let e : r + (r * m - r) ≡ r * m = omega (arith, one-fits m h) in
         sym (take-append-drop (r * m - r) (drop r l))
-        ∙ ap (λ (x : List ℕ). take (r * m - r) (drop r l) ++ x) (drop-drop (r * m - r) r l ∙ ap (λ (j : ℕ). drop j l) e)
+        ∙ ap (λ (x : List ℕ). childrenOf r m l ++ x) (drop-drop (r * m - r) r l ∙ ap (λ (j : ℕ). drop j l) e)
 
   -- the numbers of the nodes: of n bytes from node i on, all below node k, the first tree has those up to node e
   pub first-below : (i n k : ℕ) → r ≤ n → r * i + n ≤ r * k → i < k
@@ -76,5 +83,5 @@ module _ (r : ℕ) (pos : 1 ≤ r) where
     siblings-below = omega (arith, nodes-of-tree)
 
 -- what stands below the first record behind a header of h bytes
-pub below-first : (h r m : ℕ) (l : List ℕ) → take (h + r * m - (h + r)) (drop (h + r) l) ≡ take (r * m - r) (drop r (drop h l))
+pub below-first : (h r m : ℕ) (l : List ℕ) → take (h + r * m - (h + r)) (drop (h + r) l) ≡ childrenOf r m (drop h l)
 below-first h r m l = let e : h + r * m - (h + r) ≡ r * m - r = omega arith in ap₂ take e (sym (drop-drop r h l))

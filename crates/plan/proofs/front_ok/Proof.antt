@@ -76,7 +76,7 @@ root-ok-requires c κs =
 returns-6 : tie.Need-returns-6
 unfolding frontRule headerLength recordLength
 returns-6 c =
-    rw (← (c .before .before .before .before .before .nodes-of .ensures .is), le-leb _ _ (c .before .before .before .before .before .before .before .before .if1 .left), sym (c .before .before .before .before .before .before .before .header-ok .ensures) ∙ not-false _ (c .before .before .before .before .before .before .if2 .left), le-leb _ _ (c .before .before .before .before .if3 .left), le-leb _ _ (c .before .before .before .if4 .left), le-leb _ _ (c .before .before .if5 .left)) (c .root-ok .ensures ∙ ap (rootRule (c .before .before .before .before .before .nodes-of .result)) (rest-all 9 (c .before .before .before .before .before .before .before .before .before .before .args .table .now)))
+    rw (← (c .before .before .before .before .before .nodes-of .ensures .is), le-leb _ _ (c .before .before .before .before .before .before .before .before .if1 .left), sym (c .before .before .before .before .before .before .before .header-ok .ensures) ∙ not-false _ (c .before .before .before .before .before .before .if2 .left), le-leb _ _ (c .before .before .before .before .if3 .left), le-leb _ _ (c .before .before .before .if4 .left), le-leb _ _ (c .before .before .if5 .left)) (c .root-ok .ensures ∙ ap (rootRule (c .before .before .before .before .before .nodes-of .result)) (rest-all headerLength (c .before .before .before .before .before .before .before .before .before .before .args .table .now)))
 
 pub front-ok-spec : {M : Type 1} → statement M
 front-ok-spec =
