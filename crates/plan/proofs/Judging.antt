@@ -143,29 +143,31 @@ module _ (l : List ℕ) (i parent d sets above : ℕ) (some : length l ≡ 0 →
     pub cut-short : length l < recordLength * (e - i) → (f : Forest) → Sound l i parent d sets above f → ⊥
     cut-short h f s = let o = opened f s some .long in omega (arith, ap (λ (x : ℕ). recordLength * (x - i)) en)
 
+    rest-is : restOf l i e ≡ siblingsOf recordLength (endField l - i) l
+    rest-is = rest-all (recordLength * (e - i)) l ∙ ap (λ (x : ℕ). siblingsOf recordLength (x - i) l) en
+
+    rest-sound : (o : Opened l i parent d sets above) → Sound (restOf l i e) e parent d sets above (o .siblings)
+    rest-sound o =
+        let k = o .rest in
+        record {
+          is = rest-is ∙ k .is ∙ ap (λ (x : ℕ). records (o .siblings) x parent) (sym en);
+          rules = k .rules;
+          nested = k .nested;
+        }
+
+    module _ {ports first : ℕ} {r : Checked} {x y z x′ y′ z′ : List ℕ} (j : Judged (restOf l i e) e parent d ports sets above first r x y z x′ y′ z′) where
+      pub bad-rest : r .ok ≡ false → (f : Forest) → Sound l i parent d sets above f → ⊥
+      bad-rest q f s = let o = opened f s some in j .refuses q (o .siblings) (rest-sound o)
+
     module _ (kind below : ℕ) (ki : kind ≡ kindField l) (bd : below ≡ kindDepth kind d) where
       kids-sound : (o : Opened l i parent d sets above) → Sound (kidsOf l i e) (i + 1) i below sets kind (o .children)
       kids-sound o =
           let k = o .kids in
           let b : childDepth (o .node) d ≡ below = kind-depth sets d (o .node) (o .inner) ∙ ap (λ (x : ℕ). kindDepth x d) (sym (ki ∙ o .kind)) ∙ sym bd in
           record {
-            is = ap (kidsOf l i) en ∙ k .is
-                ∙ ap (λ (x : ℕ). records (o .children) x i) (sym (add-one i));
+            is = ap (kidsOf l i) en ∙ k .is ∙ ap (λ (x : ℕ). records (o .children) x i) (sym (add-one i));
             rules = ap (everyNode (nodeRule sets) (o .children)) (sym b) ∙ k .rules;
             nested = ap (λ (x : ℕ). nestingRule x (o .children)) (ki ∙ o .kind) ∙ k .nested;
-          }
-
-      rest-is : restOf l i e ≡ siblingsOf recordLength (endField l - i) l
-      rest-is =
-          rest-all (recordLength * (e - i)) l ∙ ap (λ (x : ℕ). siblingsOf recordLength (x - i) l) en
-
-      rest-sound : (o : Opened l i parent d sets above) → Sound (restOf l i e) e parent d sets above (o .siblings)
-      rest-sound o =
-          let k = o .rest in
-          record {
-            is = rest-is ∙ k .is ∙ ap (λ (x : ℕ). records (o .siblings) x parent) (sym en);
-            rules = k .rules;
-            nested = k .nested;
           }
 
       module _ {ports first : ℕ} {r : Checked} {x y z x′ y′ z′ : List ℕ} (j : Judged (kidsOf l i e) (i + 1) i below ports sets kind first r x y z x′ y′ z′) where
@@ -178,10 +180,6 @@ module _ (l : List ℕ) (i parent d sets above : ℕ) (some : length l ≡ 0 →
             let g = j .accepts q in
             let one : g .0 ≡ o .children = same-forest (g .0) (o .children) (i + 1) i (sym (g .1 .is) ∙ kids-sound o .is) in
             false≢true (sym a ∙ ap₂ arityRule (ki ∙ o .kind) (g .2 .trees ∙ ap treeCount one) ∙ o .arity)
-
-      module _ {ports first : ℕ} {r : Checked} {x y z x′ y′ z′ : List ℕ} (j : Judged (restOf l i e) e parent d ports sets above first r x y z x′ y′ z′) where
-        pub bad-rest : r .ok ≡ false → (f : Forest) → Sound l i parent d sets above f → ⊥
-        bad-rest q f s = let o = opened f s some in j .refuses q (o .siblings) (rest-sound o)
 
 -- Lists with numbers laid from a place on.
 pub laid-nothing : (xs : List ℕ) (i : ℕ) → laid xs i [] ≡ xs
