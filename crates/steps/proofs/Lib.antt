@@ -1,0 +1,4 @@
+pub mod KindOf
+pub mod Outcomes
+pub mod Steps
+pub mod Visits
