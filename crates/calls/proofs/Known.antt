@@ -16,7 +16,7 @@ use Rattle.esol.specs.Moves.{moveKind, fieldsKnown, fieldsFit, known, fits, leg
 use Rattle.esol.specs.Change.{someOf, pairsChange, memberHit, hit, nodeHit, forestHit, touched, modulus, differences, newNumbers, renew, cellOf, renewals, newCell, newCells, differing}
 use Rattle.esol.specs.Known.{literal, over, plan, planA, move}
 use Rattle.plan.specs.Bytes.{encoding}
-use Rattle.plan.specs.Rules.{everyNode, treeCount, arityRule, maySit, nestingRule, depthRule, literalRule, innerRule, nodeRule, formulaRule, mostCells, planRule}
+use Rattle.plan.specs.Rules.{everyNode, treeCount, arityRule, mayNest, nestingRule, depthRule, literalRule, innerRule, nodeRule, formulaRule, mostCells, planRule}
 use Rattle.plan.specs.Decode.{Decoded, sound, decode}
 use Rattle.plan.proofs.Encoding.{decode-complete}
 use Rattle.load.specs.declared.Loaded.the-variants as loaded
@@ -33,7 +33,7 @@ use Rattle.calls.proofs.Lists.{lists-right}
 
 -- what computes here
 computing : Unit {0}
-unfolding kindNumber nodeCount childDepth indicator portsIn configuration inMask inMasks ownMasks spelled withinPorts enter leave portOf compare sizePenalty literalPenalty sum least copy combine eachPort below penalties penalty cellCount placeOf tupleAt tabulate siblingFirst layout ownCells cells rootPenalty moveKind fieldsKnown fieldsFit known fits legal refusal moveGrounds kindMasks moveMasks kindPairs movePairs kindWeight kindsKnown ofKinds someOf pairsChange memberHit hit nodeHit forestHit touched modulus differences newNumbers renew cellOf renewals newCell newCells differing literal over plan planA move everyNode treeCount arityRule maySit nestingRule depthRule literalRule innerRule nodeRule formulaRule mostCells planRule allWithin loadGrounds loadOr loadPlan loads tableGrounds moveCallGrounds cellsAfter moveAnswer moveOr movePlan moves trialOr trialPlan trials improveGrounds rootNow rootAfter Chosen ImprovesOr ImprovesPlan Improves Step
+unfolding kindNumber nodeCount childDepth indicator portsIn configuration inMask inMasks ownMasks spelled withinPorts enter leave portOf compare sizePenalty literalPenalty sum least copy combine eachPort below penalties penalty cellCount placeOf tupleAt tabulate siblingFirst layout ownCells cells rootPenalty moveKind fieldsKnown fieldsFit known fits legal refusal moveGrounds kindMasks moveMasks kindPairs movePairs kindWeight kindsKnown ofKinds someOf pairsChange memberHit hit nodeHit forestHit touched modulus differences newNumbers renew cellOf renewals newCell newCells differing literal over plan planA move everyNode treeCount arityRule mayNest nestingRule depthRule literalRule innerRule nodeRule formulaRule mostCells planRule allWithin loadGrounds loadOr loadPlan loads tableGrounds moveCallGrounds cellsAfter moveAnswer moveOr movePlan moves trialOr trialPlan trials improveGrounds rootNow rootAfter Chosen ImprovesOr ImprovesPlan Improves Step
 computing = tt
 
 -- plan A's cells under its masks, and after each of four moves
