@@ -1,8 +1,11 @@
 // Trial: what a move would come to, by a walk over the touched cells that only reads. Paper 01, section One move.
 use hits::Changed;
+use hits::first_word;
 use hits::meet;
 use hits::port_word;
 use hits::rest_word;
+use load::masks_ok;
+use plan::check;
 use steps::After;
 use steps::Sum;
 use steps::adds_of;
@@ -20,6 +23,9 @@ ghost use mathlib.Core.Bool.{true, false, cond, not, _&&_, _||_};
 ghost use Prim.Native.Nat.{ℕ, _+_, _*_, _≤_, _<_};
 ghost use lib.Dec.{leb, ltb};
 ghost use Rattle.hits.specs.Hits.{meets, restWord};
+ghost use Rattle.plan.specs.Check.{Room};
+ghost use Rattle.steps.specs.Root.{RootReady, RootGives};
+ghost use Rattle.trial.specs.Opening.{Opens};
 ghost use Rattle.trial.specs.Walking.{CellReady, CellGives, TreesReady, TreesGive, PortsReady, PortsSo};
 
 // Whether a node of a kind binds a variable.
@@ -268,4 +274,86 @@ fn ports_after(
         x = next_port(all, c, x, ports);
     }
     sum
+}
+
+// What the root comes to, under the masks after a change.
+pub fn root_after(
+    table: &[u8],
+    firsts: &[u32],
+    ends: &[u16],
+    uses: &[u64],
+    masks: &[u64],
+    cells: &[u32],
+    ports: usize,
+    sets: usize,
+    c: Changed,
+) -> After
+    requires { ⌜ RootReady ports sets c (now table) (now firsts) (now ends) (now uses) (now masks) (now cells) ⌝ }
+    ensures { λ r. ⌜ RootGives ports c (now (table .entry)) (now (masks .entry)) (now (cells .entry)) r ⌝ }
+{
+    cell_after(
+        table,
+        firsts,
+        ends,
+        uses,
+        masks,
+        cells,
+        ports,
+        sets,
+        c,
+        0,
+        0,
+        0,
+        0,
+        first_word(c),
+    )
+}
+
+// The ports and sets of a plan whose tables may be worked, or the first ground of 11 to 13 that applies.
+pub struct Opened {
+    pub number: u8,
+    pub ports: usize,
+    pub sets: usize,
+}
+
+fn closed(number: u8) -> Opened
+    ensures { λ r. ⌜ r .number ≡ number ⌝ }
+{
+    Opened {
+        number: number,
+        ports: 0,
+        sets: 0,
+    }
+}
+
+// Tries 11 to 13 and fills the index tables; `shortest` is the length of the shortest cell table that is lent.
+pub fn open_tables(
+    table: &[u8],
+    masks: &[u64],
+    shortest: usize,
+    firsts: &mut [u32],
+    ends: &mut [u16],
+    uses: &mut [u64],
+) -> Opened
+    requires { ⌜ Room (now firsts) (now ends) (now uses) ⌝ }
+    ensures { λ r. ⌜ Opens (now (table .entry)) (now (masks .entry)) shortest r (now (firsts .exit)) (now (ends .exit)) (now (uses .exit)) ⌝ }
+{
+    let info = check(table, firsts, ends, uses);
+    if !info.ok {
+        return closed(11);
+    }
+    if masks.len() < info.sets {
+        return closed(12);
+    }
+    if shortest < info.cells {
+        return closed(12);
+    }
+    if !masks_ok(masks, info.sets, info.ports) {
+        return closed(13);
+    }
+    Opened {
+        number: 0,
+        ports: info.ports,
+        sets: info.sets,
+    }
 }
