@@ -2,31 +2,31 @@
 use mathlib.Core.Path.{_≡_, refl, sym, ap, ap₂, _∙_, subst}
 use mathlib.Core.Logic.{_≢_}
 use mathlib.Core.Bool.{Bool, true, false, cond, not, _&&_, _||_}
-use mathlib.Core.List.{List, [], _∷_}
+use mathlib.Core.List.{List, _∷_}
 use Prim.Native.Nat.{ℕ, zero, suc, _+_, _-_, _*_, _^_, _%_, _≤_, _<_}
 use native.Mathlib.Nat.{add-zero}
 use native.Mathlib.Numerals.{add-one}
 use native.Mathlib.Omega.{arith}
-use lib.Dec.{eqb, leb, ltb}
+use lib.Dec.{leb, ltb}
 use lib.ListN.{length, getD, set}
 use borrow.Author.Tests.{ltb-true, ltb-false}
 use Rattle.esol.specs.Formula.{Literal, Node, root, all, any, and, or, lit, Forest, none, tree, kindNumber, nodeCount, childDepth}
 use Rattle.esol.specs.Configuration.{Configuration, configuration, inMasks}
 use Rattle.esol.specs.Truth.{Tuple}
 use Rattle.esol.specs.Cells.{placeOf, siblingFirst}
-use Rattle.esol.specs.Change.{Change, nodeHit, forestHit, touched, modulus, OldCells, cellOf, newCell, renewals}
+use Rattle.esol.specs.Change.{Change, nodeHit, forestHit, touched, modulus, OldCells, cellOf, newCell}
 use Rattle.esol.proofs.Lists.{or-left, or-right}
 use Rattle.plan.specs.Bytes.{kindField}
 use Rattle.plan.specs.Rules.{treeCount}
 use Rattle.hits.specs.declared.Changed.{Changed}
 use Rattle.hits.specs.Hits.{meets, Says, restWord, portWord}
-use Rattle.walk.specs.Walk.{gathered, changes, eachWritten, writtenBelow, written}
-use Rattle.walk.proofs.Frame.{Agree, renewals-agree, changes-agree, later-agrees, port-agrees, written-tree, written-port}
+use Rattle.walk.specs.Walk.{gathered, eachWritten, writtenBelow, written}
+use Rattle.walk.proofs.Frame.{renewals-agree, changes-agree, later-agrees, port-agrees, written-tree, written-port}
 use Rattle.steps.specs.declared.After.{After}
 use Rattle.steps.specs.declared.Sum.{Sum}
 use Rattle.steps.specs.Nodes.{recordAt}
-use Rattle.steps.specs.Visit.{Visit, CellsFit, Joined, TreesAfter, PortsVisit, PortsAfter}
-use Rattle.steps.proofs.KindOf.{Quantifier, Joint, quantifier-of, joint-of, literal-of}
+use Rattle.steps.specs.Visit.{Visit, CellsFit, Joined, TreesAfter, PortsVisit}
+use Rattle.steps.proofs.KindOf.{quantifier-of, joint-of, literal-of}
 use Rattle.steps.proofs.Visits.{visit-next, port-visit, port-untouched}
 use Rattle.steps.proofs.Outcomes.{trees-more, port-more}
 use Rattle.trial.specs.Walking.{Ready, CellGives, TreesReady, TreesGive, PortsReady, PortsSo}

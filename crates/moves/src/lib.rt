@@ -1,5 +1,6 @@
 // Moves: a change carried through the cells in place, each touched cell once and children first. Paper 01, section One move.
 use hits::Changed;
+use hits::first_word;
 use hits::meet;
 use hits::port_word;
 use steps::After;
@@ -19,10 +20,11 @@ use trial::first_port;
 use trial::is_quantifier;
 use trial::next_port;
 ghost use mathlib.Core.Path.{_≡_};
-ghost use Prim.Native.Nat.{ℕ, _+_, _<_};
+ghost use Prim.Native.Nat.{_+_, _<_};
 ghost use lib.ListN.{length, getD, set};
+ghost use Rattle.steps.specs.Root.{RootReady, RootGives};
 ghost use Rattle.trial.specs.Walking.{CellReady, CellGives, TreesReady, TreesGive, PortsReady, PortsSo};
-ghost use Rattle.moves.specs.Writing.{CellWrites, TreesWrite, PortsWrite};
+ghost use Rattle.moves.specs.Writing.{CellWrites, TreesWrite, PortsWrite, RootWrites};
 
 // Writes a cell's number at a place of its node.
 fn put_cell(firsts: &[u32], i: usize, place: usize, value: u32, cells: &mut [u32])
@@ -238,4 +240,37 @@ fn ports_written(
         x = next_port(all, c, x, ports);
     }
     sum
+}
+
+// A change carried through all of a plan's own cells, under the masks after it.
+pub fn root_written(
+    table: &[u8],
+    firsts: &[u32],
+    ends: &[u16],
+    uses: &[u64],
+    masks: &[u64],
+    cells: &mut [u32],
+    ports: usize,
+    sets: usize,
+    c: Changed,
+) -> After
+    requires { ⌜ RootReady ports sets c (now table) (now firsts) (now ends) (now uses) (now masks) (now cells) ⌝ }
+    ensures { λ r. ⌜ RootGives ports c (now (table .entry)) (now (masks .entry)) (now (cells .entry)) r × RootWrites ports c (now (table .entry)) (now (masks .entry)) (now (cells .entry)) (now (cells .exit)) ⌝ }
+{
+    cell_written(
+        table,
+        firsts,
+        ends,
+        uses,
+        masks,
+        cells,
+        ports,
+        sets,
+        c,
+        0,
+        0,
+        0,
+        0,
+        first_word(c),
+    )
 }

@@ -1,11 +1,10 @@
-use mathlib.Core.Path.{refl, sym, ap, _∙_}
+use mathlib.Core.Path.{refl, sym, _∙_}
 use Prim.Native.Nat.{ℕ, _+_, _-_, _*_, _<_}
 use native.Mathlib.Omega.{arith}
 use borrow.Author.Needs.{needs}
 use borrow.Author.Tests.{not-true, not-false}
 use Rattle.trial.proofs.Walking.{node-low, firsts-room, ends-room, uses-room, cell-room, record-room, place-low, times-fits, literal-ready, ports-ready, trees-ready, gives-untouched, gives-literal, gives-ports, gives-trees, none-left, some-left, rest-few, row-fits, digits-ready, finished}
 use Rattle.moves.proofs.Writes.{room-kept, all-fit, untouched-moved, literal-moved, ports-moved, trees-moved, none-written, later-ready, later-moved, Carried, carried-ready, carried-start, carried-step, all-written}
-use Prim.Native.Nat.{ℕ, _<_}
 use borrow.Fn.Kinds.{In}
 use borrow.Fn.PlainCycle.{Measures, is, falls, and}
 use Rattle.moves.proofs.cell_written.Reads as cell-written
