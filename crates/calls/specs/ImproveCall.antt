@@ -21,6 +21,31 @@ improvedNumber (Made chosen before after changed) = 0
 improvedNumber (NoBetter root) = 0
 improvedNumber (Refused number) = number
 
+-- The values of each case: the move that was made, with all fields 0 if none was; the three numbers, where "no better move" has
+-- the root before and after, and nothing changed.
+unfoldable pub noMove : Move
+noMove = record { kind = 0; s = 0; t = 0; p = 0; q = 0 }
+
+unfoldable pub improvedMove : Improved → Move
+improvedMove (Made chosen before after changed) = chosen
+improvedMove (NoBetter root) = noMove
+improvedMove (Refused number) = noMove
+
+unfoldable pub improvedBefore : Improved → ℕ
+improvedBefore (Made chosen before after changed) = before
+improvedBefore (NoBetter root) = root
+improvedBefore (Refused number) = 0
+
+unfoldable pub improvedAfter : Improved → ℕ
+improvedAfter (Made chosen before after changed) = after
+improvedAfter (NoBetter root) = root
+improvedAfter (Refused number) = 0
+
+unfoldable pub improvedChanged : Improved → ℕ
+improvedChanged (Made chosen before after changed) = changed
+improvedChanged (NoBetter root) = 0
+improvedChanged (Refused number) = 0
+
 -- "14 unknown [..] kinds sum (0, or above 15)": what improve tries after 11.
 unfoldable pub improveGrounds : Plan → List ℕ → ℕ → List ℕ → ℕ → List Ground
 improveGrounds P own masks-length lengths kinds = tableGrounds P own masks-length lengths ++ (14, not (kindsKnown kinds)) ∷ []

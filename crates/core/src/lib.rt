@@ -46,7 +46,7 @@ fn at(w: Totals, p: bool) -> Total
     w.minus
 }
 
-fn flip(p: bool) -> bool
+pub fn flip(p: bool) -> bool
     ensures { λ r. ⌜ r ≡ not p ⌝ }
 {
     !p
@@ -166,7 +166,7 @@ fn negated(b: Totals) -> Totals
 }
 
 // Whether an operator is a literal's.
-fn is_literal(operator: u16) -> bool
+pub fn is_literal(operator: u16) -> bool
     ensures { λ r. ⌜ r ≡ literalCode operator ⌝ }
 {
     if operator < 2 {
@@ -176,14 +176,14 @@ fn is_literal(operator: u16) -> bool
 }
 
 // The two numbers of the record that ends at e.
-fn operator_at(t: &[u16], e: usize) -> u16
+pub fn operator_at(t: &[u16], e: usize) -> u16
     requires { ⌜ (2 ≤ e) × (e ≤ length (now t)) ⌝ }
     ensures { λ r. ⌜ r ≡ getD (now (t .entry)) (e - 1) 0 ⌝ }
 {
     t[e - 1]
 }
 
-fn payload_at(t: &[u16], e: usize) -> u16
+pub fn payload_at(t: &[u16], e: usize) -> u16
     requires { ⌜ (2 ≤ e) × (e ≤ length (now t)) ⌝ }
     ensures { λ r. ⌜ r ≡ getD (now (t .entry)) (e - 2) 0 ⌝ }
 {
@@ -191,7 +191,7 @@ fn payload_at(t: &[u16], e: usize) -> u16
 }
 
 // A payload as a place of the table.
-fn place(x: u16) -> usize
+pub fn place(x: u16) -> usize
     ensures { λ r. ⌜ r ≡ x ⌝ }
 {
     x as usize

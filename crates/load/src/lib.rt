@@ -234,7 +234,7 @@ pub enum Loaded {
 }
 
 // Whether no mask of the first `sets` has a port of `ports` or more.
-fn masks_ok(masks: &[u64], sets: usize, ports: usize) -> bool
+pub fn masks_ok(masks: &[u64], sets: usize, ports: usize) -> bool
     requires { ⌜ (sets ≤ length (now masks)) × (ports ≤ 64) ⌝ }
     ensures { λ r. ⌜ r ≡ allWithin ports (take sets (now (masks .entry))) ⌝ }
 {

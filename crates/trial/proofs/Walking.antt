@@ -45,7 +45,7 @@ unfolding CellsFit
 all-fit cells h j = h j
 
 -- a literal has no children
-no-children : (n : Node) (f : Forest) (l : Literal) → n ≡ lit l → arityRule (kindNumber n) (treeCount f) ≡ true → treeCount f ≡ 0
+pub no-children : (n : Node) (f : Forest) (l : Literal) → n ≡ lit l → arityRule (kindNumber n) (treeCount f) ≡ true → treeCount f ≡ 0
 unfolding arityRule kindNumber
 no-children n f l q h = go l (ap (λ (x : Node). arityRule (kindNumber x) (treeCount f)) (sym q) ∙ h)
   where
@@ -93,17 +93,17 @@ module _ (u sets : ℕ) (c : Changed) (bytes firsts ends uses masks cells : List
     -- what a visited cell says of itself
     module _ (ch : Change) (n : Node) (f s : Forest) (b : ℕ) (e : Tuple) (ready : Ready u sets c firsts ends uses masks cells ch)
         (v : Standing ch i (tree n f s) b d e place digits word) where
-      here : NodeIs bytes firsts ends uses i n f b
+      pub here : NodeIs bytes firsts ends uses i n f b
       here = node-here u sets ch bytes firsts ends uses cells i n f s b d e place digits word v
 
-      fits : NodeFits sets n f d
+      pub fits : NodeFits sets n f d
       fits = fits-here u sets ch bytes firsts ends uses cells i n f s b d e place digits word v
 
       old-here : (old : ℕ) → old ≡ getD cells (getD firsts i 0 + place) 0 → old ≡ cellOf u cells b e
       unfolding cellOf
       old-here old h = h ∙ ap₂ (λ (x y : ℕ). getD cells (x + y) 0) (here .first-is) (v .place-is)
 
-      touched-is : (used : ℕ) (x : Bool) → used ≡ getD uses i 0 → meets used word ≡ x → touched ch n f e ≡ x
+      pub touched-is : (used : ℕ) (x : Bool) → used ≡ getD uses i 0 → meets used word ≡ x → touched ch n f e ≡ x
       touched-is used x h m =
           touched-here u sets ch bytes firsts ends uses cells i n f s b d e place digits word v (ready .masks-settled .sets16) ∙ ap (λ (y : ℕ). meets y word) (sym h) ∙ m
 
@@ -116,17 +116,17 @@ module _ (u sets : ℕ) (c : Changed) (bytes firsts ends uses masks cells : List
           omega (arith, v .place-is, place-lt u (ready .masks-settled .ports1) (v .tuple), width-low u d (ready .masks-settled .ports64) (fits .depth3))
 
       -- the children of a quantifier, and of another inner node
-      ports-here : (used : ℕ) → used ≡ getD uses i 0 → Quantifier n
+      pub ports-here : (used : ℕ) → used ≡ getD uses i 0 → Quantifier n
           → PortsVisit u sets ch bytes firsts ends uses cells (i + 1) f (b + u ^ d) d e (place * u) digits word used
       unfolding Fitting Every
       ports-here used h q =
           let low : suc d ≤ 3 = first-tree f (suc d) sets (q .one (treeCount f) (fits .children)) (subst (λ (x : ℕ). Every (NodeFits sets) f x) (q .deeper d) (v .fitting .1)) in
           rw (add-one i, h) (visit-ports u sets ch bytes firsts ends uses cells i n f s b d e place digits word v (q .deeper d) (q .no-uses) low)
 
-      trees-here : Joint n → Standing ch (i + 1) f (b + u ^ d) d e place digits word
+      pub trees-here : Joint n → Standing ch (i + 1) f (b + u ^ d) d e place digits word
       trees-here q = rw (add-one i) (visit-children u sets ch bytes firsts ends uses cells i n f s b d e place digits word v (q .level d))
 
-      end-here : (end : ℕ) → end ≡ getD ends i 0 → end ≡ i + 1 + nodeCount f
+      pub end-here : (end : ℕ) → end ≡ getD ends i 0 → end ≡ i + 1 + nodeCount f
       end-here end h = h ∙ here .end-is ∙ (let w : i + suc (nodeCount f) ≡ i + 1 + nodeCount f = omega arith in w)
 
       -- a literal's record
@@ -409,7 +409,7 @@ module _ (u sets : ℕ) (c : Changed) (bytes firsts ends uses masks cells : List
       pub late : all ≡ false → c .p ≤ x
 
     module _ (all add : Bool) (al : all ≡ (not add || meets used (restWord word d))) (acc : Sum) (ready : Ports acc) where
-      sums : all ≡ false → (add ≡ true) × (meets used (restWord word d) ≡ false)
+      pub sums : all ≡ false → (add ≡ true) × (meets used (restWord word d) ≡ false)
       sums h = go add refl
         where
           go : (x : Bool) → add ≡ x → (add ≡ true) × (meets used (restWord word d) ≡ false)

@@ -1,8 +1,11 @@
 // Trial: what a move would come to, by a walk over the touched cells that only reads. Paper 01, section One move.
 use hits::Changed;
+use hits::first_word;
 use hits::meet;
 use hits::port_word;
 use hits::rest_word;
+use load::masks_ok;
+use plan::check;
 use steps::After;
 use steps::Sum;
 use steps::adds_of;
@@ -20,10 +23,13 @@ ghost use mathlib.Core.Bool.{true, false, cond, not, _&&_, _||_};
 ghost use Prim.Native.Nat.{ℕ, _+_, _*_, _≤_, _<_};
 ghost use lib.Dec.{leb, ltb};
 ghost use Rattle.hits.specs.Hits.{meets, restWord};
+ghost use Rattle.plan.specs.Check.{Room};
+ghost use Rattle.steps.specs.Root.{RootReady, RootGives};
+ghost use Rattle.trial.specs.Opening.{Opens};
 ghost use Rattle.trial.specs.Walking.{CellReady, CellGives, TreesReady, TreesGive, PortsReady, PortsSo};
 
 // Whether a node of a kind binds a variable.
-fn is_quantifier(kind: u8) -> bool
+pub fn is_quantifier(kind: u8) -> bool
     ensures { λ r. ⌜ r ≡ (leb 1 kind && leb kind 2) ⌝ }
 {
     if 1 <= kind {
@@ -34,7 +40,7 @@ fn is_quantifier(kind: u8) -> bool
 
 // Whether every port below a quantifier must be visited: a minimum reads all of them, and a sum does if more than the ports
 // of the change can be touched.
-fn every_port(add: bool, used: u64, word: u64, depth: usize) -> bool
+pub fn every_port(add: bool, used: u64, word: u64, depth: usize) -> bool
     ensures { λ r. ⌜ r ≡ (not add || meets used (restWord word depth)) ⌝ }
 {
     if add {
@@ -44,7 +50,7 @@ fn every_port(add: bool, used: u64, word: u64, depth: usize) -> bool
 }
 
 // The first port to visit, and the next.
-fn first_port(all: bool, c: Changed) -> usize
+pub fn first_port(all: bool, c: Changed) -> usize
     ensures { λ r. ⌜ r ≡ cond all 0 (c .p) ⌝ }
 {
     if all {
@@ -53,7 +59,7 @@ fn first_port(all: bool, c: Changed) -> usize
     c.p
 }
 
-fn next_port(all: bool, c: Changed, x: usize, ports: usize) -> usize
+pub fn next_port(all: bool, c: Changed, x: usize, ports: usize) -> usize
     requires { ⌜ x < ports ⌝ }
     ensures { λ r. ⌜ r ≡ cond all (x + 1) (cond (ltb x (c .q)) (c .q) ports) ⌝ }
 {
@@ -268,4 +274,86 @@ fn ports_after(
         x = next_port(all, c, x, ports);
     }
     sum
+}
+
+// What the root comes to, under the masks after a change.
+pub fn root_after(
+    table: &[u8],
+    firsts: &[u32],
+    ends: &[u16],
+    uses: &[u64],
+    masks: &[u64],
+    cells: &[u32],
+    ports: usize,
+    sets: usize,
+    c: Changed,
+) -> After
+    requires { ⌜ RootReady ports sets c (now table) (now firsts) (now ends) (now uses) (now masks) (now cells) ⌝ }
+    ensures { λ r. ⌜ RootGives ports c (now (table .entry)) (now (masks .entry)) (now (cells .entry)) r ⌝ }
+{
+    cell_after(
+        table,
+        firsts,
+        ends,
+        uses,
+        masks,
+        cells,
+        ports,
+        sets,
+        c,
+        0,
+        0,
+        0,
+        0,
+        first_word(c),
+    )
+}
+
+// The ports and sets of a plan whose tables may be worked, or the first ground of 11 to 13 that applies.
+pub struct Opened {
+    pub number: u8,
+    pub ports: usize,
+    pub sets: usize,
+}
+
+fn closed(number: u8) -> Opened
+    ensures { λ r. ⌜ r .number ≡ number ⌝ }
+{
+    Opened {
+        number: number,
+        ports: 0,
+        sets: 0,
+    }
+}
+
+// Tries 11 to 13 and fills the index tables; `shortest` is the length of the shortest cell table that is lent.
+pub fn open_tables(
+    table: &[u8],
+    masks: &[u64],
+    shortest: usize,
+    firsts: &mut [u32],
+    ends: &mut [u16],
+    uses: &mut [u64],
+) -> Opened
+    requires { ⌜ Room (now firsts) (now ends) (now uses) ⌝ }
+    ensures { λ r. ⌜ Opens (now (table .entry)) (now (masks .entry)) shortest r (now (firsts .exit)) (now (ends .exit)) (now (uses .exit)) ⌝ }
+{
+    let info = check(table, firsts, ends, uses);
+    if !info.ok {
+        return closed(11);
+    }
+    if masks.len() < info.sets {
+        return closed(12);
+    }
+    if shortest < info.cells {
+        return closed(12);
+    }
+    if !masks_ok(masks, info.sets, info.ports) {
+        return closed(13);
+    }
+    Opened {
+        number: 0,
+        ports: info.ports,
+        sets: info.sets,
+    }
 }

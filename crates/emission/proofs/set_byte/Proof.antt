@@ -1,0 +1,21 @@
+use native.Mathlib.Omega.{arith}
+use Rattle.emission.proofs.Bytes.{set-number-le}
+use borrow.Author.Needs.{needs}
+use Rattle.emission.proofs.set_byte.Statement.{statement}
+use Rattle.emission.proofs.set_byte.Tie as tie
+use Rattle.emission.proofs.set_byte.Reads as reads
+use Rattle.emission.proofs.set_byte.Lts as lts
+use Rattle.core.proofs.set_number.Reads as set-number-reads
+
+set-number-requires : tie.Need-set-number-requires
+set-number-requires c κs = search needs
+
+cast-result : tie.Need-cast-result
+cast-result c =
+    omega (arith, c .set-number .ensures, set-number-le (c .before .before .args .sets .now) (c .before .before .args .s), c .before .before .pre)
+
+returns : tie.Need-returns
+returns c = search needs
+
+pub set-byte-spec : {M : Type 1} → statement M
+set-byte-spec = tie.close (tie.spec set-number-requires cast-result returns)

@@ -1,0 +1,4 @@
+pub mod Read
+pub mod Contract
+pub mod Admitted
+pub mod Texts

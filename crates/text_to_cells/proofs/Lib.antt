@@ -1,0 +1,2 @@
+-- What reading and then loading means.
+pub mod Theorems

@@ -1,0 +1,1 @@
+// From a text to its cells: what reading and then loading means. Theorems only.
