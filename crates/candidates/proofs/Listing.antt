@@ -64,7 +64,7 @@ end-over false x y n h l = omega arith
 in-all : (P : Plan) (m : Move) → Fields (P .ports) (P .sets) m → List·Memᴰ m (allMoves P)
 unfolding allMoves fieldsAre tEnd qEnd
 in-all P m F =
-    in-each 5 _ m (m .kind) (omega (arith, F .kind-high))
+    in-each _ _ m (m .kind) (omega (arith, F .kind-high))
     (in-each (P .sets) _ m (m .s) (F .s-below)
     (in-each (P .sets) _ m (m .t) (end-over (eqb (m .kind) 3) (m .t) (m .s) (P .sets) (F .s-below) (F .t-below))
     (in-each (P .ports) _ m (m .p) (F .p-below)

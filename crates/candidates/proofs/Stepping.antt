@@ -13,7 +13,7 @@ use Rattle.esol.specs.Formula.{Plan}
 use Rattle.esol.specs.Moves.{ofKinds, moveKind, kindWeight}
 use Rattle.calls.specs.ImproveCall.{Candidate}
 use Rattle.candidates.specs.declared.Next.{Next}
-use Rattle.candidates.specs.Candidates.{fieldsAre, place, tEnd, qEnd, Fields, Sized, Position, Begins, BeginsOver, SizedOver, Suits, outset, Follows, NoneLater, NextOr, GivesNext, Steps}
+use Rattle.candidates.specs.Candidates.{fieldsAre, place, tEnd, qEnd, Fields, Sized, Position, Begins, BeginsOver, SizedOver, Suits, Follows, NoneLater, NextOr, GivesNext, Steps}
 use Rattle.candidates.proofs.Known.{suits-candidate, candidate-suits}
 use Rattle.candidates.proofs.Order.{Low, end-low, fields-low, position-low, place-same}
 
@@ -213,10 +213,10 @@ pub place-high : (ports sets : ℕ) (m : Move) → Position ports sets m → pla
 unfolding place
 place-high ports sets m X = omega (arith, position-low ports sets m X, X .kind-high)
 
--- the walk can begin before the first move
-pub outset-begins : (ports sets : ℕ) (masks : List ℕ) → SizedOver ports sets masks → BeginsOver ports sets outset masks
-unfolding outset fieldsAre
-outset-begins ports sets masks Z = record {
+-- the walk can begin before the first move of a kind
+pub zeros-begin : (kind ports sets : ℕ) (masks : List ℕ) → kind < 5 → SizedOver ports sets masks → BeginsOver ports sets (fieldsAre kind 0 0 0 0) masks
+unfolding fieldsAre
+zeros-begin kind ports sets masks h Z = record {
   begins = record {
     position = record {
       sized = Z .sized;
@@ -226,7 +226,7 @@ outset-begins ports sets masks Z = record {
       p-below = Z .sized .ports-low;
       q-below = Z .sized .ports-low;
     };
-    not-past = omega arith;
+    not-past = h;
   };
   masks-enough = Z .masks-enough;
 }

@@ -1,6 +1,7 @@
 use denote.Ref.{now}
+use native.Mathlib.Omega.{arith}
 use Rattle.candidates.specs.Candidates.{outset}
-use Rattle.candidates.proofs.Stepping.{outset-begins}
+use Rattle.candidates.proofs.Stepping.{zeros-begin}
 use borrow.Author.Needs.{needs}
 use Rattle.candidates.proofs.first_candidate.Statement.{statement}
 use Rattle.candidates.proofs.first_candidate.Tie as tie
@@ -13,9 +14,8 @@ at-fields-requires : tie.Need-at-fields-requires
 at-fields-requires c κs = search needs
 
 next-candidate-requires : tie.Need-next-candidate-requires
-unfolding outset
 next-candidate-requires c κs =
-    rw (c .at-fields .ensures) (outset-begins (c .before .before .args .ports) (c .before .before .args .sets) (now (c .before .before .args .masks)) (c .before .before .pre))
+    rw (c .at-fields .ensures) (zeros-begin _ (c .before .before .args .ports) (c .before .before .args .sets) (now (c .before .before .args .masks)) (omega arith) (c .before .before .pre))
 
 returns : tie.Need-returns
 unfolding outset

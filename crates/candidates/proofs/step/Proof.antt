@@ -39,7 +39,7 @@ at-fields-requires-2 c κs = search needs
 returns-2 : tie.Need-returns-2
 unfolding StepsAny
 returns-2 c =
-    λ kinds. rw (c .at-fields2 .ensures) (step-p (c .before .before .before .before .before .before .before .args .ports) (c .before .before .before .before .before .before .before .args .sets) kinds (c .before .before .before .before .before .before .before .args .m) (c .before .before .before .before .before .before .before .pre) (omega (arith, c .before .before .before .before .if1 .left, c .before .before .before .before .before .q-end .ensures)) (c .before .before .if2 .taken))
+    λ kinds. rw (c .at-fields2 .ensures) (step-p (c .before .before .before .before .before .before .before .args .ports) (c .before .before .before .before .before .before .before .args .sets) kinds (c .before .before .before .before .before .before .before .args .m) (c .before .before .before .before .before .before .before .pre) (omega (arith, c .before .before .before .before .if1 .left, c .before .before .before .before .before .q-end .ensures)) (omega (arith, c .before .before .if2 .taken)))
 
 add-if3 : tie.Need-add-if3
 add-if3 c = search needs
@@ -56,7 +56,7 @@ at-fields-requires-3 c κs = search needs
 returns-3 : tie.Need-returns-3
 unfolding StepsAny
 returns-3 c =
-    λ kinds. rw (c .at-fields3 .ensures) (step-t (c .before .before .before .before .before .before .before .before .before .before .args .ports) (c .before .before .before .before .before .before .before .before .before .before .args .sets) kinds (c .before .before .before .before .before .before .before .before .before .before .args .m) (c .before .before .before .before .before .before .before .before .before .before .pre) (omega (arith, c .before .before .before .before .before .before .before .if1 .left, c .before .before .before .before .before .before .before .before .q-end .ensures)) (c .before .before .before .before .before .if2 .left) (omega (arith, c .before .before .if3 .taken, c .before .before .before .t-end .ensures)))
+    λ kinds. rw (c .at-fields3 .ensures) (step-t (c .before .before .before .before .before .before .before .before .before .before .args .ports) (c .before .before .before .before .before .before .before .before .before .before .args .sets) kinds (c .before .before .before .before .before .before .before .before .before .before .args .m) (c .before .before .before .before .before .before .before .before .before .before .pre) (omega (arith, c .before .before .before .before .before .before .before .if1 .left, c .before .before .before .before .before .before .before .before .q-end .ensures)) (omega (arith, c .before .before .before .before .before .if2 .left)) (omega (arith, c .before .before .if3 .taken, c .before .before .before .t-end .ensures)))
 
 add-if4 : tie.Need-add-if4
 add-if4 c = search needs
@@ -70,7 +70,7 @@ at-fields-requires-4 c κs = search needs
 returns-4 : tie.Need-returns-4
 unfolding StepsAny
 returns-4 c =
-    λ kinds. rw (c .at-fields4 .ensures) (step-s (c .before .before .before .before .before .before .before .before .before .before .before .before .args .ports) (c .before .before .before .before .before .before .before .before .before .before .before .before .args .sets) kinds (c .before .before .before .before .before .before .before .before .before .before .before .before .args .m) (c .before .before .before .before .before .before .before .before .before .before .before .before .pre) (omega (arith, c .before .before .before .before .before .before .before .before .before .if1 .left, c .before .before .before .before .before .before .before .before .before .before .q-end .ensures)) (c .before .before .before .before .before .before .before .if2 .left) (omega (arith, c .before .before .before .before .if3 .left, c .before .before .before .before .before .t-end .ensures)) (c .before .before .if4 .taken))
+    λ kinds. rw (c .at-fields4 .ensures) (step-s (c .before .before .before .before .before .before .before .before .before .before .before .before .args .ports) (c .before .before .before .before .before .before .before .before .before .before .before .before .args .sets) kinds (c .before .before .before .before .before .before .before .before .before .before .before .before .args .m) (c .before .before .before .before .before .before .before .before .before .before .before .before .pre) (omega (arith, c .before .before .before .before .before .before .before .before .before .if1 .left, c .before .before .before .before .before .before .before .before .before .before .q-end .ensures)) (omega (arith, c .before .before .before .before .before .before .before .if2 .left)) (omega (arith, c .before .before .before .before .if3 .left, c .before .before .before .before .before .t-end .ensures)) (omega (arith, c .before .before .if4 .taken)))
 
 add-at-fields-5 : tie.Need-add-at-fields-5
 add-at-fields-5 c = search needs
@@ -81,7 +81,7 @@ at-fields-requires-5 c κs = search needs
 returns-5 : tie.Need-returns-5
 unfolding StepsAny
 returns-5 c =
-    λ kinds. rw (c .at-fields5 .ensures) (step-kind (c .before .before .before .before .before .before .before .before .before .before .before .before .args .ports) (c .before .before .before .before .before .before .before .before .before .before .before .before .args .sets) kinds (c .before .before .before .before .before .before .before .before .before .before .before .before .args .m) (c .before .before .before .before .before .before .before .before .before .before .before .before .pre) (omega (arith, c .before .before .before .before .before .before .before .before .before .if1 .left, c .before .before .before .before .before .before .before .before .before .before .q-end .ensures)) (c .before .before .before .before .before .before .before .if2 .left) (omega (arith, c .before .before .before .before .if3 .left, c .before .before .before .before .before .t-end .ensures)) (c .before .before .if4 .left))
+    λ kinds. rw (c .at-fields5 .ensures) (step-kind (c .before .before .before .before .before .before .before .before .before .before .before .before .args .ports) (c .before .before .before .before .before .before .before .before .before .before .before .before .args .sets) kinds (c .before .before .before .before .before .before .before .before .before .before .before .before .args .m) (c .before .before .before .before .before .before .before .before .before .before .before .before .pre) (omega (arith, c .before .before .before .before .before .before .before .before .before .if1 .left, c .before .before .before .before .before .before .before .before .before .before .q-end .ensures)) (omega (arith, c .before .before .before .before .before .before .before .if2 .left)) (omega (arith, c .before .before .before .before .if3 .left, c .before .before .before .before .before .t-end .ensures)) (omega (arith, c .before .before .if4 .left)))
 
 pub step-spec : {M : Type 1} → statement M
 step-spec =
