@@ -13,7 +13,7 @@ use Rattle.esol.proofs.Lists.{or-left, or-right, and-left, and-right, and-true}
 use Rattle.syntax.specs.Tree.{Quantifier, forall, exists, Tree, leaf, neg, par, bind, join}
 use Rattle.core.specs.Names.{among, setNumber, variableNumber, misdeclared, misnamedLiteral, misnamed, ground5, highLiteral, ground6, fourth, ground7}
 use Rattle.core.specs.Core.{Above, alone, inside, jointNode, Part, joint, two, quantifierNode, memberAt, literalAt, place, coreOf}
-use Rattle.plan.specs.Rules.{everyNode, treeCount, arityRule, maySit, nestingRule, depthRule, literalRule, innerRule, nodeRule, formulaRule}
+use Rattle.plan.specs.Rules.{everyNode, treeCount, arityRule, mayNest, nestingRule, depthRule, literalRule, innerRule, nodeRule, formulaRule}
 use Rattle.core.proofs.Decided.{joined}
 use Rattle.core.proofs.SameTruth.{variable-below}
 
@@ -34,7 +34,7 @@ apart true false d h = refl
 apart false c d h = refl
 
 free : (above : ℕ) (f : Forest) → above ≤ 2 → nestingRule above f ≡ true
-unfolding nestingRule maySit
+unfolding nestingRule mayNest
 free above none h = refl
 free above (tree n c s) h = and-true _ _ (apart (eqb above (kindNumber n)) (leb 3 above) _ (lt-leb 3 above (omega arith))) (free above s h)
 
@@ -51,7 +51,7 @@ module _ (n : ℕ) where
         → nestingRule (kindNumber (jointNode j)) (F (inside j) s) ≡ true
 
   tree-fits : (m : Node) (c : Forest) (d : ℕ) → nodeRule n m c d ≡ true → everyNode (nodeRule n) c (childDepth m d) ≡ true
-      → ((j : Bool) → maySit (kindNumber (jointNode j)) (kindNumber m) ≡ true) → Fits (λ above s. tree m c s) d
+      → ((j : Bool) → mayNest (kindNumber (jointNode j)) (kindNumber m) ≡ true) → Fits (λ above s. tree m c s) d
   unfolding everyNode treeCount nestingRule
   tree-fits m c d h i u = record {
     every = λ above s g. and-true _ _ (and-true _ _ h i) g;
@@ -95,7 +95,7 @@ module _ (n : ℕ) where
 
     joint-unlike : (j : Bool) (c : Forest → Forest) → Row j c d → (i : Bool) (s : Forest) → nestingRule (kindNumber (jointNode i)) s ≡ true
         → nestingRule (kindNumber (jointNode i)) (joint j c (inside i) s) ≡ true
-    unfolding joint nestingRule maySit kindNumber jointNode
+    unfolding joint nestingRule mayNest kindNumber jointNode
     joint-unlike true c R true s h = R .unlike s h
     joint-unlike false c R true s h = h
     joint-unlike true c R false s h = h
@@ -120,8 +120,8 @@ module _ (n : ℕ) where
         lone : (s : Forest) → treeCount (joint j (λ r. F (inside j) (G (inside j) r)) alone s) ≡ suc (treeCount s)
         lone s = unfold joint treeCount in refl
 
-literal-may : (l : Literal) (j : Bool) → maySit (kindNumber (jointNode j)) (kindNumber (lit l)) ≡ true
-unfolding maySit kindNumber jointNode
+literal-may : (l : Literal) (j : Bool) → mayNest (kindNumber (jointNode j)) (kindNumber (lit l)) ≡ true
+unfolding mayNest kindNumber jointNode
 literal-may (isin v S) true = refl
 literal-may (isin v S) false = refl
 literal-may (notin v S) true = refl
@@ -131,8 +131,8 @@ literal-may (port r v w) false = refl
 literal-may (size r S c) true = refl
 literal-may (size r S c) false = refl
 
-quantifier-may : (q : Quantifier) (j : Bool) → maySit (kindNumber (jointNode j)) (kindNumber (quantifierNode true q)) ≡ true
-unfolding maySit kindNumber jointNode quantifierNode
+quantifier-may : (q : Quantifier) (j : Bool) → mayNest (kindNumber (jointNode j)) (kindNumber (quantifierNode true q)) ≡ true
+unfolding mayNest kindNumber jointNode quantifierNode
 quantifier-may forall true = refl
 quantifier-may forall false = refl
 quantifier-may exists true = refl

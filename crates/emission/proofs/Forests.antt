@@ -7,8 +7,9 @@ use native.Mathlib.Omega.{arith}
 use native.Mathlib.Numerals.{add-one}
 use lib.ListN.{length}
 use Rattle.esol.specs.Formula.{Node, Forest, none, tree, kindNumber, nodeCount}
-use Rattle.plan.specs.Bytes.{recordLength, wordBytes, relationByte, aByte, bByte, recordOf, records}
-use Rattle.plan.proofs.Encoding.{length-record, length-records}
+use Rattle.plan.specs.Bytes.{recordLength, wordBytes, relationByte, aByte, bByte, recordOf, recordBytes, records}
+use Rattle.plan.proofs.Bytes.{length-record}
+use Rattle.plan.proofs.Encoding.{length-records}
 use Rattle.core.proofs.Siblings.{append}
 use Rattle.emission.specs.declared.Fields.{Fields}
 use Rattle.emission.specs.Fields.{Shows, fieldBytes}
@@ -32,7 +33,7 @@ records-append (tree n c r) s i p =
     ∙ ap (λ (l : List ℕ). recordOf n p end ++ l) (append-assoc (records c (suc i) i) (records r end p) _))
 
 pub shown : (f : Fields) (n : Node) (parent end : ℕ) → Shows f n → fieldBytes f parent end ≡ recordOf n parent end
-unfolding fieldBytes recordOf
+unfolding fieldBytes recordOf recordBytes
 shown f n parent end s = λ i. s .kind-is i ∷ s .relation-is i ∷ s .a-is i ∷ s .b-is i ∷ (wordBytes parent ++ wordBytes end)
 
 fewer : (i m n x : ℕ) → recordLength * n ≤ x → m ≤ n → recordLength * m ≤ x

@@ -11,7 +11,8 @@ use Rattle.esol.specs.Formula.{root, Forest, none, tree, kindNumber, nodeCount}
 use Rattle.syntax.specs.Tree.{Tree}
 use Rattle.core.specs.Core.{alone, place, coreOf, planOf}
 use Rattle.plan.specs.Bytes.{headerLength, recordLength, wordBytes, relationByte, aByte, bByte, recordOf, records, header, encoding}
-use Rattle.plan.proofs.Encoding.{length-header, length-records}
+use Rattle.plan.proofs.Bytes.{length-header}
+use Rattle.plan.proofs.Encoding.{length-records}
 use Rattle.emission.specs.declared.Fields.{Fields}
 use Rattle.emission.specs.Fields.{fieldBytes, letters, boundLetters}
 use Rattle.emission.specs.Written.{Written, Recorded, Records}

@@ -44,10 +44,10 @@ pub load-few-cells : (bytes masks xs : List ℕ) (P : Plan) → decode bytes ≡
 unfolding loadGrounds refusal
 load-few-cells bytes masks xs P d h l = load-refused bytes masks xs P 11 d (rw (le-ltb (length masks) (ownMasks P) h, lt-ltb (length xs) (ownCells P) l))
 
-pub load-stray : (bytes masks xs : List ℕ) (P : Plan) → decode bytes ≡ sound P → ownMasks P ≤ length masks → ownCells P ≤ length xs
+pub load-not-within : (bytes masks xs : List ℕ) (P : Plan) → decode bytes ≡ sound P → ownMasks P ≤ length masks → ownCells P ≤ length xs
     → allWithin (P .ports) (take (ownMasks P) masks) ≡ false → _≡_ {A = Loaded × List ℕ} (Refused 13, xs) (loads (decode bytes) masks xs)
 unfolding loadGrounds refusal
-load-stray bytes masks xs P d h l s =
+load-not-within bytes masks xs P d h l s =
     load-refused bytes masks xs P 12 d (rw (le-ltb (length masks) (ownMasks P) h, le-ltb (length xs) (ownCells P) l, s))
 
 -- no ground applies

@@ -1,9 +1,9 @@
 -- Filling the cells of some trees, from what the leaf functions and the two recursive calls leave. Assumes nothing.
-use mathlib.Core.Path.{_≡_, refl, sym, ap, ap₂, _∙_}
+use mathlib.Core.Path.{_≡_, refl, sym, ap, ap₂, _∙_, subst}
 use mathlib.Core.Bool.{true}
 use mathlib.Core.List.{List, [], _∷_, _++_, append-assoc, append-nil}
 use Prim.Native.Nat.{ℕ, suc, _+_, _-_, _*_, _^_, _≤_, _<_}
-use native.Mathlib.Nat.{le-trans, add-zero, mul-le-mul-right, mul-left-comm, pow-suc}
+use native.Mathlib.Nat.{le-trans, add-zero, suc-add, mul-le-mul-right, mul-left-comm, pow-suc}
 use native.Mathlib.Numerals.{add-one}
 use native.Mathlib.Omega.{arith}
 use lib.Dec.{ltb}
@@ -21,9 +21,11 @@ use Rattle.esol.proofs.Bound.{spread, spread-pos, subtreeCells, subtree-count, 
 use Rattle.plan.specs.Rules.{everyNode, nodeRule, innerRule, literalRule, depthRule, treeCount, arityRule}
 use Rattle.plan.specs.Check.{fieldRule, kindDepth, kindWidth}
 use Rattle.plan.specs.Decode.{forestOf}
-use Rattle.plan.proofs.Encoding.{forest-of-records, length-records, kind-of-record, relation-of-record, a-of-record, b-of-record, end-of-record, node-of-record, children-part, siblings-part}
+use Rattle.plan.proofs.Parts.{siblingsOf, rest-all, length-rest-all, one-fits, some-record, length-children, end-below, children-below, siblings-below, span-within}
+use Rattle.plan.proofs.Bytes.{record-pos, kind-of-record, relation-of-record, a-of-record, b-of-record, end-of-record}
+use Rattle.plan.proofs.Encoding.{forest-of-records, length-records, node-of-record, children-part, siblings-part}
 use Rattle.plan.proofs.Fields.{node-fields, kind-depth, kind-depth-le, kind-width}
-use Rattle.plan.proofs.Judging.{every-node, width-low}
+use Rattle.plan.proofs.Judging.{kidsOf, restOf, every-node, width-low}
 use borrow.Author.Tests.{leb-true}
 use Rattle.load.specs.Joined.{joinAll, merged}
 use Rattle.load.specs.Fill.{joinOf, spreadOf, startCell, treewise, config, table, StartPlaced, started, FillPlaced, Filled, Fills}
@@ -74,7 +76,7 @@ one-forest l f g i p q a b =
 
 -- no records: nothing is written
 pub fill-none : (l : List ℕ) (i above ports depth over at : ℕ) (masks cells : List ℕ) → length l < recordLength → Fills l i above ports depth over at masks cells cells at
-unfolding Fills records cellCount treewise joinAll table layout recordLength nodeCount
+unfolding Fills records cellCount treewise joinAll table layout nodeCount
 fill-none l i above ports depth over at masks cells h n outer none up kn dn on is = record {
   ends-at = sym (add-zero at);
   cells-are = λ A G X R e lA lG lX.
@@ -86,7 +88,7 @@ fill-none l i above ports depth over at masks cells h n outer none up kn dn on i
     no-length [] q = refl
     no-length (x ∷ X) q = absurd (omega arith)
 fill-none l i above ports depth over at masks cells h n outer (tree m c s) up kn dn on is =
-    absurd (omega (arith, ap length is, length-records (tree m c s) i up))
+    absurd (omega (arith, some-record recordLength record-pos (length l) (nodeCount c + nodeCount s) (ap length is ∙ length-records (tree m c s) i up ∙ ap (λ (x : ℕ). recordLength * x) (suc-add (nodeCount c) (nodeCount s)))))
 
 -- What a placed part that is not empty begins with.
 pub record FillOpened (l : List ℕ) (i up depth sets : ℕ) (m : Node) (c s : Forest) (e : ℕ) : Type 0 where
@@ -99,8 +101,8 @@ pub record FillOpened (l : List ℕ) (i up depth sets : ℕ) (m : Node) (c s : F
   pub arity : arityRule (kindNumber m) (treeCount c) ≡ true
   pub rules-kids : everyNode (nodeRule sets) c (childDepth m depth) ≡ true
   pub rules-rest : everyNode (nodeRule sets) s depth ≡ true
-  pub kids : take (recordLength * (e - i) - recordLength) (drop recordLength l) ≡ records c (i + 1) i
-  pub rest : drop (recordLength * (e - i)) l ≡ records s e up
+  pub kids : kidsOf l i e ≡ records c (i + 1) i
+  pub rest : siblingsOf recordLength (e - i) l ≡ records s e up
   pub long : length l ≡ recordLength * nodeCount (tree m c s)
 
 pub fill-opened : (l : List ℕ) (i up depth sets e : ℕ) (m : Node) (c s : Forest) → l ≡ records (tree m c s) i up
@@ -124,9 +126,9 @@ fill-opened l i up depth sets e m c s is rules en =
       arity = r .2;
       rules-kids = r .4;
       rules-rest = r .5;
-      kids = ap₂ (λ (x : ℕ) (y : List ℕ). take (recordLength * (x - i) - recordLength) (drop recordLength y)) q is ∙ children-part m c s i up
+      kids = ap₂ (λ (x : ℕ) (y : List ℕ). kidsOf y i x) q is ∙ children-part m c s i up
           ∙ ap (λ (x : ℕ). records c x i) (sym (add-one i));
-      rest = ap₂ (λ (x : ℕ) (y : List ℕ). drop (recordLength * (x - i)) y) q is ∙ siblings-part m c s i up ∙ ap (λ (x : ℕ). records s x up) (sym q);
+      rest = ap₂ (λ (x : ℕ) (y : List ℕ). siblingsOf recordLength (x - i) y) q is ∙ siblings-part m c s i up ∙ ap (λ (x : ℕ). records s x up) (sym q);
       long = ap length is ∙ length-records (tree m c s) i up;
     }
 
@@ -340,48 +342,52 @@ module _ (l : List ℕ) (i up above ports sets depth width over at outer : ℕ) 
     }
 
 not-none : (l : List ℕ) (i up : ℕ) → l ≡ records none i up → recordLength ≤ length l → ⊥
-unfolding records recordLength
-not-none l i up q h = omega (arith, ap length q)
+unfolding records
+not-none l i up q h = omega (arith, ap length q, record-pos)
 
--- The same over the calls' own contracts.
+-- The same over the calls' own contracts and the fields as the code reads them.
 pub fill-tree : (l : List ℕ) (i above ports sets depth width over at : ℕ) (masks xs : List ℕ) → FillPlaced l i above ports sets depth width over at masks xs
-    → (e : ℕ) → e ≡ endField l → (below′ nn r : ℕ) → below′ ≡ kindDepth (kindField l) depth → (ys₁ zs₁ xs₃ xs₄ : List ℕ) → recordLength ≤ length l
-    → ys₁ ≡ started (kindField l) (relationField l) (aField l) (bField l) ports depth width masks (lent at xs)
-    → Fills (take (recordLength * (e - i) - recordLength) (drop recordLength l)) (i + 1) (kindField l) ports below′ width width masks (lent at (back at xs ys₁)) zs₁ nn
+    → (e : ℕ) → e ≡ endField l
+    → (kind relation a b : ℕ) → kind ≡ kindField l → relation ≡ relationField l → a ≡ aField l → b ≡ bField l
+    → (below′ nn r : ℕ) → below′ ≡ kindDepth kind depth → (ys₁ zs₁ xs₃ xs₄ : List ℕ) → recordLength ≤ length l
+    → ys₁ ≡ started kind relation a b ports depth width masks (lent at xs)
+    → Fills (kidsOf l i e) (i + 1) kind ports below′ width width masks (lent at (back at xs ys₁)) zs₁ nn
     → xs₃ ≡ merged (joinOf above) over (spreadOf above ports) at (back at (back at xs ys₁) zs₁)
-    → Fills (take (length l - recordLength * (e - i)) (drop (recordLength * (e - i)) l)) e above ports depth over (at + nn) masks xs₃ xs₄ r
+    → Fills (restOf l i e) e above ports depth over (at + nn) masks xs₃ xs₄ r
     → Fills l i above ports depth over at masks xs xs₄ r
 unfolding Fills
-fill-tree l i above ports sets depth width over at masks xs p e en below′ nn r bd ys₁ zs₁ xs₃ xs₄ long st kids mg rest n outer f up kn dn on is =
+fill-tree l i above ports sets depth width over at masks xs p e en kind relation a b ki ri ai bi below′ nn r bd ys₁ zs₁ xs₃ xs₄ long st kids mg rest n outer f up kn dn on is =
     go f is (one-forest l (p .forest) f i (p .up) up (p .is) is)
   where
     go : (f : Forest) → l ≡ records f i up → p .forest ≡ f → Filled above ports depth over at outer n f masks xs xs₄ r
     go none q g = absurd (not-none l i up q long)
     go (tree m c s) q g =
         let o = fill-opened l i up depth sets e m c s q (ap (λ (x : Forest). everyNode (nodeRule sets) x depth) (sym g) ∙ p .rules) en in
-        let b = bd ∙ sym (o .below) in
+        let below-is = bd ∙ ap (λ (x : ℕ). kindDepth x depth) ki ∙ sym (o .below) in
+        let started-is = st ∙ (λ j. started (ki j) (ri j) (ai j) (bi j) ports depth width masks (lent at xs)) in
+        let filled = kids m depth c i (sym (ki ∙ o .kind)) below-is (p .width-is) (o .kids) in
         tree-filled l i up above ports sets depth width over at outer masks xs n m c s e o (p .ports1) (p .ports64)
-        (rw g at (p .few)) kn dn on (p .width-is) below′ nn r b ys₁ zs₁ xs₃ xs₄ st
-        (kids m depth c i (sym (o .kind)) b (p .width-is) (o .kids)) mg
-        (rest n outer s up kn dn on (take-all (length l - recordLength * (e - i)) (drop (recordLength * (e - i)) l) (rw length-drop (omega arith)) ∙ o .rest))
+        (rw g at (p .few)) kn dn on (p .width-is) below′ nn r below-is ys₁ zs₁ xs₃ xs₄ started-is
+        (subst (λ (x : ℕ). Filled x ports below′ width width depth m c masks (lent at (back at xs ys₁)) zs₁ nn) ki filled) mg
+        (rest n outer s up kn dn on (rest-all (recordLength * (e - i)) l ∙ o .rest))
 
 -- What the code needs before each call.
-pub record FillFacts (l : List ℕ) (i above ports sets depth width over at : ℕ) (masks xs : List ℕ) (e : ℕ) : Type 0 where
+pub record FillFacts (l : List ℕ) (i above ports sets depth width over at : ℕ) (masks xs : List ℕ) (e kind relation a b : ℕ) : Type 0 where
   pub after : i < e
   pub few : e ≤ 512
   pub within : recordLength * (e - i) ≤ length l
-  pub kids-shorter : length (take (recordLength * (e - i) - recordLength) (drop recordLength l)) < length l
-  pub rest-shorter : length (take (length l - recordLength * (e - i)) (drop (recordLength * (e - i)) l)) < length l
+  pub kids-shorter : length (kidsOf l i e) < length l
+  pub rest-shorter : length (restOf l i e) < length l
   pub depth3 : depth ≤ 3
   pub width-low : width ≤ 262144
-  pub start : StartPlaced (kindField l) (relationField l) (aField l) (bField l) sets ports depth width masks (lent at xs)
-  pub kids : (ys : List ℕ) → length ys ≡ length (lent at xs) → (below wider : ℕ) → below ≡ kindDepth (kindField l) depth → wider ≡ kindWidth (kindField l) width ports
-      → FillPlaced (take (recordLength * (e - i) - recordLength) (drop recordLength l)) (i + 1) (kindField l) ports sets below wider width width masks (lent at (back at xs ys))
+  pub start : StartPlaced kind relation a b sets ports depth width masks (lent at xs)
+  pub kids : (ys : List ℕ) → length ys ≡ length (lent at xs) → (below wider : ℕ) → below ≡ kindDepth kind depth → wider ≡ kindWidth kind width ports
+      → FillPlaced (kidsOf l i e) (i + 1) kind ports sets below wider width width masks (lent at (back at xs ys))
   pub merging : at + over * spreadOf above ports ≤ length xs
-  pub rest : (nn below : ℕ) → below ≡ kindDepth (kindField l) depth → ((m : Node) (outer : ℕ) (c : Forest) (up : ℕ) → kindNumber m ≡ kindField l → below ≡ childDepth m outer → width ≡ ports ^ outer
-      → take (recordLength * (e - i) - recordLength) (drop recordLength l) ≡ records c (i + 1) up → nn ≡ width + cellCount ports c below)
+  pub rest : (nn below : ℕ) → below ≡ kindDepth kind depth → ((m : Node) (outer : ℕ) (c : Forest) (up : ℕ) → kindNumber m ≡ kind → below ≡ childDepth m outer → width ≡ ports ^ outer
+      → kidsOf l i e ≡ records c (i + 1) up → nn ≡ width + cellCount ports c below)
       → (ws : List ℕ) → length ws ≡ length xs
-      → (at + nn ≤ length xs) × FillPlaced (take (length l - recordLength * (e - i)) (drop (recordLength * (e - i)) l)) e above ports sets depth width over (at + nn) masks ws
+      → (at + nn ≤ length xs) × FillPlaced (restOf l i e) e above ports sets depth width over (at + nn) masks ws
 
 spread-width : (n : Node) (ports outer : ℕ) → ports ^ outer * spreadOf (kindNumber n) ports ≡ ports ^ childDepth n outer
 unfolding spreadOf kindNumber childDepth
@@ -396,11 +402,13 @@ spread-width (lit (port r v w)) ports outer = omega arith
 spread-width (lit (size r S c)) ports outer = omega arith
 
 pub fill-facts : (l : List ℕ) (i above ports sets depth width over at : ℕ) (masks xs : List ℕ) → FillPlaced l i above ports sets depth width over at masks xs
-    → recordLength ≤ length l → (e : ℕ) → e ≡ endField l → FillFacts l i above ports sets depth width over at masks xs e
-unfolding recordLength cellCount nodeCount
-fill-facts l i above ports sets depth width over at masks xs p long e en = go (p .forest) refl
+    → recordLength ≤ length l → (e : ℕ) → e ≡ endField l
+    → (kind relation a b : ℕ) → kind ≡ kindField l → relation ≡ relationField l → a ≡ aField l → b ≡ bField l
+    → FillFacts l i above ports sets depth width over at masks xs e kind relation a b
+unfolding cellCount nodeCount
+fill-facts l i above ports sets depth width over at masks xs p long e en kind relation a b ki ri ai bi = rw (ki, ri, ai, bi) (go (p .forest) refl)
   where
-    go : (f : Forest) → p .forest ≡ f → FillFacts l i above ports sets depth width over at masks xs e
+    go : (f : Forest) → p .forest ≡ f → FillFacts l i above ports sets depth width over at masks xs e (kindField l) (relationField l) (aField l) (bField l)
     go none q = absurd (not-none l i (p .up) (p .is ∙ ap (λ (x : Forest). records x i (p .up)) q) long)
     go (tree m c s) q =
         let is = p .is ∙ ap (λ (x : Forest). records x i (p .up)) q in
@@ -409,17 +417,20 @@ fill-facts l i above ports sets depth width over at masks xs p long e en = go (p
         let few : cellCount ports (tree m c s) 0 ≤ 1048576 = rw q at (p .few) in
         let parts = few-parts ports m c s (p .ports1) few in
         let w = p .width-is in
-        let ln : length l ≡ 8 * (suc (nodeCount c) + nodeCount s) = o .long in
         let en′ = o .end-is in
-        let nodes = p .nodes in
+        let after : i < e = omega arith in
+        let within : recordLength * (e - i) ≤ length l = omega (arith, o .long, span-within recordLength record-pos (e - i) (nodeCount (tree m c s)) (omega arith)) in
+        let span : recordLength ≤ recordLength * (e - i) = one-fits recordLength record-pos (e - i) (omega arith) in
+        let lk = length-children recordLength record-pos (e - i) l within in
+        let lr = length-rest-all (recordLength * (e - i)) l in
         let lx : length (lent at xs) ≡ length xs - at = length-take-le (length xs - at) (drop at xs) (rw (length-drop at xs) (omega arith)) in
         let wl : width ≤ 262144 = rw w (width-low ports depth (p .ports1) (p .ports64) (o .depth3)) in
         record {
-          after = omega arith;
-          few = omega arith;
-          within = omega arith;
-          kids-shorter = omega (arith, ap length (o .kids), length-records c (i + 1) i);
-          rest-shorter = omega (arith, length-take-le (length l - 8 * (e - i)) (drop (8 * (e - i)) l) (rw length-drop (omega arith)));
+          after = after;
+          few = end-below recordLength record-pos i e (length l) 512 after within (p .nodes);
+          within = within;
+          kids-shorter = omega (arith, record-pos);
+          rest-shorter = omega (arith, record-pos);
           depth3 = o .depth3;
           width-low = wl;
           start = record {
@@ -430,7 +441,7 @@ fill-facts l i above ports sets depth width over at masks xs p long e en = go (p
             width-is = w;
             room = omega arith;
             sets-masks = p .sets-masks;
-            stray = p .stray;
+            within = p .within;
           };
           kids = λ ys ly below wider bd wd.
               let lb = back-length at xs ys (omega arith) ly in
@@ -449,12 +460,12 @@ fill-facts l i above ports sets depth width over at masks xs p long e en = go (p
                 is = o .kids;
                 rules = ap (everyNode (nodeRule sets) c) b ∙ o .rules-kids;
                 few = parts .1;
-                nodes = omega (arith, ap length (o .kids), length-records c (i + 1) i);
+                nodes = rw lk (children-below recordLength record-pos i e (length l) 512 after within (p .nodes));
                 ports1 = p .ports1;
                 ports64 = p .ports64;
                 depth4 = omega (arith, kind-depth-le (kindField l) depth, o .depth3);
                 sets-masks = p .sets-masks;
-                stray = p .stray;
+                within = p .within;
                 after = omega arith;
                 room = omega (arith, lz, ap (cellCount ports c) b);
               };
@@ -473,15 +484,15 @@ fill-facts l i above ports sets depth width over at masks xs p long e en = go (p
                   depth-is = p .depth-is;
                   over-is = p .over-is;
                   width-is = w;
-                  is = take-all (length l - 8 * (e - i)) (drop (8 * (e - i)) l) (rw length-drop (omega arith)) ∙ o .rest;
+                  is = rest-all (recordLength * (e - i)) l ∙ o .rest;
                   rules = o .rules-rest;
                   few = parts .2;
-                  nodes = omega (arith, length-take-le (length l - 8 * (e - i)) (drop (8 * (e - i)) l) (rw length-drop (omega arith)));
+                  nodes = rw lr (siblings-below recordLength record-pos i e (length l) 512 after within (p .nodes));
                   ports1 = p .ports1;
                   ports64 = p .ports64;
                   depth4 = p .depth4;
                   sets-masks = p .sets-masks;
-                  stray = p .stray;
+                  within = p .within;
                   after = omega (arith, p .after);
                   room = omega arith;
                 },

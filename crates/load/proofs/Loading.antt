@@ -3,24 +3,26 @@ use mathlib.Core.Path.{_≡_, refl, sym, ap, ap₂, _∙_, subst}
 use mathlib.Core.Bool.{Bool, true, false, false≢true}
 use mathlib.Core.List.{List, [], _∷_, _++_, append-nil}
 use Prim.Native.Nat.{ℕ, zero, suc, _+_, _-_, _*_, _≤_, _<_}
-use native.Mathlib.Nat.{pow-zero}
+use native.Mathlib.Nat.{mul-one, mul-suc, pow-zero}
 use native.Mathlib.Numerals.{add-one}
 use native.Mathlib.Omega.{arith}
-use lib.ListN.{length, getD, take, drop, length-append, length-drop, take-append-drop}
-use lib.Seq.{take-suc, take-at, getD-take, length-take-le, drop-drop}
+use lib.ListN.{length, getD, take, drop, length-drop, take-append-drop}
+use lib.Seq.{take-suc, getD-take, length-take-le, drop-drop}
 use Rattle.esol.specs.Formula.{root, Forest, none, tree, Plan, kindNumber, nodeCount, childDepth}
 use Rattle.esol.specs.Configuration.{Configuration, ownMasks, spelled, withinPorts}
 use Rattle.esol.specs.Penalty.{penalty}
 use Rattle.esol.specs.Cells.{cellCount, tupleAt, tabulate, layout, ownCells, cells}
 use borrow.Author.Tests.{eq-eqb}
 use Rattle.esol.proofs.Lists.{and-left, and-right, and-true}
-use Rattle.plan.specs.Bytes.{headerLength, recordLength, wordBytes, relationByte, aByte, bByte, recordOf, records, header, encoding}
+use Rattle.plan.specs.Bytes.{headerLength, recordLength, records, encoding}
 use Rattle.plan.specs.Rules.{treeCount, arityRule}
 use Rattle.plan.specs.Decode.{sound, decode}
+use Rattle.plan.proofs.Parts.{span-within}
+use Rattle.plan.proofs.Bytes.{record-pos}
 use Rattle.plan.proofs.Encoding.{length-records, decode-sound, one-plan}
-use Rattle.plan.proofs.Whole.{RootedIs, is-rooted, rooted-is}
+use Rattle.plan.proofs.Whole.{belowRoot, rooted, RootedIs, rooted-nodes, rooted-cells, rooted-long, rooted-below, is-rooted, rooted-is}
 use Rattle.load.specs.Joined.{unitOf, joinAll}
-use Rattle.load.specs.Fill.{joinOf, startCell, treewise, config, table, NoStray, FillPlaced, Fills, FillsPlan}
+use Rattle.load.specs.Fill.{joinOf, startCell, treewise, config, table, FillPlaced, Fills, FillsPlan}
 use Rattle.load.specs.Load.{allWithin}
 use Rattle.load.proofs.Values.{own-cell, table-tree}
 use Rattle.load.proofs.Filling.{low-below}
@@ -37,35 +39,20 @@ within-next u s ms l h k =
     ap (λ (j : ℕ). allWithin u (take j ms)) (add-one s) ∙ ap (allWithin u) (take-suc ms s 0 l)
     ∙ within-append u (take s ms) (getD ms s 0 ∷ []) h (and-true _ _ k refl)
 
-pub within-each : (u n : ℕ) (ms : List ℕ) → n ≤ length ms → allWithin u (take n ms) ≡ true → NoStray u n ms
-unfolding NoStray allWithin
-within-each u zero ms l h S q = absurd (omega arith)
-within-each u (suc n) [] l h S q = absurd (omega arith)
-within-each u (suc n) (m ∷ ms) l h zero q = and-left (withinPorts u m) _ h
-within-each u (suc n) (m ∷ ms) l h (suc S) q = within-each u n ms (omega arith) (and-right (withinPorts u m) _ h) S (omega arith)
+pub within-at : (u : ℕ) (ms : List ℕ) → allWithin u ms ≡ true → (S : ℕ) → S < length ms → withinPorts u (getD ms S 0) ≡ true
+unfolding allWithin
+within-at u [] h S q = absurd (omega arith)
+within-at u (m ∷ ms) h zero q = and-left (withinPorts u m) _ h
+within-at u (m ∷ ms) h (suc S) q = within-at u ms (and-right (withinPorts u m) _ h) S (omega arith)
 
 pub within-fails : (u s n : ℕ) (ms : List ℕ) → s < n → n ≤ length ms → withinPorts u (getD ms s 0) ≡ false → false ≡ allWithin u (take n ms)
 within-fails u s n ms h l k = go (allWithin u (take n ms)) refl
   where
     go : (b : Bool) → allWithin u (take n ms) ≡ b → false ≡ b
     go false e = refl
-    go true e = absurd (false≢true (sym k ∙ unfold NoStray in within-each u n ms l e s h))
-
--- the records below the root
-abbrev rooted : ℕ → ℕ → Forest → Plan
-rooted u n c = record { ports = u; sets = n; formula = tree root c none }
-
-below-bytes : (u n : ℕ) (c : Forest) (rest : List ℕ) → drop 17 (encoding (rooted u n c) ++ rest) ≡ records c 1 0 ++ [] ++ rest
-unfolding encoding header wordBytes records recordOf kindNumber relationByte aByte bByte
-below-bytes u n c rest = refl
-
-rooted-count : (c : Forest) → nodeCount (tree root c none) ≡ suc (nodeCount c)
-unfolding nodeCount
-rooted-count c = omega arith
-
-rooted-total : (u n : ℕ) (c : Forest) → ownCells (rooted u n c) ≡ suc (cellCount u c 0)
-unfolding ownCells cellCount childDepth
-rooted-total u n c = omega (arith, pow-zero u)
+    go true e =
+        let w = within-at u (take n ms) e s (omega (arith, length-take-le n ms l)) in
+        absurd (false≢true (sym k ∙ ap (withinPorts u) (sym (getD-take n ms s 0 h)) ∙ w))
 
 own-zero : (u n : ℕ) (c : Forest) → ownCells (rooted u n c) ≡ cellCount u (tree root c none) 0
 unfolding ownCells
@@ -83,38 +70,30 @@ pub record Ready (bytes : List ℕ) (P : Plan) (nodes : ℕ) : Type 0 where
   pub count : nodes ≡ suc (nodeCount below)
   pub total : ownCells P ≡ suc (cellCount (P .ports) below 0)
   pub long : headerLength + recordLength * nodes ≤ length bytes
-  pub part : take (headerLength + recordLength * nodes - (headerLength + recordLength)) (drop (headerLength + recordLength) bytes) ≡ records below 1 0
+  pub part : belowRoot bytes nodes ≡ records below 1 0
 
 pub ready : (bytes : List ℕ) (P : Plan) (nodes : ℕ) → decode bytes ≡ sound P → nodes ≡ nodeCount (P .formula) → Ready bytes P nodes
-unfolding headerLength recordLength
 ready bytes P nodes d k =
     let t = decode-sound bytes P d in
     let r = is-rooted P (t .rules) in
     let c = r .0 in
     let e : bytes ≡ encoding (rooted (P .ports) (P .sets) c) ++ t .rest = t .is ∙ ap (λ (Q : Plan). encoding Q ++ t .rest) (r .1) in
-    let kk : nodes ≡ suc (nodeCount c) = k ∙ ap (λ (Q : Plan). nodeCount (Q .formula)) (r .1) ∙ rooted-count c in
-    let tail : drop 17 bytes ≡ records c 1 0 ++ [] ++ t .rest = ap (drop 17) e ∙ below-bytes (P .ports) (P .sets) c (t .rest) in
-    let own : length (records c 1 0 ++ []) ≡ 8 * nodeCount c = ap length (append-nil (records c 1 0)) ∙ length-records c 1 0 in
+    let kk : nodes ≡ suc (nodeCount c) = k ∙ ap (λ (Q : Plan). nodeCount (Q .formula)) (r .1) ∙ rooted-nodes c in
     record {
       below = c;
       is-root = r .1;
       facts = rooted-is P (t .rules);
       count = kk;
-      total = ap ownCells (r .1) ∙ rooted-total (P .ports) (P .sets) c;
-      long = omega (arith, ap length tail, length-drop 17 bytes, length-append (records c 1 0 ++ []) (t .rest), rooted-is P (t .rules) .nodes2);
-      part = ap (take (9 + 8 * nodes - 17)) tail
-          ∙ take-at (records c 1 0 ++ []) (t .rest) (9 + 8 * nodes - 17) (own ∙ (let q : 8 * nodeCount c ≡ 9 + 8 * nodes - 17 = omega arith in q)) ∙ append-nil (records c 1 0);
+      total = ap ownCells (r .1) ∙ rooted-cells (P .ports) (P .sets) c;
+      long = omega (arith, ap (λ (x : ℕ). recordLength * x) kk, ap length e, rooted-long (P .ports) (P .sets) c (t .rest));
+      part = ap₂ belowRoot e kk ∙ rooted-below (P .ports) (P .sets) c (t .rest);
     }
 
-stray-own : (u n : ℕ) (ms : List ℕ) → NoStray u n ms → NoStray u n (take n ms)
-unfolding NoStray
-stray-own u n ms h S q = ap (withinPorts u) (getD-take n ms S 0 q) ∙ h S q
-
-pub placed-plan : (bytes : List ℕ) (P : Plan) (nodes : ℕ) (masks xs : List ℕ) → Ready bytes P nodes → P .sets ≤ length masks → NoStray (P .ports) (P .sets) masks
+pub placed-plan : (bytes : List ℕ) (P : Plan) (nodes : ℕ) (masks xs : List ℕ) → Ready bytes P nodes → P .sets ≤ length masks → allWithin (P .ports) (take (P .sets) masks) ≡ true
     → ownCells P ≤ length xs
-    → FillPlaced (take (headerLength + recordLength * nodes - (headerLength + recordLength)) (drop (headerLength + recordLength) bytes)) 1 0 (P .ports) (P .sets) 0 1 1 1
+    → FillPlaced (belowRoot bytes nodes) 1 0 (P .ports) (P .sets) 0 1 1 1
     (take (P .sets) masks) xs
-unfolding headerLength recordLength kindNumber childDepth
+unfolding kindNumber childDepth
 placed-plan bytes P nodes masks xs r m st l =
     let f = r .facts in
     record {
@@ -129,12 +108,19 @@ placed-plan bytes P nodes masks xs r m st l =
       is = r .part;
       rules = f .rules;
       few = omega (arith, f .few);
-      nodes = omega (arith, ap length (r .part), length-records (r .below) 1 0, f .nodes512);
+      nodes = omega (
+        arith,
+        ap length (r .part),
+        length-records (r .below) 1 0,
+        mul-one recordLength,
+        mul-suc recordLength (nodeCount (r .below)),
+        span-within recordLength record-pos (suc (nodeCount (r .below))) 512 (f .nodes512),
+      );
       ports1 = f .ports1;
       ports64 = f .ports64;
       depth4 = omega arith;
       sets-masks = omega (arith, length-take-le (P .sets) masks m);
-      stray = stray-own (P .ports) (P .sets) masks st;
+      within = st;
       after = omega arith;
       room = omega (arith, r .total);
     }
@@ -151,7 +137,7 @@ root-own : (P : Plan) (own : List ℕ) (c : Forest) → RootedIs (P .ports) (P .
 unfolding kindNumber startCell joinOf arityRule childDepth
 root-own P own c f =
     own-cell (P .ports) (config (P .ports) own) root c [] (f .ports1) (eq-eqb (treeCount c) 1 (f .one))
-    (low-below (P .ports) (P .sets) own root c none 0 [] (f .ports1) (f .ports64) (f .rules) (omega (arith, rooted-total (P .ports) (P .sets) c, own-zero (P .ports) (P .sets) c, f .few)))
+    (low-below (P .ports) (P .sets) own root c none 0 [] (f .ports1) (f .ports64) (f .rules) (omega (arith, rooted-cells (P .ports) (P .sets) c, own-zero (P .ports) (P .sets) c, f .few)))
 
 root-first : (P : Plan) (own : List ℕ) (c : Forest) → RootedIs (P .ports) (P .sets) c
     → joinAll (joinOf 0) (getD (unitOf 1 ∷ []) 0 0) (treewise (P .ports) (config (P .ports) own) root c (tupleAt (P .ports) 0 0))
@@ -172,7 +158,7 @@ plan-table P own c e =
 
 pub plan-filled : (bytes : List ℕ) (P : Plan) (nodes r : ℕ) (masks xs ys zs : List ℕ) → decode bytes ≡ sound P → Ready bytes P nodes → ownCells P ≤ length xs
     → ys ≡ tabulate 1 (λ _. unitOf 1) ++ drop 1 xs
-    → Fills (take (headerLength + recordLength * nodes - (headerLength + recordLength)) (drop (headerLength + recordLength) bytes)) 1 0 (P .ports) 0 1 1 (take (P .sets) masks) ys zs r
+    → Fills (belowRoot bytes nodes) 1 0 (P .ports) 0 1 1 (take (P .sets) masks) ys zs r
     → FillsPlan bytes masks xs zs
 unfolding Fills FillsPlan ownMasks kindNumber childDepth
 plan-filled bytes P nodes r masks xs ys zs d rd l ye fl Q dq = subst (λ (R : Plan). zs ≡ cells R (spelled R (take (R .sets) masks)) ++ drop (ownCells R) xs) one whole

@@ -2,11 +2,11 @@
 use mathlib.Core.Path.{_≡_}
 use mathlib.Core.Bool.{true, cond, _&&_}
 use mathlib.Core.List.{List, [], _∷_, _++_}
-use Prim.Native.Nat.{ℕ, _+_, _-_, _*_, _%_, _^_, _≤_, _<_}
+use Prim.Native.Nat.{ℕ, _+_, _-_, _*_, _%_, _^_, _≤_}
 use lib.Dec.{leb, ltb}
 use lib.ListN.{length, getD, take, drop}
 use Rattle.esol.specs.Formula.{Node, root, all, any, and, or, lit, Forest, none, tree, Plan, kindNumber, nodeCount, childDepth}
-use Rattle.esol.specs.Configuration.{Configuration, configuration, inMasks, ownMasks, spelled, withinPorts}
+use Rattle.esol.specs.Configuration.{Configuration, configuration, inMasks, ownMasks, spelled}
 use Rattle.esol.specs.Truth.{Tuple}
 use Rattle.esol.specs.Penalty.{literalPenalty, below, penalty}
 use Rattle.esol.specs.Cells.{cellCount, tupleAt, tabulate, layout, ownCells, cells as planCells}
@@ -15,6 +15,7 @@ use Rattle.plan.specs.Rules.{everyNode, nodeRule}
 use Rattle.plan.specs.Decode.{sound, decode}
 use Rattle.plan.specs.Check.{fieldRule}
 use Rattle.load.specs.Joined.{unitOf, joinAll}
+use Rattle.load.specs.Load.{allWithin}
 
 -- For all and "and" add (kinds 1 and 3), the others take the minimum; below a quantifier stands a cell for each port.
 unfoldable pub joinOf : ℕ → ℕ
@@ -44,10 +45,6 @@ config u masks = configuration u (inMasks masks)
 unfoldable pub table : ℕ → Configuration → Forest → ℕ → List ℕ
 table u k f d = layout u (λ n c b i e. penalty u k n c e) f 0 d
 
--- Every mask of a set is within the ports.
-unfoldable pub NoStray : ℕ → ℕ → List ℕ → Type 0
-NoStray ports sets masks = (S : ℕ) → S < sets → withinPorts ports (getD masks S 0) ≡ true
-
 -- A record's own cells are begun.
 pub record StartPlaced (kind relation a b sets ports depth width : ℕ) (masks cells : List ℕ) : Type 0 where
   pub fields : fieldRule sets depth kind relation a b ≡ true
@@ -57,7 +54,7 @@ pub record StartPlaced (kind relation a b sets ports depth width : ℕ) (masks c
   pub width-is : width ≡ ports ^ depth
   pub room : width ≤ length cells
   pub sets-masks : sets ≤ length masks
-  pub stray : NoStray ports sets masks
+  pub within : allWithin ports masks ≡ true
 
 unfoldable pub started : ℕ → ℕ → ℕ → ℕ → ℕ → ℕ → ℕ → List ℕ → List ℕ → List ℕ
 started kind relation a b ports depth width masks cells =
@@ -82,7 +79,7 @@ pub record FillPlaced (l : List ℕ) (i above ports sets depth width over at : �
   pub ports64 : ports ≤ 64
   pub depth4 : depth ≤ 4
   pub sets-masks : sets ≤ length masks
-  pub stray : NoStray ports sets masks
+  pub within : allWithin ports masks ≡ true
   pub after : over ≤ at
   pub room : at + cellCount ports forest depth ≤ length cells
 
@@ -107,7 +104,7 @@ pub record FillReady (bytes : List ℕ) (ports sets nodes : ℕ) (masks cells : 
   pub sets-are : sets ≡ plan .sets
   pub nodes-are : nodes ≡ nodeCount (plan .formula)
   pub own-masks : sets ≤ length masks
-  pub stray : NoStray ports sets masks
+  pub within : allWithin ports (take sets masks) ≡ true
   pub own-cells : ownCells plan ≤ length cells
 
 -- Every cell is Definition 5's penalty under the plan's own masks, and the rest is as it was.

@@ -3,15 +3,19 @@ use esol::within_ports;
 use literals::put_literal;
 use plan::HEADER;
 use plan::RECORD;
+use plan::a_of;
+use plan::b_of;
 use plan::check;
 use plan::child_depth;
 use plan::child_width;
 use plan::end_of;
+use plan::kind_of;
+use plan::relation_of;
 use std::num::wrapping_add_u32;
 ghost use mathlib.Core.Path.{_≡_};
 ghost use mathlib.Core.List.{_++_};
 ghost use Prim.Native.Nat.{ℕ, _+_, _*_, _≤_, _<_};
-ghost use lib.ListN.{length, getD, take, drop};
+ghost use lib.ListN.{length, take, drop};
 ghost use Rattle.esol.specs.Cells.{tabulate};
 ghost use Rattle.load.specs.Joined.{meet, unitOf, joinAll, merged};
 ghost use Rattle.load.specs.Fill.{joinOf, spreadOf, StartPlaced, started, FillPlaced, Fills, FillReady, FillsPlan, boundAt};
@@ -157,12 +161,12 @@ fn fill_forest(
     }
     let end = end_of(part);
     let span = RECORD * (end - i);
-    let kind = part[0];
+    let kind = kind_of(part);
     start_cells(
         kind,
-        part[1],
-        part[2],
-        part[3],
+        relation_of(part),
+        a_of(part),
+        b_of(part),
         sets,
         ports,
         depth,
@@ -230,7 +234,7 @@ pub enum Loaded {
 }
 
 // Whether no mask of the first `sets` has a port of `ports` or more.
-fn masks_ok(masks: &[u64], sets: usize, ports: usize) -> bool
+pub fn masks_ok(masks: &[u64], sets: usize, ports: usize) -> bool
     requires { ⌜ (sets ≤ length (now masks)) × (ports ≤ 64) ⌝ }
     ensures { λ r. ⌜ r ≡ allWithin ports (take sets (now (masks .entry))) ⌝ }
 {

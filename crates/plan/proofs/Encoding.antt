@@ -4,7 +4,8 @@ use mathlib.Core.Path.{_≡_, refl, sym, ap, ap₂, _∙_}
 use mathlib.Core.Logic.{_↔_}
 use mathlib.Core.Bool.{Bool, true, false, cond, _&&_, false≢true}
 use mathlib.Core.List.{List, [], _∷_, _++_, append-assoc}
-use Prim.Native.Nat.{ℕ, zero, suc, _+_, _-_, _*_, _/_, _%_, _≤_}
+use Prim.Native.Nat.{ℕ, zero, suc, _+_, _-_, _*_, _≤_}
+use native.Mathlib.Nat.{mul-zero}
 use native.Mathlib.Omega.{arith}
 use lib.Dec.{eqb}
 use lib.ListN.{length, take, drop, length-append}
@@ -13,9 +14,11 @@ use borrow.Author.Tests.{eqb-true, eq-eqb}
 use Rattle.esol.specs.Formula.{Relation, isin, notin, port, size, Node, root, all, any, and, or, lit, Forest, none, tree, Plan, kindNumber, nodeCount}
 use Rattle.esol.proofs.Lists.{and-left, and-right, and-true}
 use Rattle.esol.proofs.Relations.{relation-of-number}
-use Rattle.plan.specs.Bytes.{headerLength, recordLength, word, wordBytes, kindField, relationField, aField, bField, endField, relationByte, aByte, bByte, nodeOf, recordOf, records, header, encoding}
+use Rattle.plan.specs.Bytes.{headerLength, recordLength, kindField, relationField, aField, bField, endField, relationByte, aByte, bByte, nodeOf, recordOf, records, header, encoding}
 use Rattle.plan.specs.Rules.{planRule}
 use Rattle.plan.specs.Decode.{TableOf, forestOf, candidate, begins, Decoded, broken, sound, decode}
+use Rattle.plan.proofs.Parts.{childrenOf, siblingsOf, span-tree, span-children, span-forest}
+use Rattle.plan.proofs.Bytes.{record-pos, length-record, kind-of-record, relation-of-record, a-of-record, b-of-record, end-of-record, length-header, ports-of-header, sets-of-header, nodes-of-header}
 
 -- a node's bytes name it
 pub node-of-bytes : (n : Node) → nodeOf (kindNumber n) (relationByte n) (aByte n) (bByte n) ≡ n
@@ -30,57 +33,21 @@ node-of-bytes (lit (notin v S)) = refl
 node-of-bytes (lit (port r v w)) = ap (λ (x : Relation). lit (port x v w)) (relation-of-number r)
 node-of-bytes (lit (size r S c)) = ap (λ (x : Relation). lit (size x S c)) (relation-of-number r)
 
-pub word-of-bytes : (x : ℕ) → word (x % 256) (x / 256) ≡ x
-unfolding word
-word-of-bytes x = omega arith
-
--- the record that a part begins with
-module _ (n : Node) (p e : ℕ) (t : List ℕ) where
-  pub kind-of-record : kindField (recordOf n p e ++ t) ≡ kindNumber n
-  unfolding kindField recordOf
-  kind-of-record = refl
-
-  pub relation-of-record : relationField (recordOf n p e ++ t) ≡ relationByte n
-  unfolding relationField recordOf
-  relation-of-record = refl
-
-  pub a-of-record : aField (recordOf n p e ++ t) ≡ aByte n
-  unfolding aField recordOf
-  a-of-record = refl
-
-  pub b-of-record : bField (recordOf n p e ++ t) ≡ bByte n
-  unfolding bField recordOf
-  b-of-record = refl
-
-  pub end-of-record : endField (recordOf n p e ++ t) ≡ e
-  unfolding endField recordOf wordBytes
-  end-of-record = word-of-bytes e
-
-  pub node-of-record : (let l = recordOf n p e ++ t in nodeOf (kindField l) (relationField l) (aField l) (bField l)) ≡ n
-  unfolding kindField relationField aField bField recordOf
-  node-of-record = node-of-bytes n
-
-pub length-record : (n : Node) (p e : ℕ) → length (recordOf n p e) ≡ recordLength
-unfolding recordOf wordBytes recordLength
-length-record n p e = refl
+-- and so does the record that a part begins with
+pub node-of-record : (n : Node) (p e : ℕ) (t : List ℕ)
+    → (let l = recordOf n p e ++ t in nodeOf (kindField l) (relationField l) (aField l) (bField l)) ≡ n
+node-of-record n p e t =
+    (λ i. nodeOf (kind-of-record n p e t i) (relation-of-record n p e t i) (a-of-record n p e t i) (b-of-record n p e t i)) ∙ node-of-bytes n
 
 pub length-records : (f : Forest) (i p : ℕ) → length (records f i p) ≡ recordLength * nodeCount f
-unfolding records nodeCount recordLength
-length-records none i p = refl
+unfolding records nodeCount
+length-records none i p = sym (mul-zero recordLength)
 length-records (tree n c s) i p =
     let e = i + suc (nodeCount c) in
     length-append (recordOf n p e) (records c (suc i) i ++ records s e p)
     ∙ ap₂ _+_ (length-record n p e)
     (length-append (records c (suc i) i) (records s e p) ∙ ap₂ _+_ (length-records c (suc i) i) (length-records s e p))
-    ∙ omega arith
-
-span-children : (m i : ℕ) → recordLength * m ≡ recordLength * (i + suc m - i) - recordLength
-unfolding recordLength
-span-children m i = omega arith
-
-span-tree : (m i : ℕ) → recordLength + recordLength * m ≡ recordLength * (i + suc m - i)
-unfolding recordLength
-span-tree m i = omega arith
+    ∙ span-forest recordLength record-pos (nodeCount c) (nodeCount s)
 
 -- the parts of the records of a tree and its siblings
 module _ (n : Node) (c s : Forest) (i p : ℕ) where
@@ -90,32 +57,42 @@ module _ (n : Node) (c s : Forest) (i p : ℕ) where
   abbrev whole : List ℕ
   whole = recordOf n p end ++ (records c (suc i) i ++ records s end p)
 
-  pub children-part : take (recordLength * (end - i) - recordLength) (drop recordLength whole) ≡ records c (suc i) i
+  pub children-part : childrenOf recordLength (end - i) whole ≡ records c (suc i) i
   children-part =
       ap (take (recordLength * (end - i) - recordLength))
       (drop-at (recordOf n p end) (records c (suc i) i ++ records s end p) recordLength (length-record n p end))
       ∙ take-at (records c (suc i) i) (records s end p) (recordLength * (end - i) - recordLength)
-      (length-records c (suc i) i ∙ span-children (nodeCount c) i)
+      (length-records c (suc i) i ∙ span-children recordLength record-pos i (nodeCount c))
 
-  pub siblings-part : drop (recordLength * (end - i)) whole ≡ records s end p
+  pub siblings-part : siblingsOf recordLength (end - i) whole ≡ records s end p
   siblings-part =
       ap (drop (recordLength * (end - i))) (sym (append-assoc (recordOf n p end) (records c (suc i) i) (records s end p)))
       ∙ drop-at (recordOf n p end ++ records c (suc i) i) (records s end p) (recordLength * (end - i))
       (length-append (recordOf n p end) (records c (suc i) i)
-      ∙ ap₂ _+_ (length-record n p end) (length-records c (suc i) i) ∙ span-tree (nodeCount c) i)
+      ∙ ap₂ _+_ (length-record n p end) (length-records c (suc i) i) ∙ span-tree recordLength record-pos i (nodeCount c))
+
+-- a part that holds a record spells the tree that begins there
+forest-of-part : (m : ℕ) (l : List ℕ) (i : ℕ) → recordLength ≤ length l
+    → forestOf (suc m) l i
+    ≡ tree (nodeOf (kindField l) (relationField l) (aField l) (bField l))
+    (forestOf m (childrenOf recordLength (endField l - i) l) (suc i))
+    (forestOf m (siblingsOf recordLength (endField l - i) l) (endField l))
+unfolding forestOf
+forest-of-part m [] i h = absurd (omega (arith, record-pos))
+forest-of-part m (x ∷ xs) i h = refl
 
 -- records spell their forest
 forest-step : (m : ℕ) (n : Node) (c s : Forest) (i p : ℕ) → (let e = i + suc (nodeCount c) in
     forestOf (suc m) (recordOf n p e ++ (records c (suc i) i ++ records s e p)) i
     ≡ tree n (forestOf m (records c (suc i) i) (suc i)) (forestOf m (records s e p) e))
-unfolding forestOf recordOf
 forest-step m n c s i p =
     let e = i + suc (nodeCount c) in
     let t = records c (suc i) i ++ records s e p in
     let l = recordOf n p e ++ t in
     let parts : ℕ → Forest × Forest = λ x.
-    (forestOf m (take (recordLength * (x - i) - recordLength) (drop recordLength l)) (suc i), forestOf m (drop (recordLength * (x - i)) l) x) in
-    ap₂ (λ (x : Node) (y : Forest × Forest). tree x (y .0) (y .1)) (node-of-record n p e t)
+    (forestOf m (childrenOf recordLength (x - i) l) (suc i), forestOf m (siblingsOf recordLength (x - i) l) x) in
+    forest-of-part m l i (omega (arith, length-append (recordOf n p e) t, length-record n p e))
+    ∙ ap₂ (λ (x : Node) (y : Forest × Forest). tree x (y .0) (y .1)) (node-of-record n p e t)
     (ap parts (end-of-record n p e t)
     ∙ ap₂ (λ (x y : List ℕ). (forestOf m x (suc i), forestOf m y e)) (children-part n c s i p) (siblings-part n c s i p))
 
@@ -140,34 +117,42 @@ begins-true (x ∷ xs) [] h = absurd (false≢true h)
 begins-true (x ∷ xs) (y ∷ ys) h =
     ap₂ _∷_ (sym (eqb-true x y (and-left (eqb x y) _ h))) (begins-true xs ys (and-right (eqb x y) _ h))
 
-pub length-header : (u n k : ℕ) → length (header u n k) ≡ headerLength
-unfolding header wordBytes headerLength
-length-header u n k = refl
-
 -- the bytes of a plan spell it, whatever follows
 pub candidate-of : (P : Plan) (rest : List ℕ) → candidate (encoding P ++ rest) ≡ P
-unfolding candidate encoding header wordBytes
-candidate-of P rest = λ i. record { ports = P .ports; sets = P .sets; formula = spelled i }
+unfolding candidate encoding
+candidate-of P rest =
+    ap candidate (append-assoc front all-records rest)
+    ∙ (λ i. record { ports = ports-of-header u n k t i; sets = sets-of-header u n k t i; formula = formula-of (nodes-of-header u n k t i) })
+    ∙ (λ i. record { ports = u; sets = n; formula = spelled i })
   where
+    u : ℕ
+    u = P .ports
+
+    n : ℕ
+    n = P .sets
+
     k : ℕ
     k = nodeCount (P .formula)
 
     all-records : List ℕ
     all-records = records (P .formula) 0 65535
 
-    bytes : List ℕ
-    bytes = header (P .ports) (P .sets) k ++ all-records ++ rest
+    front : List ℕ
+    front = header u n k
 
-    own : take (recordLength * k) (drop headerLength bytes) ≡ all-records
+    t : List ℕ
+    t = all-records ++ rest
+
+    formula-of : ℕ → Forest
+    formula-of x = forestOf x (take (recordLength * x) (drop headerLength (front ++ t))) 0
+
+    own : take (recordLength * k) (drop headerLength (front ++ t)) ≡ all-records
     own =
-        ap (λ (l : List ℕ). take (recordLength * k) (drop headerLength l)) (append-assoc (header (P .ports) (P .sets) k) all-records rest)
-        ∙ ap (take (recordLength * k)) (drop-at (header (P .ports) (P .sets) k) (all-records ++ rest) headerLength (length-header (P .ports) (P .sets) k))
+        ap (take (recordLength * k)) (drop-at front t headerLength (length-header u n k))
         ∙ take-at all-records rest (recordLength * k) (length-records (P .formula) 0 65535)
 
-    spelled : forestOf (word (k % 256) (k / 256)) (take (recordLength * word (k % 256) (k / 256)) (drop headerLength bytes)) 0 ≡ P .formula
-    spelled =
-        ap (λ (x : ℕ). forestOf x (take (recordLength * x) (drop headerLength bytes)) 0) (word-of-bytes k)
-        ∙ ap (λ (l : List ℕ). forestOf k l 0) own ∙ forest-of-records k (P .formula) 0 65535 (omega arith)
+    spelled : formula-of k ≡ P .formula
+    spelled = ap (λ (l : List ℕ). forestOf k l 0) own ∙ forest-of-records k (P .formula) 0 65535 (omega arith)
 
 -- A table that passes is the encoding of exactly one plan, and the table of a plan passes.
 pub decode-complete : (bytes : List ℕ) (P : Plan) → TableOf bytes P → decode bytes ≡ sound P

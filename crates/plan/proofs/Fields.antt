@@ -1,25 +1,20 @@
--- A record's fields: the end, and what the rules of a node's bytes say of the node. Assumes nothing.
+-- A record's fields: what the rules of a node's bytes say of the node. Assumes nothing.
 use mathlib.Core.Path.{_≡_, refl, sym, ap, _∙_}
 use mathlib.Core.Bool.{Bool, true, false, cond, _&&_, false≢true}
-use mathlib.Core.List.{List}
-use Prim.Native.Nat.{ℕ, zero, suc, _+_, _*_, _^_, _≤_, _<_}
+use Prim.Native.Nat.{ℕ, zero, suc, _+_, _*_, _^_, _≤_}
 use native.Mathlib.Omega.{arith}
 use lib.Dec.{eqb, leb, ltb}
-use lib.ListN.{getD}
 use native.Mathlib.Numerals.{add-one}
 use native.Mathlib.Nat.{pow-suc}
 use borrow.Author.Tests.{eqb-true, ne-eqb, leb-true, le-leb, lt-leb, ltb-true}
-use Rattle.esol.specs.Formula.{isin, notin, port, size, Node, root, all, any, and, or, lit, relationNumber, relationOf, kindNumber, childDepth}
+use Rattle.esol.specs.Formula.{Relation, isin, notin, port, size, Node, root, all, any, and, or, lit, relationNumber, relationOf, kindNumber, childDepth}
 use Rattle.esol.proofs.Lists.{and-left, and-right, and-true}
 use Rattle.esol.proofs.Relations.{relation-number-le}
-use Rattle.plan.specs.Bytes.{word, endField, relationByte, aByte, bByte, nodeOf}
+use Rattle.plan.specs.Bytes.{relationByte, aByte, bByte, nodeOf}
 use Rattle.plan.specs.Rules.{literalRule, innerRule}
 use Rattle.plan.specs.Index.{nodeUses}
-use Rattle.plan.specs.Check.{fieldRule, kindDepth, kindWidth, kindUses, UsesFit, EndIs}
-
-pub end-is : (l : List ℕ) (x y : ℕ) → x ≡ getD l 6 0 → x < 256 → y ≡ getD l 7 0 → y < 256 → EndIs l (x + 256 * y)
-unfolding endField word
-end-is l x y a b c d = record { is = omega arith; fits = omega arith; low = omega arith; high = omega arith }
+use Rattle.plan.specs.Check.{fieldRule, kindDepth, kindWidth, kindUses, UsesFit}
+use Rattle.plan.proofs.Conjunctions.{two-true, three-true, all-three}
 
 -- the number of a relation that a number names
 number-of-relation : (r : ℕ) → r ≤ 5 → relationNumber (relationOf r) ≡ r
@@ -40,14 +35,11 @@ pub record NodeIs (sets d kind r a b : ℕ) (n : Node) : Type 0 where
   pub b-is : bByte n ≡ b
   pub inner : innerRule sets n d ≡ true
 
-pair-true : (a b c : Bool) → (a && b && c) ≡ true → (a ≡ true) × (b ≡ true) × (c ≡ true)
-pair-true a b c h = let x = and-left (a && b) c h in (and-left a b x, and-right a b x, and-right (a && b) c h)
-
 -- a node that uses no field
 plain : (sets d kind r a b : ℕ) (n : Node) → kindNumber n ≡ kind → relationByte n ≡ 0 → aByte n ≡ 0 → bByte n ≡ 0 → innerRule sets n d ≡ true
     → (eqb r 0 && eqb a 0 && eqb b 0) ≡ true → NodeIs sets d kind r a b n
 plain sets d kind r a b n k x y z i h =
-    let t = pair-true (eqb r 0) (eqb a 0) (eqb b 0) h in
+    let t = three-true (eqb r 0) (eqb a 0) (eqb b 0) h in
     record {
       kind-is = k;
       relation-is = x ∙ sym (eqb-true r 0 (t .0));
@@ -69,22 +61,25 @@ fields-node sets d (suc (suc zero)) r a b h = plain sets d 2 r a b any refl refl
 fields-node sets d (suc (suc (suc zero))) r a b h = plain sets d 3 r a b and refl refl refl refl refl h
 fields-node sets d (suc (suc (suc (suc zero)))) r a b h = plain sets d 4 r a b or refl refl refl refl refl h
 fields-node sets d (suc (suc (suc (suc (suc zero))))) r a b h =
-    let t = pair-true (eqb r 0) (ltb a d) (ltb b sets) h in
+    let t = three-true (eqb r 0) (ltb a d) (ltb b sets) h in
     record { kind-is = refl; relation-is = sym (eqb-true r 0 (t .0)); a-is = refl; b-is = refl; inner = and-true _ _ (t .1) (t .2) }
 fields-node sets d (suc (suc (suc (suc (suc (suc zero)))))) r a b h =
-    let t = pair-true (eqb r 0) (ltb a d) (ltb b sets) h in
+    let t = three-true (eqb r 0) (ltb a d) (ltb b sets) h in
     record { kind-is = refl; relation-is = sym (eqb-true r 0 (t .0)); a-is = refl; b-is = refl; inner = and-true _ _ (t .1) (t .2) }
 fields-node sets d (suc (suc (suc (suc (suc (suc (suc zero))))))) r a b h =
-    let t = pair-true (leb r 5) (ltb a d) (ltb b d) h in
+    let t = three-true (leb r 5) (ltb a d) (ltb b d) h in
     record { kind-is = refl; relation-is = number-of-relation r (leb-true r 5 (t .0)); a-is = refl; b-is = refl; inner = and-true _ _ (t .1) (t .2) }
 fields-node sets d (suc (suc (suc (suc (suc (suc (suc (suc zero)))))))) r a b h =
-    let t = pair-true (leb r 5) (ltb a sets) (leb b 64) h in
+    let t = three-true (leb r 5) (ltb a sets) (leb b 64) h in
     record { kind-is = refl; relation-is = number-of-relation r (leb-true r 5 (t .0)); a-is = refl; b-is = refl; inner = and-true _ _ (t .1) (t .2) }
 fields-node sets d (suc (suc (suc (suc (suc (suc (suc (suc (suc k))))))))) r a b h =
     absurd (false≢true (sym (fields-high sets d (suc (suc (suc (suc (suc (suc (suc (suc (suc k))))))))) r a b (omega arith)) ∙ h))
 
-three-true : (a b c : Bool) → a ≡ true → (b && c) ≡ true → (a && b && c) ≡ true
-three-true a b c x y = and-true (a && b) c (and-true a b x (and-left b c y)) (and-right b c y)
+-- a relation's number is in range
+relation-low : (r : Relation) (a b : Bool) → (a && b) ≡ true → (leb (relationNumber r) 5 && a && b) ≡ true
+relation-low r a b h =
+    let t = two-true a b h in
+    all-three (leb (relationNumber r) 5) a b (le-leb (relationNumber r) 5 (relation-number-le r)) (t .0) (t .1)
 
 pub node-fields : (sets d : ℕ) (n : Node) → innerRule sets n d ≡ true
     → fieldRule sets d (kindNumber n) (relationByte n) (aByte n) (bByte n) ≡ true
@@ -96,8 +91,8 @@ node-fields sets d and h = refl
 node-fields sets d or h = refl
 node-fields sets d (lit (isin v S)) h = h
 node-fields sets d (lit (notin v S)) h = h
-node-fields sets d (lit (port r v w)) h = three-true _ _ _ (le-leb (relationNumber r) 5 (relation-number-le r)) h
-node-fields sets d (lit (size r S c)) h = three-true _ _ _ (le-leb (relationNumber r) 5 (relation-number-le r)) h
+node-fields sets d (lit (port r v w)) h = relation-low r _ _ h
+node-fields sets d (lit (size r S c)) h = relation-low r _ _ h
 
 -- a node's children and uses, by its kind
 pub kind-depth : (sets d : ℕ) (n : Node) → innerRule sets n d ≡ true → childDepth n d ≡ kindDepth (kindNumber n) d

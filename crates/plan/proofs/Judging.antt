@@ -2,26 +2,36 @@
 use mathlib.Core.Path.{_≡_, refl, sym, ap, ap₂, _∙_, subst}
 use mathlib.Core.Bool.{Bool, true, false, _&&_, false≢true, true≢false}
 use mathlib.Core.List.{List, [], _∷_, _++_, append-assoc}
-use Prim.Native.Nat.{ℕ, zero, suc, _+_, _-_, _*_, _/_, _%_, _^_, _≤_, _<_}
+use Prim.Native.Nat.{ℕ, zero, suc, _+_, _-_, _*_, _^_, _≤_, _<_}
 use native.Mathlib.Nat.{le-trans, pow-le-pow-left, pow-le-pow-right, add-zero, zero-add, suc-add}
 use native.Mathlib.Numerals.{add-one}
 use native.Mathlib.Omega.{arith}
 use lib.Bits.{bitOr}
 use lib.Dec.{eqb}
-use lib.ListN.{length, getD, take, drop, set, length-append, length-take, length-drop, take-append-drop}
-use lib.Seq.{take-all, take-append-seam, drop-append-add, drop-drop, drop-cons, length-take-le}
+use lib.ListN.{length, take, drop, set, length-append, length-take, length-drop, take-append-drop}
+use lib.Seq.{take-append-seam, drop-append-add, drop-drop}
 use borrow.Author.Tests.{eqb-true, eq-eqb, leb-true}
 use Rattle.esol.specs.Formula.{Node, Forest, none, tree, kindNumber, nodeCount, childDepth}
 use Rattle.esol.specs.Cells.{cellCount, siblingFirst}
-use Rattle.esol.proofs.Lists.{and-left, and-right, and-true}
+use Rattle.esol.proofs.Lists.{and-true}
 use Rattle.plan.specs.declared.Checked.{Checked}
-use Rattle.plan.specs.Bytes.{recordLength, wordBytes, kindField, relationField, aField, bField, endField, nodeOf, recordOf, records}
-use Rattle.plan.specs.Rules.{everyNode, treeCount, arityRule, maySit, nestingRule, depthRule, innerRule, nodeRule}
+use Rattle.plan.specs.Bytes.{recordLength, kindField, relationField, aField, bField, parentField, endField, nodeOf, recordOf, records}
+use Rattle.plan.specs.Rules.{everyNode, treeCount, arityRule, mayNest, nestingRule, depthRule, innerRule, nodeRule}
 use Rattle.plan.specs.Index.{firstCells, ends, nodeUses, forestUses, usesTable}
 use Rattle.plan.specs.Decode.{forestOf}
-use Rattle.plan.specs.Check.{fieldRule, recordRule, EndIs, kindDepth, kindWidth, kindUses, laid, Placed, Sound, Indexed, Judged}
-use Rattle.plan.proofs.Encoding.{length-records, end-of-record, children-part, siblings-part, forest-of-records}
+use Rattle.plan.specs.Check.{fieldRule, recordRule, FieldIs, kindDepth, kindWidth, kindUses, laid, Placed, Sound, Indexed, Judged}
+use Rattle.plan.proofs.Conjunctions.{two-true, four-true}
+use Rattle.plan.proofs.Parts.{childrenOf, siblingsOf, rest-all, length-rest-all, cancel-le, cancel-children, no-record, span-within, length-children, parts-join, first-below, children-below, siblings-below}
+use Rattle.plan.proofs.Bytes.{record-pos, kind-of-record, relation-of-record, a-of-record, b-of-record, parent-of-record, end-of-record, record-is}
+use Rattle.plan.proofs.Encoding.{length-records, children-part, siblings-part, forest-of-records}
 use Rattle.plan.proofs.Fields.{NodeIs, fields-node, node-fields, kind-depth, kind-depth-le, kind-width, kind-uses}
+
+-- the records of node i's children and of its later siblings, where its tree ends at e, as the code lends them
+abbrev pub kidsOf : List ℕ → ℕ → ℕ → List ℕ
+kidsOf l i e = childrenOf recordLength (e - i) l
+
+abbrev pub restOf : List ℕ → ℕ → ℕ → List ℕ
+restOf l i e = take (length l - recordLength * (e - i)) (siblingsOf recordLength (e - i) l)
 
 -- What a sound part that is not empty begins with.
 pub record Opened (l : List ℕ) (i parent d sets above : ℕ) : Type 0 where
@@ -34,21 +44,11 @@ pub record Opened (l : List ℕ) (i parent d sets above : ℕ) : Type 0 where
   pub kind : kindField l ≡ kindNumber node
   pub inner : innerRule sets node d ≡ true
   pub arity : arityRule (kindNumber node) (treeCount children) ≡ true
-  pub kids : Sound (take (recordLength * (endField l - i) - recordLength) (drop recordLength l)) (suc i) i (childDepth node d) sets (kindNumber node) children
-  pub rest : Sound (drop (recordLength * (endField l - i)) l) (endField l) parent d sets above siblings
+  pub kids : Sound (kidsOf l i (endField l)) (suc i) i (childDepth node d) sets (kindNumber node) children
+  pub rest : Sound (siblingsOf recordLength (endField l - i) l) (endField l) parent d sets above siblings
 
 pub sound-length : {l : List ℕ} {i parent d sets above : ℕ} {f : Forest} → Sound l i parent d sets above f → length l ≡ recordLength * nodeCount f
 sound-length {i} {parent} {f} s = ap length (s .is) ∙ length-records f i parent
-
-two-true : (a b : Bool) → (a && b) ≡ true → (a ≡ true) × (b ≡ true)
-two-true a b h = (and-left a b h, and-right a b h)
-
-four-true : (a b c d : Bool) → (a && b && c && d) ≡ true → (a ≡ true) × (b ≡ true) × (c ≡ true) × (d ≡ true)
-four-true a b c d h =
-    let x = two-true (a && b && c) d h in
-    let y = two-true (a && b) c (x .0) in
-    let z = two-true a b (y .0) in
-    (z .0, z .1, y .1, x .1)
 
 -- the rules of a tree's own node, of its children and of its siblings
 pub every-node : (sets : ℕ) (n : Node) (c s : Forest) (d : ℕ) → everyNode (nodeRule sets) (tree n c s) d ≡ true
@@ -61,32 +61,34 @@ every-node sets n c s d h =
     let z = four-true (innerRule sets n d) (depthRule d) (arityRule (kindNumber n) (treeCount c)) (nestingRule (kindNumber n) c) (y .0) in
     (z .0, z .1, z .2, z .3, y .1, x .1)
 
-record-of-node : (sets d above parent e : ℕ) (n : Node) (t : List ℕ) → innerRule sets n d ≡ true → depthRule d ≡ true → maySit above (kindNumber n) ≡ true
+record-of-node : (sets d above parent e : ℕ) (n : Node) (t : List ℕ) → innerRule sets n d ≡ true → depthRule d ≡ true → mayNest above (kindNumber n) ≡ true
     → recordRule sets d above parent (recordOf n parent e ++ t) ≡ true
-unfolding recordRule kindField relationField aField bField recordOf wordBytes
+unfolding recordRule
 record-of-node sets d above parent e n t a b c =
-    and-true _ _ (and-true _ _ (and-true _ _ (node-fields sets d n a) b) c)
-    (and-true _ _ (eq-eqb (parent % 256) (parent % 256) refl) (eq-eqb (parent / 256) (parent / 256) refl))
-
-kind-first : (n : Node) (p e : ℕ) (t : List ℕ) → kindField (recordOf n p e ++ t) ≡ kindNumber n
-unfolding kindField recordOf
-kind-first n p e t = refl
+    let k = kind-of-record n parent e t in
+    let fields : ℕ → ℕ → ℕ → ℕ → Bool = fieldRule sets d in
+    and-true _ _
+    (and-true _ _
+    (and-true _ _ ((λ j. fields (k j) (relation-of-record n parent e t j) (a-of-record n parent e t j) (b-of-record n parent e t j)) ∙ node-fields sets d n a) b)
+    (ap (mayNest above) k ∙ c))
+    (eq-eqb (parentField (recordOf n parent e ++ t)) parent (parent-of-record n parent e t))
 
 tree-long : (n : Node) (c s : Forest) (i parent x : ℕ) → x ≡ i + suc (nodeCount c) → recordLength * (x - i) ≤ length (records (tree n c s) i parent)
-unfolding recordLength nodeCount
-tree-long n c s i parent x h = omega (arith, length-records (tree n c s) i parent)
+unfolding nodeCount
+tree-long n c s i parent x h =
+    omega (arith, length-records (tree n c s) i parent, span-within recordLength record-pos (x - i) (nodeCount (tree n c s)) (omega arith))
 
 -- over the records of a tree and its siblings
 opened-tree : (n : Node) (c s : Forest) (i parent d sets above : ℕ) → everyNode (nodeRule sets) (tree n c s) d ≡ true → nestingRule above (tree n c s) ≡ true
     → Opened (records (tree n c s) i parent) i parent d sets above
 unfolding nestingRule records
-opened-tree n c s i parent d sets above rules seats =
+opened-tree n c s i parent d sets above rules nested =
     let e = i + suc (nodeCount c) in
     let t = records c (suc i) i ++ records s e parent in
     let l = recordOf n parent e ++ t in
     let q = end-of-record n parent e t in
     let r = every-node sets n c s d rules in
-    let m = two-true (maySit above (kindNumber n)) (nestingRule above s) seats in
+    let m = two-true (mayNest above (kindNumber n)) (nestingRule above s) nested in
     record {
       node = n;
       children = c;
@@ -94,18 +96,18 @@ opened-tree n c s i parent d sets above rules seats =
       record-ok = record-of-node sets d above parent e n t (r .0) (r .1) (m .0);
       end-is = q;
       long = tree-long n c s i parent (endField l) q;
-      kind = kind-first n parent e t;
+      kind = kind-of-record n parent e t;
       inner = r .0;
       arity = r .2;
       kids = record {
-        is = ap (λ (x : ℕ). take (recordLength * (x - i) - recordLength) (drop recordLength l)) q ∙ children-part n c s i parent;
+        is = ap (kidsOf l i) q ∙ children-part n c s i parent;
         rules = r .4;
-        seats = r .3;
+        nested = r .3;
       };
       rest = record {
-        is = ap (λ (x : ℕ). drop (recordLength * (x - i)) l) q ∙ siblings-part n c s i parent ∙ ap (λ (x : ℕ). records s x parent) (sym q);
+        is = ap (λ (x : ℕ). siblingsOf recordLength (x - i) l) q ∙ siblings-part n c s i parent ∙ ap (λ (x : ℕ). records s x parent) (sym q);
         rules = r .5;
-        seats = m .1;
+        nested = m .1;
       };
     }
 
@@ -113,7 +115,7 @@ pub opened : {l : List ℕ} {i parent d sets above : ℕ} (f : Forest) → Sound
 unfolding records
 opened none s h = absurd (h (ap length (s .is)))
 opened {i} {parent} {d} {sets} {above} (tree n c s) x h =
-    subst (λ (l : List ℕ). Opened l i parent d sets above) (sym (x .is)) (opened-tree n c s i parent d sets above (x .rules) (x .seats))
+    subst (λ (l : List ℕ). Opened l i parent d sets above) (sym (x .is)) (opened-tree n c s i parent d sets above (x .rules) (x .nested))
 
 -- records are of one forest only
 pub same-forest : (f g : Forest) (i p : ℕ) → records f i p ≡ records g i p → f ≡ g
@@ -127,17 +129,9 @@ pub refuse : {l : List ℕ} {i parent d ports sets above first : ℕ} (r : Check
     → ((f : Forest) → Sound l i parent d sets above f → ⊥) → Judged l i parent d ports sets above first r x y z x′ y′ z′
 refuse r e h = record { accepts = λ q. absurd (false≢true (sym e ∙ q)); refuses = λ q f s. h f s }
 
--- the children's records and the later siblings', as the code lends them
-abbrev pub kidsOf : List ℕ → ℕ → ℕ → List ℕ
-kidsOf l i e = take (recordLength * (e - i) - recordLength) (drop recordLength l)
-
-abbrev pub restOf : List ℕ → ℕ → ℕ → List ℕ
-restOf l i e = take (length l - recordLength * (e - i)) (drop (recordLength * (e - i)) l)
-
 module _ (l : List ℕ) (i parent d sets above : ℕ) (some : length l ≡ 0 → ⊥) where
   pub too-short : length l < recordLength → (f : Forest) → Sound l i parent d sets above f → ⊥
-  unfolding recordLength
-  too-short h f s = some (omega (arith, sound-length s))
+  too-short h f s = some (no-record recordLength record-pos (length l) (nodeCount f) (sound-length s) h)
 
   pub bad-record : recordRule sets d above parent l ≡ false → (f : Forest) → Sound l i parent d sets above f → ⊥
   bad-record h f s = false≢true (sym h ∙ opened f s some .record-ok)
@@ -147,49 +141,45 @@ module _ (l : List ℕ) (i parent d sets above : ℕ) (some : length l ≡ 0 →
     early-end h f s = let o = opened f s some .end-is in omega arith
 
     pub cut-short : length l < recordLength * (e - i) → (f : Forest) → Sound l i parent d sets above f → ⊥
-    unfolding recordLength
-    cut-short h f s = let o = opened f s some .long in omega (arith, en)
+    cut-short h f s = let o = opened f s some .long in omega (arith, ap (λ (x : ℕ). recordLength * (x - i)) en)
 
-    module _ (below : ℕ) (bd : below ≡ kindDepth (kindField l) d) where
-      kids-sound : (o : Opened l i parent d sets above) → Sound (kidsOf l i e) (i + 1) i below sets (kindField l) (o .children)
+    rest-is : restOf l i e ≡ siblingsOf recordLength (endField l - i) l
+    rest-is = rest-all (recordLength * (e - i)) l ∙ ap (λ (x : ℕ). siblingsOf recordLength (x - i) l) en
+
+    rest-sound : (o : Opened l i parent d sets above) → Sound (restOf l i e) e parent d sets above (o .siblings)
+    rest-sound o =
+        let k = o .rest in
+        record {
+          is = rest-is ∙ k .is ∙ ap (λ (x : ℕ). records (o .siblings) x parent) (sym en);
+          rules = k .rules;
+          nested = k .nested;
+        }
+
+    module _ {ports first : ℕ} {r : Checked} {x y z x′ y′ z′ : List ℕ} (j : Judged (restOf l i e) e parent d ports sets above first r x y z x′ y′ z′) where
+      pub bad-rest : r .ok ≡ false → (f : Forest) → Sound l i parent d sets above f → ⊥
+      bad-rest q f s = let o = opened f s some in j .refuses q (o .siblings) (rest-sound o)
+
+    module _ (kind below : ℕ) (ki : kind ≡ kindField l) (bd : below ≡ kindDepth kind d) where
+      kids-sound : (o : Opened l i parent d sets above) → Sound (kidsOf l i e) (i + 1) i below sets kind (o .children)
       kids-sound o =
           let k = o .kids in
-          let b : childDepth (o .node) d ≡ below = kind-depth sets d (o .node) (o .inner) ∙ ap (λ (x : ℕ). kindDepth x d) (sym (o .kind)) ∙ sym bd in
+          let b : childDepth (o .node) d ≡ below = kind-depth sets d (o .node) (o .inner) ∙ ap (λ (x : ℕ). kindDepth x d) (sym (ki ∙ o .kind)) ∙ sym bd in
           record {
-            is = ap (λ (x : ℕ). take (recordLength * (x - i) - recordLength) (drop recordLength l)) en ∙ k .is
-                ∙ ap (λ (x : ℕ). records (o .children) x i) (sym (add-one i));
+            is = ap (kidsOf l i) en ∙ k .is ∙ ap (λ (x : ℕ). records (o .children) x i) (sym (add-one i));
             rules = ap (everyNode (nodeRule sets) (o .children)) (sym b) ∙ k .rules;
-            seats = ap (λ (x : ℕ). nestingRule x (o .children)) (o .kind) ∙ k .seats;
+            nested = ap (λ (x : ℕ). nestingRule x (o .children)) (ki ∙ o .kind) ∙ k .nested;
           }
 
-      rest-is : (restOf l i e) ≡ drop (recordLength * (endField l - i)) l
-      rest-is =
-          take-all (length l - recordLength * (e - i)) (drop (recordLength * (e - i)) l) (rw length-drop (omega arith))
-          ∙ ap (λ (x : ℕ). drop (recordLength * (x - i)) l) en
-
-      rest-sound : (o : Opened l i parent d sets above) → Sound (restOf l i e) e parent d sets above (o .siblings)
-      rest-sound o =
-          let k = o .rest in
-          record {
-            is = rest-is ∙ k .is ∙ ap (λ (x : ℕ). records (o .siblings) x parent) (sym en);
-            rules = k .rules;
-            seats = k .seats;
-          }
-
-      module _ {ports first : ℕ} {r : Checked} {x y z x′ y′ z′ : List ℕ} (j : Judged (kidsOf l i e) (i + 1) i below ports sets (kindField l) first r x y z x′ y′ z′) where
+      module _ {ports first : ℕ} {r : Checked} {x y z x′ y′ z′ : List ℕ} (j : Judged (kidsOf l i e) (i + 1) i below ports sets kind first r x y z x′ y′ z′) where
         pub bad-kids : r .ok ≡ false → (f : Forest) → Sound l i parent d sets above f → ⊥
         bad-kids q f s = let o = opened f s some in j .refuses q (o .children) (kids-sound o)
 
-        pub bad-arity : r .ok ≡ true → arityRule (kindField l) (r .trees) ≡ false → (f : Forest) → Sound l i parent d sets above f → ⊥
+        pub bad-arity : r .ok ≡ true → arityRule kind (r .trees) ≡ false → (f : Forest) → Sound l i parent d sets above f → ⊥
         bad-arity q a f s =
             let o = opened f s some in
             let g = j .accepts q in
             let one : g .0 ≡ o .children = same-forest (g .0) (o .children) (i + 1) i (sym (g .1 .is) ∙ kids-sound o .is) in
-            false≢true (sym a ∙ ap₂ arityRule (o .kind) (g .2 .trees ∙ ap treeCount one) ∙ o .arity)
-
-      module _ {ports first : ℕ} {r : Checked} {x y z x′ y′ z′ : List ℕ} (j : Judged (restOf l i e) e parent d ports sets above first r x y z x′ y′ z′) where
-        pub bad-rest : r .ok ≡ false → (f : Forest) → Sound l i parent d sets above f → ⊥
-        bad-rest q f s = let o = opened f s some in j .refuses q (o .siblings) (rest-sound o)
+            false≢true (sym a ∙ ap₂ arityRule (ki ∙ o .kind) (g .2 .trees ∙ ap treeCount one) ∙ o .arity)
 
 -- Lists with numbers laid from a place on.
 pub laid-nothing : (xs : List ℕ) (i : ℕ) → laid xs i [] ≡ xs
@@ -278,40 +268,16 @@ unfolding treeCount nodeCount
 trees-few none = omega arith
 trees-few (tree n c s) = omega (arith, trees-few s)
 
--- the bytes of a record, one by one
-pub eight : (l : List ℕ) → 8 ≤ length l
-    → l ≡ getD l 0 0 ∷ getD l 1 0 ∷ getD l 2 0 ∷ getD l 3 0 ∷ getD l 4 0 ∷ getD l 5 0 ∷ getD l 6 0 ∷ getD l 7 0 ∷ drop 8 l
-eight l h =
-    drop-cons l 0 0 (omega arith)
-    ∙ ap (λ (x : List ℕ). getD l 0 0 ∷ x) (drop-cons l 1 0 (omega arith)
-    ∙ ap (λ (x : List ℕ). getD l 1 0 ∷ x) (drop-cons l 2 0 (omega arith)
-    ∙ ap (λ (x : List ℕ). getD l 2 0 ∷ x) (drop-cons l 3 0 (omega arith)
-    ∙ ap (λ (x : List ℕ). getD l 3 0 ∷ x) (drop-cons l 4 0 (omega arith)
-    ∙ ap (λ (x : List ℕ). getD l 4 0 ∷ x) (drop-cons l 5 0 (omega arith)
-    ∙ ap (λ (x : List ℕ). getD l 5 0 ∷ x) (drop-cons l 6 0 (omega arith)
-    ∙ ap (λ (x : List ℕ). getD l 6 0 ∷ x) (drop-cons l 7 0 (omega arith))))))))
-
--- a record that keeps its rules is the record of its node
-record-is : (l : List ℕ) (sets d above parent e : ℕ) → recordLength ≤ length l → recordRule sets d above parent l ≡ true → EndIs l e
-    → l ≡ recordOf (nodeOf (kindField l) (relationField l) (aField l) (bField l)) parent e ++ drop recordLength l
-unfolding recordLength recordRule kindField relationField aField bField recordOf wordBytes
-record-is l sets d above parent e h q w =
-    let r = four-true (fieldRule sets d (getD l 0 0) (getD l 1 0) (getD l 2 0) (getD l 3 0)) (depthRule d) (maySit above (getD l 0 0)) _ q in
-    let n = fields-node sets d (getD l 0 0) (getD l 1 0) (getD l 2 0) (getD l 3 0) (r .0) in
-    let p = two-true (eqb (getD l 4 0) (parent % 256)) (eqb (getD l 5 0) (parent / 256)) (r .3) in
-    eight l h ∙ λ i. sym (n .kind-is) i ∷ sym (n .relation-is) i ∷ sym (n .a-is) i ∷ sym (n .b-is) i
-    ∷ eqb-true (getD l 4 0) (parent % 256) (p .0) i ∷ eqb-true (getD l 5 0) (parent / 256) (p .1) i ∷ w .low i ∷ w .high i ∷ drop 8 l
-
 module _ (l : List ℕ) (i parent d sets above e : ℕ) (long : recordLength ≤ length l) (rule : recordRule sets d above parent l ≡ true)
-    (en : EndIs l e) (after : i < e) (within : recordLength * (e - i) ≤ length l) where
+    (en : FieldIs endField l e) (after : i < e) (within : recordLength * (e - i) ≤ length l) where
   abbrev nodeHere : Node
   nodeHere = nodeOf (kindField l) (relationField l) (aField l) (bField l)
 
   -- what the record's rule says
   pub rules-here : (fieldRule sets d (kindField l) (relationField l) (aField l) (bField l) ≡ true) × (depthRule d ≡ true)
-      × (maySit above (kindField l) ≡ true) × ((eqb (getD l 4 0) (parent % 256) && eqb (getD l 5 0) (parent / 256)) ≡ true)
+      × (mayNest above (kindField l) ≡ true) × (eqb (parentField l) parent ≡ true)
   unfolding recordRule
-  rules-here = four-true (fieldRule sets d (kindField l) (relationField l) (aField l) (bField l)) (depthRule d) (maySit above (kindField l)) _ rule
+  rules-here = four-true (fieldRule sets d (kindField l) (relationField l) (aField l) (bField l)) (depthRule d) (mayNest above (kindField l)) (eqb (parentField l) parent) rule
 
   pub node-here : NodeIs sets d (kindField l) (relationField l) (aField l) (bField l) nodeHere
   node-here = fields-node sets d (kindField l) (relationField l) (aField l) (bField l) (rules-here .0)
@@ -320,27 +286,34 @@ module _ (l : List ℕ) (i parent d sets above e : ℕ) (long : recordLength ≤
   unfolding depthRule
   depth-here = leb-true d 3 (rules-here .1)
 
+  -- the record is that of its node
+  pub record-here : l ≡ recordOf nodeHere parent e ++ drop recordLength l
+  record-here =
+      let n = node-here in
+      record-is nodeHere parent e l (en .bytes) long (sym (n .kind-is)) (sym (n .relation-is)) (sym (n .a-is)) (sym (n .b-is))
+      (eqb-true (parentField l) parent (rules-here .3)) (sym (en .is))
+
   pub length-kids : length (kidsOf l i e) ≡ recordLength * (e - i) - recordLength
-  unfolding recordLength
-  length-kids = length-take-le (8 * (e - i) - 8) (drop 8 l) (rw (length-drop 8 l) (omega arith))
+  length-kids = length-children recordLength record-pos (e - i) l within
 
   pub length-rest : length (restOf l i e) ≡ length l - recordLength * (e - i)
-  unfolding recordLength
-  length-rest = length-take-le (length l - 8 * (e - i)) (drop (8 * (e - i)) l) (rw (length-drop (8 * (e - i)) l) (omega arith))
+  length-rest = length-rest-all (recordLength * (e - i)) l
 
-  parts-join : drop recordLength l ≡ kidsOf l i e ++ restOf l i e
-  unfolding recordLength
-  parts-join =
-      sym (take-append-drop (8 * (e - i) - 8) (drop 8 l))
-      ∙ ap (λ (x : List ℕ). kidsOf l i e ++ x)
-      (drop-drop (8 * (e - i) - 8) 8 l ∙ ap (λ (j : ℕ). drop j l) (let q : 8 + (8 * (e - i) - 8) ≡ 8 * (e - i) = omega arith in q)
-      ∙ sym (take-all (length l - 8 * (e - i)) (drop (8 * (e - i)) l) (rw (length-drop (8 * (e - i)) l) (omega arith))))
+  parts-here : drop recordLength l ≡ kidsOf l i e ++ restOf l i e
+  parts-here =
+      parts-join recordLength record-pos (e - i) l within (omega arith)
+      ∙ ap (λ (x : List ℕ). kidsOf l i e ++ x) (sym (rest-all (recordLength * (e - i)) l))
+
+  -- children that are records say where the tree ends
+  pub end-of-kids : (below kind : ℕ) (c : Forest) → Sound (kidsOf l i e) (i + 1) i below sets kind c → e ≡ i + suc (nodeCount c)
+  end-of-kids below kind c kids =
+      let q = cancel-children recordLength record-pos (nodeCount c) (e - i) (sym (sound-length kids) ∙ length-kids) (omega arith) in
+      omega arith
 
   module _ (below : ℕ) (bd : below ≡ kindDepth (kindField l) d) (c s : Forest) (kids : Sound (kidsOf l i e) (i + 1) i below sets (kindField l) c)
       (rest : Sound (restOf l i e) e parent d sets above s) where
     pub end-here : e ≡ i + suc (nodeCount c)
-    unfolding recordLength
-    end-here = omega (arith, length-kids, sound-length kids)
+    end-here = end-of-kids below (kindField l) c kids
 
     pub depth-below : below ≡ childDepth nodeHere d
     depth-below = bd ∙ ap (λ (x : ℕ). kindDepth x d) (sym (node-here .kind-is)) ∙ sym (kind-depth sets d nodeHere (node-here .inner))
@@ -350,15 +323,15 @@ module _ (l : List ℕ) (i parent d sets above e : ℕ) (long : recordLength ≤
     tree-sound a =
         let k = node-here .kind-is in
         record {
-          is = record-is l sets d above parent e long rule en
+          is = record-here
               ∙ ap (λ (x : List ℕ). recordOf nodeHere parent e ++ x)
-              (parts-join ∙ ap₂ _++_ (kids .is ∙ ap (λ (x : ℕ). records c x i) (add-one i)) (rest .is))
+              (parts-here ∙ ap₂ _++_ (kids .is ∙ ap (λ (x : ℕ). records c x i) (add-one i)) (rest .is))
               ∙ ap (λ (x : ℕ). recordOf nodeHere parent x ++ (records c (suc i) i ++ records s x parent)) end-here;
           rules = and-true _ _ (and-true _ _
               (and-true _ _ (and-true _ _ (and-true _ _ (node-here .inner) (rules-here .1)) (ap (λ (x : ℕ). arityRule x (treeCount c)) k ∙ a))
-              (ap (λ (x : ℕ). nestingRule x c) k ∙ kids .seats))
+              (ap (λ (x : ℕ). nestingRule x c) k ∙ kids .nested))
               (ap (everyNode (nodeRule sets) c) (sym depth-below) ∙ kids .rules)) (rest .rules);
-          seats = and-true _ _ (ap (maySit above) k ∙ rules-here .2) (rest .seats);
+          nested = and-true _ _ (ap (mayNest above) k ∙ rules-here .2) (rest .nested);
         }
 
     -- what is then known of the whole part
@@ -370,7 +343,7 @@ module _ (l : List ℕ) (i parent d sets above e : ℕ) (long : recordLength ≤
         → r .trees ≡ rs .trees + 1 → r .cells ≡ width + rc .cells + rs .cells
         → r .uses ≡ bitOr (bitOr (kindUses (kindField l) (aField l) (bField l)) (rc .uses)) (rs .uses)
         → Indexed i d ports first (tree nodeHere c s) r x y z x₃ y₃ z₃
-    unfolding treeCount cellCount forestUses firstCells ends usesTable siblingFirst recordLength
+    unfolding treeCount cellCount forestUses firstCells ends usesTable siblingFirst
     tree-indexed ports width first rc rs r x y z x₁ y₁ z₁ x₂ y₂ z₂ x₃ y₃ z₃ p jc m js tr ce us =
         let u = p .width-is in
         let k : kindUses (kindField l) (aField l) (bField l) ≡ nodeUses nodeHere =
@@ -380,7 +353,7 @@ module _ (l : List ℕ) (i parent d sets above e : ℕ) (long : recordLength ≤
         ap₂ (λ (a b : ℕ). firstCells ports c (first + a) b) u depth-below in
         let fs : firstCells ports s (first + width + rc .cells) d ≡ firstCells ports s (first + ports ^ d + cellCount ports c (childDepth nodeHere d)) d =
         ap₂ (λ (a b : ℕ). firstCells ports s (first + a + b) d) u cc in
-        let big : i < 512 = omega (arith, p .few) in
+        let big : i < 512 = first-below recordLength record-pos i (length l) 512 long (p .few) in
         record {
           trees = tr ∙ ap (λ (a : ℕ). a + 1) (js .trees) ∙ add-one (treeCount s);
           cells = ce ∙ (λ j. u j + cc j + js .cells j);
@@ -396,25 +369,29 @@ module _ (l : List ℕ) (i parent d sets above e : ℕ) (long : recordLength ≤
               ∙ (λ j. laid z i (bitOr (k j) (jc .used j) ∷ (usesTable c ++ usesTable s)));
         }
 
-  pub accept : (below ports width first used : ℕ) (bd : below ≡ kindDepth (kindField l) d) (rc rs r : Checked) (x y z x₁ y₁ z₁ x₂ y₂ z₂ x₃ y₃ z₃ : List ℕ)
+  -- the same over the numbers that the code reads
+  pub accept : (kind a b below ports width first used : ℕ) (ki : kind ≡ kindField l) (ai : a ≡ aField l) (bi : b ≡ bField l) (bd : below ≡ kindDepth kind d)
+      (rc rs r : Checked) (x y z x₁ y₁ z₁ x₂ y₂ z₂ x₃ y₃ z₃ : List ℕ)
       → Placed l i parent d ports sets width first x y z
-      → Judged (kidsOf l i e) (i + 1) i below ports sets (kindField l) (first + width) rc x y z x₁ y₁ z₁ → rc .ok ≡ true
-      → arityRule (kindField l) (rc .trees) ≡ true
+      → Judged (kidsOf l i e) (i + 1) i below ports sets kind (first + width) rc x y z x₁ y₁ z₁ → rc .ok ≡ true
+      → arityRule kind (rc .trees) ≡ true
       → (x₂ ≡ set x₁ i first) × (y₂ ≡ set y₁ i e) × (z₂ ≡ set z₁ i used)
-      → used ≡ bitOr (kindUses (kindField l) (aField l) (bField l)) (rc .uses)
+      → used ≡ bitOr (kindUses kind a b) (rc .uses)
       → Judged (restOf l i e) e parent d ports sets above (first + width + rc .cells) rs x₂ y₂ z₂ x₃ y₃ z₃ → rs .ok ≡ true
       → r .ok ≡ true → r .trees ≡ rs .trees + 1 → r .cells ≡ width + rc .cells + rs .cells
       → r .uses ≡ bitOr used (rs .uses)
       → Judged l i parent d ports sets above first r x y z x₃ y₃ z₃
-  accept below ports width first used bd rc rs r x y z x₁ y₁ z₁ x₂ y₂ z₂ x₃ y₃ z₃ p jk ok ar m used-is jr ok′ good trees-are cells-are uses-are =
-      let a = jk .accepts ok in
-      let b = jr .accepts ok′ in
+  accept kind a b below ports width first used ki ai bi bd rc rs r x y z x₁ y₁ z₁ x₂ y₂ z₂ x₃ y₃ z₃ p jk ok ar m used-is jr ok′ good trees-are cells-are uses-are =
+      let kids = subst (λ (k : ℕ). Judged (kidsOf l i e) (i + 1) i below ports sets k (first + width) rc x y z x₁ y₁ z₁) ki jk .accepts ok in
+      let rest = jr .accepts ok′ in
+      let bd′ : below ≡ kindDepth (kindField l) d = bd ∙ ap (λ (k : ℕ). kindDepth k d) ki in
+      let used-here : used ≡ bitOr (kindUses (kindField l) (aField l) (bField l)) (rc .uses) = used-is ∙ (λ j. bitOr (kindUses (ki j) (ai j) (bi j)) (rc .uses)) in
       record {
         accepts = λ q. (
-          tree nodeHere (a .0) (b .0),
-          tree-sound below bd (a .0) (b .0) (a .1) (b .1) (ap (arityRule (kindField l)) (sym (a .2 .trees)) ∙ ar),
-          tree-indexed below bd (a .0) (b .0) (a .1) (b .1) ports width first rc rs r x y z x₁ y₁ z₁ x₂ y₂ z₂ x₃ y₃ z₃ p (a .2)
-              (m .0, m .1, m .2 ∙ ap (set z₁ i) used-is) (b .2) trees-are cells-are (uses-are ∙ ap (λ (v : ℕ). bitOr v (rs .uses)) used-is),
+          tree nodeHere (kids .0) (rest .0),
+          tree-sound below bd′ (kids .0) (rest .0) (kids .1) (rest .1) (ap₂ arityRule (sym ki) (sym (kids .2 .trees)) ∙ ar),
+          tree-indexed below bd′ (kids .0) (rest .0) (kids .1) (rest .1) ports width first rc rs r x y z x₁ y₁ z₁ x₂ y₂ z₂ x₃ y₃ z₃ p (kids .2)
+              (m .0, m .1, m .2 ∙ ap (set z₁ i) used-here) (rest .2) trees-are cells-are (uses-are ∙ ap (λ (v : ℕ). bitOr v (rs .uses)) used-here),
         );
         refuses = λ q. absurd (true≢false (sym good ∙ q));
       }
@@ -426,7 +403,7 @@ unfolding records everyNode nestingRule treeCount cellCount forestUses firstCell
 accept-none [] i parent d ports sets above first r x y z h good t c u = record {
   accepts = λ q. (
     none,
-    record { is = refl; rules = refl; seats = refl },
+    record { is = refl; rules = refl; nested = refl },
     record { trees = t; cells = c; used = u; firsts-are = sym (laid-nothing x i); ends-are = sym (laid-nothing y i); uses-are = sym (laid-nothing z i) },
   );
   refuses = λ q. absurd (true≢false (sym good ∙ q));
@@ -435,36 +412,36 @@ accept-none (b ∷ l) i parent d ports sets above first r x y z h good t c u = a
 
 -- where the children stand, and the siblings
 module _ (l : List ℕ) (i parent d ports sets above width first e : ℕ) (x y z : List ℕ) (place : Placed l i parent d ports sets width first x y z)
-    (long : recordLength ≤ length l) (rule : recordRule sets d above parent l ≡ true) (en : EndIs l e) (after : i < e)
+    (long : recordLength ≤ length l) (rule : recordRule sets d above parent l ≡ true) (en : FieldIs endField l e) (after : i < e)
     (within : recordLength * (e - i) ≤ length l) where
   width-fits : width ≤ 262144
   width-fits =
       let w = width-low ports d (place .ports1) (place .ports64) (depth-here l i parent d sets above e long rule en after within) in
       omega (arith, place .width-is)
 
-  pub placed-kids : (below wider : ℕ) → below ≡ kindDepth (kindField l) d → wider ≡ kindWidth (kindField l) width ports
+  first-node : i < 512
+  first-node = first-below recordLength record-pos i (length l) 512 long (place .few)
+
+  pub placed-kids : (kind below wider : ℕ) → below ≡ kindDepth kind d → wider ≡ kindWidth kind width ports
       → Placed (kidsOf l i e) (i + 1) i below ports sets wider (first + width) x y z
-  unfolding recordLength
-  placed-kids below wider bd wd = record {
-    few = omega (arith, place .few, length-kids l i parent d sets above e long rule en after within);
-    parents = omega (arith, place .few);
+  placed-kids kind below wider bd wd = record {
+    few = rw (length-kids l i parent d sets above e long rule en after within) (children-below recordLength record-pos i e (length l) 512 after within (place .few));
+    parents = omega (arith, first-node);
     ports1 = place .ports1;
     ports64 = place .ports64;
     sets16 = place .sets16;
-    width-is = wd ∙ kind-width (kindField l) width ports d (place .width-is) ∙ ap (λ (j : ℕ). ports ^ j) (sym bd);
-    depth = omega (arith, kind-depth-le (kindField l) d, depth-here l i parent d sets above e long rule en after within);
+    width-is = wd ∙ kind-width kind width ports d (place .width-is) ∙ ap (λ (j : ℕ). ports ^ j) (sym bd);
+    depth = omega (arith, kind-depth-le kind d, depth-here l i parent d sets above e long rule en after within);
     first-low = omega (arith, place .first-low, width-fits);
     room-firsts = place .room-firsts;
     room-ends = place .room-ends;
     room-uses = place .room-uses;
   }
 
-  pub placed-rest : (below : ℕ) → below ≡ kindDepth (kindField l) d → (c : Forest) → Sound (kidsOf l i e) (i + 1) i below sets (kindField l) c
-      → (cells : ℕ) → cells ≡ cellCount ports c below → (x₂ y₂ z₂ : List ℕ) → length x₂ ≡ length x → length y₂ ≡ length y → length z₂ ≡ length z
+  pub placed-rest : (kind below : ℕ) (c : Forest) → Sound (kidsOf l i e) (i + 1) i below sets kind c → (cells : ℕ) → cells ≡ cellCount ports c below → (x₂ y₂ z₂ : List ℕ) → length x₂ ≡ length x → length y₂ ≡ length y → length z₂ ≡ length z
       → Placed (restOf l i e) e parent d ports sets width (first + width + cells) x₂ y₂ z₂
-  unfolding recordLength
-  placed-rest below bd c kids cells ce x₂ y₂ z₂ lx ly lz = record {
-    few = omega (arith, place .few, length-rest l i parent d sets above e long rule en after within);
+  placed-rest kind below c kids cells ce x₂ y₂ z₂ lx ly lz = record {
+    few = rw (length-rest l i parent d sets above e long rule en after within) (siblings-below recordLength record-pos i e (length l) 512 after within (place .few));
     parents = place .parents;
     ports1 = place .ports1;
     ports64 = place .ports64;
@@ -475,8 +452,7 @@ module _ (l : List ℕ) (i parent d ports sets above width first e : ℕ) (x y z
       arith,
       place .first-low,
       width-fits,
-      sound-length kids,
-      length-kids l i parent d sets above e long rule en after within,
+      end-of-kids l i parent d sets above e long rule en after within below kind c kids,
       cells-few ports sets c below (place .ports1) (place .ports64) (kids .rules),
     );
     room-firsts = omega (arith, place .room-firsts);
@@ -484,30 +460,21 @@ module _ (l : List ℕ) (i parent d ports sets above width first e : ℕ) (x y z
     room-uses = omega (arith, place .room-uses);
   }
 
--- what is counted stays small
-judged-low : (l : List ℕ) (i parent d ports sets above first : ℕ) (r : Checked) (x y z x′ y′ z′ : List ℕ)
-    → Judged l i parent d ports sets above first r x y z x′ y′ z′ → r .ok ≡ true → 1 ≤ ports → ports ≤ 64
-    → (recordLength * r .trees ≤ length l) × (recordLength * r .cells ≤ 262144 * length l)
-unfolding recordLength
-judged-low l i parent d ports sets above first r x y z x′ y′ z′ j ok u1 u64 =
-    let a = j .accepts ok in
-    let n = sound-length (a .1) in
-    (omega (arith, n, a .2 .trees, trees-few (a .0)), omega (arith, n, a .2 .cells, cells-few ports sets (a .0) d u1 u64 (a .1 .rules)))
-
 -- the numbers of a place are small
 pub placed-low : {l : List ℕ} {i parent d ports sets width first : ℕ} {x y z : List ℕ} → Placed l i parent d ports sets width first x y z
-    → (width ≤ 16777216) × (first ≤ 536870912) × (length l ≤ 4096)
-unfolding recordLength
-placed-low {d} {ports} p =
+    → (width ≤ 16777216) × (first ≤ 536870912) × (length l ≤ recordLength * 512)
+placed-low {i} {d} {ports} p =
     let w : ports ^ d ≤ 16777216 = le-trans (pow-le-pow-left (p .ports64) d) (pow-le-pow-right (omega arith) (p .depth)) in
-    (omega (arith, p .width-is), omega (arith, p .first-low, p .few), omega (arith, p .few))
+    let few : i ≤ 512 = cancel-le recordLength record-pos i 512 (omega (arith, p .few)) in
+    (omega (arith, p .width-is), omega (arith, p .first-low), omega (arith, p .few))
 
 -- and so is what is counted in a part of a short part
 pub counted-low : (whole : List ℕ) (a b : ℕ) {i parent d ports sets above first : ℕ} (r : Checked) {x y z x′ y′ z′ : List ℕ}
     → Judged (take a (drop b whole)) i parent d ports sets above first r x y z x′ y′ z′ → r .ok ≡ true → 1 ≤ ports → ports ≤ 64
-    → length whole ≤ 4096 → (r .trees ≤ 512) × (r .cells ≤ 134217728)
-unfolding recordLength
-counted-low whole a b {i} {parent} {d} {ports} {sets} {above} {first} r {x} {y} {z} {x′} {y′} {z′} j ok u1 u64 few =
-    let low = judged-low (take a (drop b whole)) i parent d ports sets above first r x y z x′ y′ z′ j ok u1 u64 in
-    let short : length (take a (drop b whole)) ≤ 4096 = omega (arith, length-take a (drop b whole), length-drop b whole) in
-    (omega (arith, low .0), omega (arith, low .1))
+    → length whole ≤ recordLength * 512 → (r .trees ≤ 512) × (r .cells ≤ 134217728)
+counted-low whole a b {d} {ports} {sets} r j ok u1 u64 few =
+    let f = j .accepts ok in
+    let n = nodeCount (f .0) in
+    let short : n ≤ 512 = cancel-le recordLength record-pos n 512
+    (omega (arith, sound-length (f .1), length-take a (drop b whole), length-drop b whole)) in
+    (omega (arith, f .2 .trees, trees-few (f .0)), omega (arith, f .2 .cells, cells-few ports sets (f .0) d u1 u64 (f .1 .rules)))

@@ -1,4 +1,7 @@
 -- Laws of the plan table.
+pub mod Conjunctions
+pub mod Parts
+pub mod Bytes
 pub mod Encoding
 pub mod Fields
 pub mod Judging

@@ -1,20 +1,21 @@
 -- Bytes past a plan's own are never read, and every plan within the rules has a table of bytes. Assumes nothing.
 use mathlib.Core.Path.{_≡_, refl, sym, ap, ap₂, _∙_, subst}
 use mathlib.Core.Bool.{Bool, true, false, false≢true}
-use mathlib.Core.List.{List, [], _∷_, _++_, append-nil}
-use Prim.Native.Nat.{ℕ, zero, suc, _+_, _*_, _/_, _%_, _≤_, _<_}
+use mathlib.Core.List.{List, [], _++_, append-assoc, append-nil}
+use Prim.Native.Nat.{ℕ, suc, _+_, _*_, _≤_, _<_}
 use native.Mathlib.Omega.{arith}
 use lib.Dec.{ltb}
-use lib.ListN.{length, getD, take, drop, length-append, take-append-drop, List·getD-append}
-use lib.Seq.{take-all, take-at, getD-take, length-take-le}
+use lib.ListN.{length, take, drop, length-append, take-append-drop}
+use lib.Seq.{take-all, take-at, length-take-le}
 use borrow.Author.Tests.{leb-true, ltb-true, ltb-false}
 use Rattle.esol.specs.Formula.{isin, notin, port, size, Node, root, all, any, and, or, lit, Forest, none, tree, Plan, kindNumber, nodeCount, childDepth}
 use Rattle.esol.proofs.Lists.{and-left, and-right}
 use Rattle.esol.proofs.Relations.{relation-number-le}
-use Rattle.plan.specs.Bytes.{headerLength, recordLength, word, wordBytes, relationByte, aByte, bByte, recordOf, records, header, encoding}
+use Rattle.plan.specs.Bytes.{Bytes, headerLength, recordLength, nodesField, relationByte, aByte, bByte, recordOf, records, header, encoding}
 use Rattle.plan.specs.Rules.{everyNode, depthRule, literalRule, innerRule, nodeRule, planRule}
 use Rattle.plan.specs.Decode.{TableOf, Decoded, broken, sound, decode, ownBytes}
-use Rattle.plan.proofs.Encoding.{word-of-bytes, length-header, length-records, decode-complete, decode-sound}
+use Rattle.plan.proofs.Bytes.{length-header, nodes-of-header, nodes-of-front, bytes-append, no-bytes, NodeBytes, record-bytes, header-bytes}
+use Rattle.plan.proofs.Encoding.{length-records, decode-complete, decode-sound}
 use Rattle.plan.proofs.Judging.{every-node}
 use Rattle.plan.proofs.Whole.{rooted, RootedIs, rooted-nodes, front-is, open-table, refused, is-rooted, rooted-is}
 
@@ -25,12 +26,14 @@ cut-short l h = refused l (λ P t. omega (arith, front-is l (open-table l P t .f
 
 -- a plan's own bytes are its encoding
 own-encoding : (P : Plan) (rest : List ℕ) → length (encoding P) ≡ ownBytes (encoding P ++ rest)
-unfolding ownBytes encoding header wordBytes
+unfolding ownBytes encoding
 own-encoding P rest =
     let k = nodeCount (P .formula) in
-    length-append (header (P .ports) (P .sets) k) (records (P .formula) 0 65535)
+    let t = records (P .formula) 0 65535 in
+    length-append (header (P .ports) (P .sets) k) t
     ∙ ap₂ _+_ (length-header (P .ports) (P .sets) k) (length-records (P .formula) 0 65535)
-    ∙ ap (λ (x : ℕ). headerLength + recordLength * x) (sym (word-of-bytes k))
+    ∙ ap (λ (x : ℕ). headerLength + recordLength * x)
+    (sym (ap nodesField (append-assoc (header (P .ports) (P .sets) k) t rest) ∙ nodes-of-header (P .ports) (P .sets) k (t ++ rest)))
 
 own-table : (l rest : List ℕ) (P : Plan) → TableOf l P → TableOf (take (ownBytes l) l ++ rest) P
 own-table l rest P t = record {
@@ -43,13 +46,12 @@ own-table l rest P t = record {
 
 -- the header stands in a table's own bytes
 own-same : (l rest : List ℕ) → ownBytes l ≤ length l → ownBytes (take (ownBytes l) l ++ rest) ≡ ownBytes l
-unfolding ownBytes headerLength
+unfolding ownBytes
 own-same l rest h =
     let m = ownBytes l in
-    let long = length-take-le m l h in
-    let at : (i : ℕ) → i < 9 → getD (take m l ++ rest) i 0 ≡ getD l i 0 = λ i b.
-    List·getD-append (take m l) rest 0 i (omega arith) ∙ getD-take m l i 0 (omega arith) in
-    ap₂ (λ (x y : ℕ). 9 + recordLength * word x y) (at 7 (omega arith)) (at 8 (omega arith))
+    let long : headerLength ≤ length (take m l) = omega (arith, length-take-le m l h) in
+    ap (λ (x : ℕ). headerLength + recordLength * x)
+    (nodes-of-front (take m l) rest long ∙ sym (nodes-of-front (take m l) (drop m l) long) ∙ ap nodesField (take-append-drop m l))
 
 -- "Bytes [..] past a plan's own are never [..] read."
 pub own-only : (l rest : List ℕ) → ownBytes l ≤ length l → decode (take (ownBytes l) l ++ rest) ≡ decode l
@@ -95,40 +97,6 @@ own-agree l l′ e s = go (ltb (length l) (ownBytes l)) refl
         sym (own-only l (drop m l′) (ltb-false (length l) m q))
         ∙ ap decode (ap (λ (x : List ℕ). x ++ drop m l′) e ∙ take-append-drop m l′)
 
--- Every number of a list is a byte.
-abbrev Bytes : List ℕ → Type 0
-Bytes l = (i : ℕ) → getD l i 0 < 256
-
-bytes-cons : (x : ℕ) (xs : List ℕ) → x < 256 → Bytes xs → Bytes (x ∷ xs)
-bytes-cons x xs h r zero = h
-bytes-cons x xs h r (suc i) = r i
-
-bytes-append : (xs ys : List ℕ) → Bytes xs → Bytes ys → Bytes (xs ++ ys)
-bytes-append [] ys a b = b
-bytes-append (x ∷ xs) ys a b = bytes-cons x (xs ++ ys) (a 0) (bytes-append xs ys (λ i. a (suc i)) b)
-
-no-bytes : Bytes []
-no-bytes i = omega arith
-
-word-bytes : (x : ℕ) → x < 65536 → Bytes (wordBytes x)
-unfolding wordBytes
-word-bytes x h = bytes-cons (x % 256) ((x / 256) ∷ []) (omega arith) (bytes-cons (x / 256) [] (omega arith) no-bytes)
-
--- A node's own bytes.
-record NodeBytes (n : Node) : Type 0 where
-  pub kind : kindNumber n < 256
-  pub relation : relationByte n < 256
-  pub a : aByte n < 256
-  pub b : bByte n < 256
-
-record-bytes : (n : Node) (p e : ℕ) → NodeBytes n → p < 65536 → e < 65536 → Bytes (recordOf n p e)
-unfolding recordOf
-record-bytes n p e b hp he =
-    let l = wordBytes p ++ wordBytes e in
-    bytes-cons (kindNumber n) (relationByte n ∷ aByte n ∷ bByte n ∷ l) (b .kind)
-    (bytes-cons (relationByte n) (aByte n ∷ bByte n ∷ l) (b .relation)
-    (bytes-cons (aByte n) (bByte n ∷ l) (b .a) (bytes-cons (bByte n) l (b .b) (bytes-append (wordBytes p) (wordBytes e) (word-bytes p hp) (word-bytes e he)))))
-
 root-bytes : NodeBytes root
 unfolding kindNumber relationByte aByte bByte
 root-bytes = record { kind = omega arith; relation = omega arith; a = omega arith; b = omega arith }
@@ -170,23 +138,18 @@ records-bytes sets hs (tree n c s) d i p h few hp =
     (records-bytes sets hs c (childDepth n d) (suc i) i (r .4) (omega arith) (omega arith)) (records-bytes sets hs s d e p (r .5) (omega arith) hp))
 
 rooted-bytes : (u n : ℕ) (c : Forest) → RootedIs u n c → Bytes (encoding (rooted u n c))
-unfolding encoding header wordBytes records
+unfolding encoding records
 rooted-bytes u n c r =
     let k = nodeCount (tree root c none) in
     let e = 0 + suc (nodeCount c) in
-    let small : k < 65536 = omega (arith, rooted-nodes c, r .nodes512) in
-    let l = u ∷ n ∷ wordBytes k in
     bytes-append (header u n k) (records (tree root c none) 0 65535)
-    (bytes-append (80 ∷ 76 ∷ 78 ∷ 1 ∷ 0 ∷ []) l
-    (bytes-cons 80 (76 ∷ 78 ∷ 1 ∷ 0 ∷ []) (omega arith)
-    (bytes-cons 76 (78 ∷ 1 ∷ 0 ∷ []) (omega arith) (bytes-cons 78 (1 ∷ 0 ∷ []) (omega arith) (bytes-cons 1 (0 ∷ []) (omega arith) (bytes-cons 0 [] (omega arith) no-bytes)))))
-    (bytes-cons u (n ∷ wordBytes k) (omega (arith, r .ports64)) (bytes-cons n (wordBytes k) (omega (arith, r .sets16)) (word-bytes k small))))
+    (header-bytes u n k (omega (arith, r .ports64)) (omega (arith, r .sets16)) (omega (arith, rooted-nodes c, r .nodes512)))
     (bytes-append (recordOf root 65535 e) (records c 1 0 ++ [])
     (record-bytes root 65535 e root-bytes (omega arith) (omega (arith, r .nodes512)))
     (bytes-append (records c 1 0) [] (records-bytes n (r .sets16) c 0 1 0 (r .rules) (omega (arith, r .nodes512)) (omega arith)) no-bytes))
 
 -- a plan within the rules has a table of bytes
-pub encoding-bytes : (P : Plan) → planRule P ≡ true → (i : ℕ) → getD (encoding P) i 0 < 256
+pub encoding-bytes : (P : Plan) → planRule P ≡ true → Bytes (encoding P)
 encoding-bytes P h =
     let c = is-rooted P h in
     subst (λ Q. Bytes (encoding Q)) (sym (c .1)) (rooted-bytes (P .ports) (P .sets) (c .0) (rooted-is P h))

@@ -1,45 +1,41 @@
 -- The check of a whole table: the header, the root's record, and the records below it. Assumes nothing.
 use mathlib.Core.Path.{_≡_, refl, sym, ap, _∙_, subst}
 use mathlib.Core.Bool.{Bool, true, false, not, _&&_, false≢true, true≢false}
-use mathlib.Core.List.{List, [], _∷_, _++_, append-nil}
-use Prim.Native.Nat.{ℕ, suc, _+_, _-_, _*_, _/_, _%_, _^_, _≤_, _<_}
-use native.Mathlib.Nat.{pow-zero}
+use mathlib.Core.List.{List, [], _∷_, _++_, append-assoc, append-nil}
+use Prim.Native.Nat.{ℕ, suc, _+_, _-_, _*_, _^_, _≤_, _<_}
+use native.Mathlib.Nat.{mul-one, mul-suc, pow-zero}
 use native.Mathlib.Numerals.{add-one}
 use native.Mathlib.Omega.{arith}
 use lib.Bits.{or-zero-l}
 use lib.Dec.{eqb, leb}
-use lib.ListN.{length, getD, take, drop, set, length-append, length-drop, take-append-drop}
-use lib.Seq.{take-all, drop-cons, drop-drop, length-take-le, take-at}
+use lib.ListN.{length, take, drop, set, length-append, length-drop}
+use lib.Seq.{take-at, drop-at}
 use borrow.Author.Tests.{eqb-true, eq-eqb, leb-true, le-leb}
 use Rattle.esol.specs.Formula.{Node, root, all, any, and, or, lit, isin, notin, port, size, Forest, none, tree, Plan, kindNumber, nodeCount, childDepth}
 use Rattle.esol.specs.Cells.{cellCount, ownCells}
-use Rattle.esol.proofs.Lists.{and-left, and-right, and-true}
+use Rattle.esol.proofs.Lists.{and-true}
 use Rattle.plan.specs.declared.Checked.{Checked}
 use Rattle.plan.specs.declared.Info.{Info}
-use Rattle.plan.specs.Bytes.{headerLength, recordLength, word, wordBytes, relationByte, aByte, bByte, recordOf, records, header, encoding}
-use Rattle.plan.specs.Rules.{everyNode, treeCount, arityRule, maySit, nestingRule, nodeRule, formulaRule, mostCells, planRule}
+use Rattle.plan.specs.Bytes.{Bytes, headerLength, recordLength, kindField, relationField, aField, bField, parentField, endField, marked, versionField, portsField, setsField, nodesField, relationByte, aByte, bByte, recordOf, records, header, encoding}
+use Rattle.plan.specs.Rules.{everyNode, treeCount, arityRule, mayNest, nestingRule, nodeRule, formulaRule, mostCells, planRule}
 use Rattle.plan.specs.Decode.{TableOf, Decoded, broken, sound, decode}
 use Rattle.plan.specs.Index.{firstCells, ends, nodeUses, forestUses, usesTable}
-use Rattle.plan.specs.Check.{laid, Placed, Sound, Judged, headerRule, wordRule, rootRule, frontRule, PlanJudged, Room}
-use Rattle.plan.proofs.Encoding.{word-of-bytes, length-records, decode-complete, decode-sound}
-use Rattle.plan.proofs.Judging.{sound-length, eight, same-forest, table-tree, laid-nothing, length-firsts, length-ends, length-uses}
-
--- the rest of a table, as the code lends it
-pub rest-all : (k : ℕ) (l : List ℕ) → take (length l - k) (drop k l) ≡ drop k l
-rest-all k l = take-all (length l - k) (drop k l) (rw (length-drop k l) (omega arith))
-
-two : (a b : Bool) → (a && b) ≡ true → (a ≡ true) × (b ≡ true)
-two a b h = (and-left a b h, and-right a b h)
+use Rattle.plan.specs.Check.{laid, Placed, Sound, Judged, headerRule, rootRule, frontRule, PlanJudged, Room}
+use Rattle.plan.proofs.Conjunctions.{two-true, three-true, four-true, all-three}
+use Rattle.plan.proofs.Parts.{one-fits, cancel-children, span-within, length-children, parts-join, below-first}
+use Rattle.plan.proofs.Bytes.{record-pos, length-record, kind-of-record, relation-of-record, a-of-record, b-of-record, parent-of-record, end-of-record, length-header, header-marked, version-of-header, ports-of-header, sets-of-header, nodes-of-header, record-is, header-split, bytes-drop}
+use Rattle.plan.proofs.Encoding.{length-records, decode-complete, decode-sound}
+use Rattle.plan.proofs.Judging.{sound-length, same-forest, table-tree, laid-nothing, length-firsts, length-ends, length-uses}
 
 -- no kind is refused below the root
-pub seats-below-root : (f : Forest) → nestingRule 0 f ≡ true
-unfolding nestingRule maySit
-seats-below-root none = refl
-seats-below-root (tree n c s) = and-true _ _ (ap not (no-seat (eqb 0 (kindNumber n)))) (seats-below-root s)
+pub nested-below-root : (f : Forest) → nestingRule 0 f ≡ true
+unfolding nestingRule mayNest
+nested-below-root none = refl
+nested-below-root (tree n c s) = and-true _ _ (ap not (no-clash (eqb 0 (kindNumber n)))) (nested-below-root s)
   where
-    no-seat : (b : Bool) → (b && leb 3 0 && leb 0 4) ≡ false
-    no-seat true = refl
-    no-seat false = refl
+    no-clash : (b : Bool) → (b && leb 3 0 && leb 0 4) ≡ false
+    no-clash true = refl
+    no-clash false = refl
 
 only-root : (n : Node) → kindNumber n ≡ 0 → n ≡ root
 unfolding kindNumber
@@ -53,9 +49,6 @@ only-root (lit (notin v S)) h = absurd (omega arith)
 only-root (lit (port r v w)) h = absurd (omega arith)
 only-root (lit (size r S c)) h = absurd (omega arith)
 
-abbrev nodesOf : List ℕ → ℕ
-nodesOf l = word (getD l 7 0) (getD l 8 0)
-
 -- the records below the root, as the code lends them
 abbrev pub belowRoot : List ℕ → ℕ → List ℕ
 belowRoot l nodes = take (headerLength + recordLength * nodes - (headerLength + recordLength)) (drop (headerLength + recordLength) l)
@@ -63,95 +56,97 @@ belowRoot l nodes = take (headerLength + recordLength * nodes - (headerLength + 
 abbrev pub rooted : ℕ → ℕ → Forest → Plan
 rooted u n c = record { ports = u; sets = n; formula = tree root c none }
 
--- the bytes of a plan of k nodes whose root ends at e
-abbrev tableBytes : ℕ → ℕ → ℕ → ℕ → List ℕ → List ℕ
-tableBytes u n k e t =
-    80 ∷ 76 ∷ 78 ∷ 1 ∷ 0 ∷ u ∷ n ∷ (k % 256) ∷ (k / 256) ∷ 0 ∷ 0 ∷ 0 ∷ 0 ∷ 255 ∷ 255 ∷ (e % 256) ∷ (e / 256) ∷ t
+-- a header, the root's record and what follows it: the encoding of a root over c
+abbrev rootedBytes : ℕ → ℕ → ℕ → List ℕ → List ℕ
+rootedBytes u n k t = header u n k ++ (recordOf root 65535 k ++ t)
 
-table-bytes : (u n : ℕ) (c : Forest) (rest : List ℕ)
-    → encoding (rooted u n c) ++ rest ≡ tableBytes u n (suc (nodeCount c) + 0) (0 + suc (nodeCount c)) (records c 1 0 ++ [] ++ rest)
-unfolding encoding header wordBytes records recordOf nodeCount kindNumber relationByte aByte bByte
-table-bytes u n c rest = refl
+rooted-encoding : (u n : ℕ) (c : Forest) (rest : List ℕ) → encoding (rooted u n c) ++ rest ≡ rootedBytes u n (suc (nodeCount c)) (records c 1 0 ++ rest)
+unfolding encoding records nodeCount
+rooted-encoding u n c rest =
+    let k : suc (nodeCount c) + 0 ≡ suc (nodeCount c) = omega arith in
+    let e : 0 + suc (nodeCount c) ≡ suc (nodeCount c) = omega arith in
+    (λ i. header u n (k i) ++ (recordOf root 65535 (e i) ++ append-nil (records c 1 0) i) ++ rest)
+    ∙ append-assoc (header u n (suc (nodeCount c))) (recordOf root 65535 (suc (nodeCount c)) ++ records c 1 0) rest
+    ∙ ap (λ (x : List ℕ). header u n (suc (nodeCount c)) ++ x) (append-assoc (recordOf root 65535 (suc (nodeCount c))) (records c 1 0) rest)
 
 -- What the front of a table says, one by one.
 pub record FrontIs (l : List ℕ) : Type 0 where
-  pub mark0 : getD l 0 0 ≡ 80
-  pub mark1 : getD l 1 0 ≡ 76
-  pub mark2 : getD l 2 0 ≡ 78
-  pub version0 : getD l 3 0 ≡ 1
-  pub version1 : getD l 4 0 ≡ 0
-  pub ports1 : 1 ≤ getD l 5 0
-  pub ports64 : getD l 5 0 ≤ 64
-  pub sets1 : 1 ≤ getD l 6 0
-  pub sets16 : getD l 6 0 ≤ 16
-  pub nodes2 : 2 ≤ nodesOf l
-  pub nodes512 : nodesOf l ≤ 512
-  pub whole : headerLength + recordLength * nodesOf l ≤ length l
-  pub kind : getD (drop 9 l) 0 0 ≡ 0
-  pub relation : getD (drop 9 l) 1 0 ≡ 0
-  pub a : getD (drop 9 l) 2 0 ≡ 0
-  pub b : getD (drop 9 l) 3 0 ≡ 0
-  pub parent0 : getD (drop 9 l) 4 0 ≡ 255
-  pub parent1 : getD (drop 9 l) 5 0 ≡ 255
-  pub end0 : getD (drop 9 l) 6 0 ≡ nodesOf l % 256
-  pub end1 : getD (drop 9 l) 7 0 ≡ nodesOf l / 256
+  pub mark : marked l ≡ true
+  pub version : versionField l ≡ 1
+  pub ports1 : 1 ≤ portsField l
+  pub ports64 : portsField l ≤ 64
+  pub sets1 : 1 ≤ setsField l
+  pub sets16 : setsField l ≤ 16
+  pub nodes2 : 2 ≤ nodesField l
+  pub nodes512 : nodesField l ≤ 512
+  pub whole : headerLength + recordLength * nodesField l ≤ length l
+  pub kind : kindField (drop headerLength l) ≡ 0
+  pub relation : relationField (drop headerLength l) ≡ 0
+  pub a : aField (drop headerLength l) ≡ 0
+  pub b : bField (drop headerLength l) ≡ 0
+  pub parent : parentField (drop headerLength l) ≡ 65535
+  pub end-is : endField (drop headerLength l) ≡ nodesField l
 
 pub front-is : (l : List ℕ) → frontRule l ≡ true → FrontIs l
-unfolding frontRule headerRule rootRule wordRule headerLength
+unfolding frontRule headerRule rootRule
 front-is l h =
-    let K = nodesOf l in
-    let D = drop 9 l in
-    let r = two (leb 9 (length l) && headerRule l && leb 2 K && leb K 512 && leb (9 + recordLength * K) (length l)) (rootRule K D) h in
-    let w = two (leb 9 (length l) && headerRule l && leb 2 K && leb K 512) (leb (9 + recordLength * K) (length l)) (r .0) in
-    let most = two (leb 9 (length l) && headerRule l && leb 2 K) (leb K 512) (w .0) in
-    let least = two (leb 9 (length l) && headerRule l) (leb 2 K) (most .0) in
-    let hd = two (leb 9 (length l)) (headerRule l) (least .0) .1 in
-    let h1 = two ((eqb (getD l 0 0) 80 && eqb (getD l 1 0) 76 && eqb (getD l 2 0) 78) && (eqb (getD l 3 0) 1 && eqb (getD l 4 0) 0)) _ hd in
-    let h2 = two (eqb (getD l 0 0) 80 && eqb (getD l 1 0) 76 && eqb (getD l 2 0) 78) (eqb (getD l 3 0) 1 && eqb (getD l 4 0) 0) (h1 .0) in
-    let h3 = two (eqb (getD l 0 0) 80 && eqb (getD l 1 0) 76) (eqb (getD l 2 0) 78) (h2 .0) in
-    let h4 = two (eqb (getD l 0 0) 80) (eqb (getD l 1 0) 76) (h3 .0) in
-    let h5 = two (eqb (getD l 3 0) 1) (eqb (getD l 4 0) 0) (h2 .1) in
-    let h6 = two (leb 1 (getD l 5 0) && leb (getD l 5 0) 64) (leb 1 (getD l 6 0) && leb (getD l 6 0) 16) (h1 .1) in
-    let h7 = two (leb 1 (getD l 5 0)) (leb (getD l 5 0) 64) (h6 .0) in
-    let h8 = two (leb 1 (getD l 6 0)) (leb (getD l 6 0) 16) (h6 .1) in
-    let r1 = two ((eqb (getD D 0 0) 0 && eqb (getD D 1 0) 0 && eqb (getD D 2 0) 0) && eqb (getD D 3 0) 0) _ (r .1) in
-    let r2 = two (eqb (getD D 0 0) 0 && eqb (getD D 1 0) 0 && eqb (getD D 2 0) 0) (eqb (getD D 3 0) 0) (r1 .0) in
-    let r3 = two (eqb (getD D 0 0) 0 && eqb (getD D 1 0) 0) (eqb (getD D 2 0) 0) (r2 .0) in
-    let r4 = two (eqb (getD D 0 0) 0) (eqb (getD D 1 0) 0) (r3 .0) in
-    let r5 = two (wordRule (getD D 4 0) (getD D 5 0) 65535) (wordRule (getD D 6 0) (getD D 7 0) K) (r1 .1) in
-    let r6 = two (eqb (getD D 4 0) 255) (eqb (getD D 5 0) 255) (r5 .0) in
-    let r7 = two (eqb (getD D 6 0) (K % 256)) (eqb (getD D 7 0) (K / 256)) (r5 .1) in
+    let K = nodesField l in
+    let D = drop headerLength l in
+    let u = portsField l in
+    let n = setsField l in
+    let f = three-true (leb headerLength (length l) && headerRule l && leb 2 K && leb K 512) (leb (headerLength + recordLength * K) (length l)) (rootRule K D) h in
+    let c = four-true (leb headerLength (length l)) (headerRule l) (leb 2 K) (leb K 512) (f .0) in
+    let hd = three-true (marked l) (eqb (versionField l) 1) ((leb 1 u && leb u 64) && (leb 1 n && leb n 16)) (c .1) in
+    let counts = two-true (leb 1 u && leb u 64) (leb 1 n && leb n 16) (hd .2) in
+    let ports = two-true (leb 1 u) (leb u 64) (counts .0) in
+    let sets = two-true (leb 1 n) (leb n 16) (counts .1) in
+    let r = three-true (eqb (kindField D) 0 && eqb (relationField D) 0 && eqb (aField D) 0) (eqb (bField D) 0) (eqb (parentField D) 65535 && eqb (endField D) K) (f .2) in
+    let fields = three-true (eqb (kindField D) 0) (eqb (relationField D) 0) (eqb (aField D) 0) (r .0) in
+    let links = two-true (eqb (parentField D) 65535) (eqb (endField D) K) (r .2) in
     record {
-      mark0 = eqb-true _ _ (h4 .0);
-      mark1 = eqb-true _ _ (h4 .1);
-      mark2 = eqb-true _ _ (h3 .1);
-      version0 = eqb-true _ _ (h5 .0);
-      version1 = eqb-true _ _ (h5 .1);
-      ports1 = leb-true _ _ (h7 .0);
-      ports64 = leb-true _ _ (h7 .1);
-      sets1 = leb-true _ _ (h8 .0);
-      sets16 = leb-true _ _ (h8 .1);
-      nodes2 = leb-true _ _ (least .1);
-      nodes512 = leb-true _ _ (most .1);
-      whole = leb-true _ _ (w .1);
-      kind = eqb-true _ _ (r4 .0);
-      relation = eqb-true _ _ (r4 .1);
-      a = eqb-true _ _ (r3 .1);
-      b = eqb-true _ _ (r2 .1);
-      parent0 = eqb-true _ _ (r6 .0);
-      parent1 = eqb-true _ _ (r6 .1);
-      end0 = eqb-true _ _ (r7 .0);
-      end1 = eqb-true _ _ (r7 .1);
+      mark = hd .0;
+      version = eqb-true _ _ (hd .1);
+      ports1 = leb-true _ _ (ports .0);
+      ports64 = leb-true _ _ (ports .1);
+      sets1 = leb-true _ _ (sets .0);
+      sets16 = leb-true _ _ (sets .1);
+      nodes2 = leb-true _ _ (c .2);
+      nodes512 = leb-true _ _ (c .3);
+      whole = leb-true _ _ (f .1);
+      kind = eqb-true _ _ (fields .0);
+      relation = eqb-true _ _ (fields .1);
+      a = eqb-true _ _ (fields .2);
+      b = eqb-true _ _ (r .1);
+      parent = eqb-true _ _ (links .0);
+      end-is = eqb-true _ _ (links .1);
     }
 
-step : (l : List ℕ) (j : ℕ) → j < length l → drop j l ≡ getD l j 0 ∷ drop (suc j) l
-step l j h = drop-cons l j 0 h
+is-front : (l : List ℕ) → FrontIs l → frontRule l ≡ true
+unfolding frontRule headerRule rootRule
+is-front l f =
+    all-three _ _ _
+    (and-true _ _
+    (all-three _ _ _ (le-leb headerLength (length l) (omega (arith, f .whole)))
+    (all-three _ _ _ (f .mark) (eq-eqb _ _ (f .version))
+    (and-true _ _ (and-true _ _ (le-leb _ _ (f .ports1)) (le-leb _ _ (f .ports64))) (and-true _ _ (le-leb _ _ (f .sets1)) (le-leb _ _ (f .sets16)))))
+    (le-leb _ _ (f .nodes2))) (le-leb _ _ (f .nodes512)))
+    (le-leb _ _ (f .whole))
+    (all-three _ _ _ (all-three _ _ _ (eq-eqb _ _ (f .kind)) (eq-eqb _ _ (f .relation)) (eq-eqb _ _ (f .a))) (eq-eqb _ _ (f .b))
+    (and-true _ _ (eq-eqb _ _ (f .parent)) (eq-eqb _ _ (f .end-is))))
 
-nine : (l : List ℕ) → 9 ≤ length l
-    → l ≡ getD l 0 0 ∷ getD l 1 0 ∷ getD l 2 0 ∷ getD l 3 0 ∷ getD l 4 0 ∷ getD l 5 0 ∷ getD l 6 0 ∷ getD l 7 0 ∷ getD l 8 0 ∷ drop 9 l
-nine l h =
-    eight l (omega arith)
-    ∙ ap (λ (x : List ℕ). getD l 0 0 ∷ getD l 1 0 ∷ getD l 2 0 ∷ getD l 3 0 ∷ getD l 4 0 ∷ getD l 5 0 ∷ getD l 6 0 ∷ getD l 7 0 ∷ x) (step l 8 (omega arith))
+-- the part of a table whose front is right
+module _ (l : List ℕ) (f : FrontIs l) where
+  after-header : recordLength * nodesField l ≤ length (drop headerLength l)
+  after-header = omega (arith, f .whole, length-drop headerLength l)
+
+  root-fits : recordLength ≤ length (drop headerLength l)
+  root-fits = omega (arith, after-header, one-fits recordLength record-pos (nodesField l) (omega (arith, f .nodes2)))
+
+  length-below : length (belowRoot l (nodesField l)) ≡ recordLength * nodesField l - recordLength
+  length-below = ap length (below-first headerLength recordLength (nodesField l) l) ∙ length-children recordLength record-pos (nodesField l) (drop headerLength l) after-header
+
+  pub count-below : {sets : ℕ} (c : Forest) → Sound (belowRoot l (nodesField l)) 1 0 0 sets 0 c → nodesField l ≡ suc (nodeCount c)
+  count-below c s = cancel-children recordLength record-pos (nodeCount c) (nodesField l) (sym (sound-length s) ∙ length-below) (omega (arith, f .nodes2))
 
 -- what the rules of a root over c come to
 pub record RootedIs (u n : ℕ) (c : Forest) : Type 0 where
@@ -190,14 +185,14 @@ unfolding planRule formulaRule arityRule kindNumber treeCount mostCells
 rule-rooted u n c h =
     let k = nodeCount (tree root c none) in
     let F = eqb (treeCount c) 1 && everyNode (nodeRule n) c 0 in
-    let a = two (leb 1 u && leb u 64 && leb 1 n && leb n 16 && leb 2 k && leb k 512 && F) _ h in
-    let b = two (leb 1 u && leb u 64 && leb 1 n && leb n 16 && leb 2 k && leb k 512) F (a .0) in
-    let d = two (leb 1 u && leb u 64 && leb 1 n && leb n 16 && leb 2 k) (leb k 512) (b .0) in
-    let e = two (leb 1 u && leb u 64 && leb 1 n && leb n 16) (leb 2 k) (d .0) in
-    let f = two (leb 1 u && leb u 64 && leb 1 n) (leb n 16) (e .0) in
-    let g = two (leb 1 u && leb u 64) (leb 1 n) (f .0) in
-    let i = two (leb 1 u) (leb u 64) (g .0) in
-    let j = two (eqb (treeCount c) 1) (everyNode (nodeRule n) c 0) (b .1) in
+    let a = two-true (leb 1 u && leb u 64 && leb 1 n && leb n 16 && leb 2 k && leb k 512 && F) _ h in
+    let b = two-true (leb 1 u && leb u 64 && leb 1 n && leb n 16 && leb 2 k && leb k 512) F (a .0) in
+    let d = two-true (leb 1 u && leb u 64 && leb 1 n && leb n 16 && leb 2 k) (leb k 512) (b .0) in
+    let e = two-true (leb 1 u && leb u 64 && leb 1 n && leb n 16) (leb 2 k) (d .0) in
+    let f = two-true (leb 1 u && leb u 64 && leb 1 n) (leb n 16) (e .0) in
+    let g = two-true (leb 1 u && leb u 64) (leb 1 n) (f .0) in
+    let i = two-true (leb 1 u) (leb u 64) (g .0) in
+    let j = two-true (eqb (treeCount c) 1) (everyNode (nodeRule n) c 0) (b .1) in
     record {
       ports1 = leb-true _ _ (i .0);
       ports64 = leb-true _ _ (i .1);
@@ -211,35 +206,26 @@ rule-rooted u n c h =
     }
 
 -- a sound front over sound records is a plan's table
-pub table-of : (l : List ℕ) (c : Forest) → FrontIs l → getD l 7 0 ≡ nodesOf l % 256 → getD l 8 0 ≡ nodesOf l / 256
-    → Sound (belowRoot l (nodesOf l)) 1 0 0 (getD l 6 0) 0 c → treeCount c ≡ 1 → cellCount (getD l 5 0) c 0 < 1048576
-    → TableOf l (rooted (getD l 5 0) (getD l 6 0) c)
-unfolding headerLength recordLength
-table-of l c f low high s t few =
-    let D = drop 9 l in
-    let E = drop 17 l in
-    let K = nodesOf l in
-    let u = getD l 5 0 in
-    let n = getD l 6 0 in
-    let k = suc (nodeCount c) + 0 in
-    let w = f .whole in
-    let part = take (9 + 8 * K - 17) E in
-    let kk : K ≡ suc (nodeCount c) + 0 = omega (arith, f .nodes2, sound-length s, length-take-le (9 + 8 * K - 17) E (rw (length-drop 17 l) (omega arith))) in
-    let e : K ≡ 0 + suc (nodeCount c) = omega arith in
-    let rest = drop (9 + 8 * K - 17) E in
-    let tail : E ≡ records c 1 0 ++ [] ++ rest =
-    sym (take-append-drop (9 + 8 * K - 17) E) ∙ ap (λ (x : List ℕ). x ++ rest) (s .is ∙ sym (append-nil (records c 1 0))) in
+pub table-of : (l : List ℕ) (c : Forest) → FrontIs l → Bytes l → Sound (belowRoot l (nodesField l)) 1 0 0 (setsField l) 0 c → treeCount c ≡ 1
+    → cellCount (portsField l) c 0 < 1048576 → TableOf l (rooted (portsField l) (setsField l) c)
+unfolding kindNumber relationByte aByte bByte
+table-of l c f b s t few =
+    let D = drop headerLength l in
+    let K = nodesField l in
+    let u = portsField l in
+    let n = setsField l in
+    let kk = count-below l f c s in
+    let rest = drop (recordLength * K) D in
     record {
       rest = rest;
-      is = nine l (omega arith)
-          ∙ ap (λ (x : List ℕ). getD l 0 0 ∷ getD l 1 0 ∷ getD l 2 0 ∷ getD l 3 0 ∷ getD l 4 0 ∷ u ∷ n ∷ getD l 7 0 ∷ getD l 8 0 ∷ x)
-          (eight D (rw (length-drop 9 l) (omega arith))
-          ∙ ap (λ (x : List ℕ). getD D 0 0 ∷ getD D 1 0 ∷ getD D 2 0 ∷ getD D 3 0 ∷ getD D 4 0 ∷ getD D 5 0 ∷ getD D 6 0 ∷ getD D 7 0 ∷ x) (drop-drop 8 9 l))
-          ∙ (λ i. f .mark0 i ∷ f .mark1 i ∷ f .mark2 i ∷ f .version0 i ∷ f .version1 i ∷ u ∷ n
-          ∷ (low ∙ ap (λ (x : ℕ). x % 256) kk) i ∷ (high ∙ ap (λ (x : ℕ). x / 256) kk) i
-          ∷ f .kind i ∷ f .relation i ∷ f .a i ∷ f .b i ∷ f .parent0 i ∷ f .parent1 i
-          ∷ (f .end0 ∙ ap (λ (x : ℕ). x % 256) e) i ∷ (f .end1 ∙ ap (λ (x : ℕ). x / 256) e) i ∷ tail i)
-          ∙ sym (table-bytes u n c rest);
+      is = header-split l b (omega (arith, f .whole)) (f .mark) (f .version)
+          ∙ ap (λ (x : List ℕ). header u n K ++ x)
+          (record-is root 65535 K D (bytes-drop headerLength l b) (root-fits l f) (f .kind) (f .relation) (f .a) (f .b) (f .parent) (f .end-is)
+          ∙ ap (λ (x : List ℕ). recordOf root 65535 K ++ x)
+          (parts-join recordLength record-pos K D (after-header l f) (omega (arith, f .nodes2))
+          ∙ ap (λ (x : List ℕ). x ++ rest) (sym (below-first headerLength recordLength K l) ∙ s .is)))
+          ∙ ap (λ (x : ℕ). rootedBytes u n x (records c 1 0 ++ rest)) kk
+          ∙ sym (rooted-encoding u n c rest);
       rules = rooted-rule u n c record {
         ports1 = f .ports1;
         ports64 = f .ports64;
@@ -257,43 +243,88 @@ table-of l c f low high s t few =
 pub record OpenTable (l : List ℕ) : Type 0 where
   pub below : Forest
   pub front : frontRule l ≡ true
-  pub parts : Sound (belowRoot l (nodesOf l)) 1 0 0 (getD l 6 0) 0 below
+  pub parts : Sound (belowRoot l (nodesField l)) 1 0 0 (setsField l) 0 below
   pub one : treeCount below ≡ 1
-  pub few : cellCount (getD l 5 0) below 0 < 1048576
+  pub few : cellCount (portsField l) below 0 < 1048576
 
-open-bytes : (u n k e : ℕ) (c : Forest) (rest : List ℕ) → RootedIs u n c → k ≡ suc (nodeCount c) → e ≡ suc (nodeCount c)
-    → OpenTable (tableBytes u n k e (records c 1 0 ++ [] ++ rest))
-unfolding headerLength recordLength frontRule headerRule rootRule wordRule
-open-bytes u n k e c rest r kn en =
-    let K = word (k % 256) (k / 256) in
-    let T = records c 1 0 ++ [] ++ rest in
-    let kk : K ≡ suc (nodeCount c) = word-of-bytes k ∙ kn in
-    let ek : e ≡ K = en ∙ sym kk in
-    let own : length (records c 1 0 ++ []) ≡ 8 * nodeCount c = ap length (append-nil (records c 1 0)) ∙ length-records c 1 0 in
-    let long : length T ≡ 8 * nodeCount c + length rest = length-append (records c 1 0 ++ []) rest ∙ ap (λ (x : ℕ). x + length rest) own in
-    record {
-      below = c;
-      front = and-true _ _
-          (and-true _ _
-          (and-true _ _
-          (and-true _ _
-          (and-true _ _ (le-leb 9 (length (tableBytes u n k e T)) (omega arith))
-          (and-true _ _ (and-true _ _ (le-leb _ _ (r .ports1)) (le-leb _ _ (r .ports64))) (and-true _ _ (le-leb _ _ (r .sets1)) (le-leb _ _ (r .sets16)))))
-          (le-leb 2 K (omega (arith, r .nodes2)))) (le-leb K 512 (omega (arith, r .nodes512))))
-          (le-leb (9 + 8 * K) (length (tableBytes u n k e T)) (omega arith)))
-          (and-true _ _ (eq-eqb (e % 256) (K % 256) (ap (λ (x : ℕ). x % 256) ek)) (eq-eqb (e / 256) (K / 256) (ap (λ (x : ℕ). x / 256) ek)));
-      parts = record {
-        is = take-at (records c 1 0 ++ []) rest (9 + 8 * K - 17) (own ∙ (let q : 8 * nodeCount c ≡ 9 + 8 * K - 17 = omega arith in q)) ∙ append-nil (records c 1 0);
-        rules = r .rules;
-        seats = seats-below-root c;
-      };
-      one = r .one;
-      few = r .few;
-    }
+module _ (u n : ℕ) (c : Forest) (rest : List ℕ) where
+  abbrev k : ℕ
+  k = suc (nodeCount c)
+
+  abbrev tail : List ℕ
+  tail = records c 1 0 ++ rest
+
+  abbrev root-on : List ℕ
+  root-on = recordOf root 65535 k ++ tail
+
+  abbrev bytes : List ℕ
+  bytes = rootedBytes u n k tail
+
+  past-header : drop headerLength bytes ≡ root-on
+  past-header = drop-at (header u n k) root-on headerLength (length-header u n k)
+
+  bytes-long : headerLength + recordLength * k ≤ length bytes
+  bytes-long = omega (
+    arith,
+    length-append (header u n k) root-on,
+    length-header u n k,
+    length-append (recordOf root 65535 k) tail,
+    length-record root 65535 k,
+    length-append (records c 1 0) rest,
+    length-records c 1 0,
+    mul-suc recordLength (nodeCount c),
+  )
+
+  bytes-below : belowRoot bytes k ≡ records c 1 0
+  bytes-below =
+      let e : recordLength * nodeCount c ≡ recordLength * k - recordLength = omega (arith, mul-suc recordLength (nodeCount c)) in
+      below-first headerLength recordLength k bytes
+      ∙ ap (λ (x : List ℕ). take (recordLength * k - recordLength) x) (ap (drop recordLength) past-header ∙ drop-at (recordOf root 65535 k) tail recordLength (length-record root 65535 k))
+      ∙ take-at (records c 1 0) rest (recordLength * k - recordLength) (length-records c 1 0 ∙ e)
+
+  -- where the records below the root stand in the table of a root over c
+  pub rooted-long : headerLength + recordLength * k ≤ length (encoding (rooted u n c) ++ rest)
+  rooted-long = rw (rooted-encoding u n c rest) bytes-long
+
+  pub rooted-below : belowRoot (encoding (rooted u n c) ++ rest) k ≡ records c 1 0
+  rooted-below = ap (λ (x : List ℕ). belowRoot x k) (rooted-encoding u n c rest) ∙ bytes-below
+
+  open-bytes : RootedIs u n c → OpenTable bytes
+  unfolding kindNumber relationByte aByte bByte
+  open-bytes r =
+      let nodes : nodesField bytes ≡ k = nodes-of-header u n k root-on in
+      let ports : portsField bytes ≡ u = ports-of-header u n k root-on in
+      let sets : setsField bytes ≡ n = sets-of-header u n k root-on in
+      record {
+        below = c;
+        front = is-front bytes record {
+          mark = header-marked u n k root-on;
+          version = version-of-header u n k root-on;
+          ports1 = omega (arith, ports, r .ports1);
+          ports64 = omega (arith, ports, r .ports64);
+          sets1 = omega (arith, sets, r .sets1);
+          sets16 = omega (arith, sets, r .sets16);
+          nodes2 = omega (arith, nodes, r .nodes2);
+          nodes512 = omega (arith, nodes, r .nodes512);
+          whole = rw nodes bytes-long;
+          kind = ap kindField past-header ∙ kind-of-record root 65535 k tail;
+          relation = ap relationField past-header ∙ relation-of-record root 65535 k tail;
+          a = ap aField past-header ∙ a-of-record root 65535 k tail;
+          b = ap bField past-header ∙ b-of-record root 65535 k tail;
+          parent = ap parentField past-header ∙ parent-of-record root 65535 k tail;
+          end-is = ap endField past-header ∙ end-of-record root 65535 k tail ∙ sym nodes;
+        };
+        parts = record {
+          is = ap (belowRoot bytes) nodes ∙ bytes-below;
+          rules = ap (λ (x : ℕ). everyNode (nodeRule x) c 0) sets ∙ r .rules;
+          nested = nested-below-root c;
+        };
+        one = r .one;
+        few = rw ports (r .few);
+      }
 
 open-rooted : (u n : ℕ) (c : Forest) (rest : List ℕ) → RootedIs u n c → OpenTable (encoding (rooted u n c) ++ rest)
-open-rooted u n c rest r =
-    subst OpenTable (sym (table-bytes u n c rest)) (open-bytes u n (suc (nodeCount c) + 0) (0 + suc (nodeCount c)) c rest r (omega arith) (omega arith))
+open-rooted u n c rest r = subst OpenTable (sym (rooted-encoding u n c rest)) (open-bytes u n c rest r)
 
 no-trees : (f : Forest) → treeCount f ≡ 0 → f ≡ none
 unfolding treeCount
@@ -303,17 +334,17 @@ no-trees (tree n c s) h = absurd (omega arith)
 formula-part : (P : Plan) → planRule P ≡ true → formulaRule (P .sets) (P .formula) ≡ true
 unfolding planRule
 formula-part P h =
-    two (leb 1 (P .ports) && leb (P .ports) 64 && leb 1 (P .sets) && leb (P .sets) 16 && leb 2 (nodeCount (P .formula)) && leb (nodeCount (P .formula)) 512)
-    (formulaRule (P .sets) (P .formula)) (two _ (leb (ownCells P) mostCells) h .0) .1
+    two-true (leb 1 (P .ports) && leb (P .ports) 64 && leb 1 (P .sets) && leb (P .sets) 16 && leb 2 (nodeCount (P .formula)) && leb (nodeCount (P .formula)) 512)
+    (formulaRule (P .sets) (P .formula)) (two-true _ (leb (ownCells P) mostCells) h .0) .1
 
 -- a formula that keeps the rules is a root over one tree
 formula-rooted : (sets : ℕ) (f : Forest) → formulaRule sets f ≡ true → (c : Forest) × (f ≡ tree root c none)
 unfolding formulaRule
 formula-rooted sets none h = absurd (false≢true h)
 formula-rooted sets (tree n c s) h =
-    let a = two (eqb (kindNumber n) 0 && eqb (treeCount s) 0 && arityRule (kindNumber n) (treeCount c)) (everyNode (nodeRule sets) c 0) h in
-    let b = two (eqb (kindNumber n) 0 && eqb (treeCount s) 0) (arityRule (kindNumber n) (treeCount c)) (a .0) in
-    let d = two (eqb (kindNumber n) 0) (eqb (treeCount s) 0) (b .0) in
+    let a = two-true (eqb (kindNumber n) 0 && eqb (treeCount s) 0 && arityRule (kindNumber n) (treeCount c)) (everyNode (nodeRule sets) c 0) h in
+    let b = two-true (eqb (kindNumber n) 0 && eqb (treeCount s) 0) (arityRule (kindNumber n) (treeCount c)) (a .0) in
+    let d = two-true (eqb (kindNumber n) 0) (eqb (treeCount s) 0) (b .0) in
     let r = only-root n (eqb-true _ _ (d .0)) in
     let z = no-trees s (eqb-true _ _ (d .1)) in
     (c, λ i. tree (r i) c (z i))
@@ -348,15 +379,20 @@ refuse-plan l r e h = record {
 
 -- where the records below the root stand
 pub placed-below : (l : List ℕ) → FrontIs l → (x y z : List ℕ) → Room x y z
-    → Placed (belowRoot l (nodesOf l)) 1 0 0 (getD l 5 0) (getD l 6 0) 1 1 x y z
-unfolding headerLength recordLength
+    → Placed (belowRoot l (nodesField l)) 1 0 0 (portsField l) (setsField l) 1 1 x y z
 placed-below l f x y z room = record {
-  few = omega (arith, f .nodes2, f .nodes512, f .whole, length-take-le (9 + 8 * nodesOf l - 17) (drop 17 l) (rw (length-drop 17 l) (omega (arith, f .whole))));
+  few = omega (
+    arith,
+    length-below l f,
+    mul-one recordLength,
+    one-fits recordLength record-pos (nodesField l) (omega (arith, f .nodes2)),
+    span-within recordLength record-pos (nodesField l) 512 (f .nodes512),
+  );
   parents = omega arith;
   ports1 = f .ports1;
   ports64 = f .ports64;
   sets16 = f .sets16;
-  width-is = sym (pow-zero (getD l 5 0));
+  width-is = sym (pow-zero (portsField l));
   depth = omega arith;
   first-low = omega arith;
   room-firsts = room .of-firsts;
@@ -365,9 +401,9 @@ placed-below l f x y z room = record {
 }
 
 -- the numbers as the code reads them
-module _ (l : List ℕ) (f : FrontIs l) (u n K : ℕ) (eu : u ≡ getD l 5 0) (en : n ≡ getD l 6 0) (ek : K ≡ nodesOf l) (rc : Checked)
+module _ (l : List ℕ) (f : FrontIs l) (u n K : ℕ) (eu : u ≡ portsField l) (en : n ≡ setsField l) (ek : K ≡ nodesField l) (rc : Checked)
     (x y z x₁ y₁ z₁ : List ℕ) (judged : Judged (belowRoot l K) 1 0 0 u n 0 1 rc x y z x₁ y₁ z₁) where
-  j : Judged (belowRoot l (nodesOf l)) 1 0 0 (getD l 5 0) (getD l 6 0) 0 1 rc x y z x₁ y₁ z₁
+  j : Judged (belowRoot l (nodesField l)) 1 0 0 (portsField l) (setsField l) 0 1 rc x y z x₁ y₁ z₁
   j = rw (eu, en, ek) at judged
 
   pub bad-below : rc .ok ≡ false → OpenTable l → ⊥
@@ -381,31 +417,30 @@ module _ (l : List ℕ) (f : FrontIs l) (u n K : ℕ) (eu : u ≡ getD l 5 0) (e
   pub bad-total : rc .ok ≡ true → 1048576 ≤ rc .cells → OpenTable l → ⊥
   bad-total q h o =
       let a = j .accepts q in
-      let c = a .2 .cells ∙ ap (λ (g : Forest). cellCount (getD l 5 0) g 0) (same-forest (a .0) (o .below) 1 0 (sym (a .1 .is) ∙ o .parts .is)) in
+      let c = a .2 .cells ∙ ap (λ (g : Forest). cellCount (portsField l) g 0) (same-forest (a .0) (o .below) 1 0 (sym (a .1 .is) ∙ o .parts .is)) in
       omega (arith, o .few)
 
-  pub accept-plan : getD l 7 0 ≡ K % 256 → getD l 8 0 ≡ K / 256 → rc .ok ≡ true → rc .trees ≡ 1 → rc .cells < 1048576 → Room x y z
+  pub accept-plan : Bytes l → rc .ok ≡ true → rc .trees ≡ 1 → rc .cells < 1048576 → Room x y z
       → (x₂ y₂ z₂ : List ℕ) → (x₂ ≡ set x₁ 0 0) × (y₂ ≡ set y₁ 0 K) × (z₂ ≡ set z₁ 0 (rc .uses))
       → (r : Info) → r .ok ≡ true → r .ports ≡ u → r .sets ≡ n → r .nodes ≡ K → r .cells ≡ rc .cells + 1
       → PlanJudged l r x y z x₂ y₂ z₂
-  unfolding firstCells ends usesTable nodeUses childDepth headerLength recordLength
-  accept-plan low high q one few room x₂ y₂ z₂ m r ok ports sets nodes cells =
+  unfolding firstCells ends usesTable nodeUses childDepth
+  accept-plan b q one few room x₂ y₂ z₂ m r ok ports sets nodes cells =
       let a = j .accepts q in
       let c = a .0 in
-      let u′ = getD l 5 0 in
+      let u′ = portsField l in
       let i = a .2 in
-      let t = table-of l c f (low ∙ ap (λ (w : ℕ). w % 256) ek) (high ∙ ap (λ (w : ℕ). w / 256) ek) (a .1) (sym (i .trees) ∙ one) (rw (i .cells) at few) in
-      let kk : K ≡ suc (nodeCount c) =
-      omega (arith, f .nodes2, f .whole, sound-length (a .1), length-take-le (9 + 8 * nodesOf l - 17) (drop 17 l) (rw (length-drop 17 l) (omega (arith, f .whole)))) in
+      let t = table-of l c f b (a .1) (sym (i .trees) ∙ one) (rw (i .cells) at few) in
+      let kk : K ≡ suc (nodeCount c) = ek ∙ count-below l f c (a .1) in
       record {
         accepts = λ _. (
-          rooted u′ (getD l 6 0) c,
-          decode-complete l (rooted u′ (getD l 6 0) c) t,
+          rooted u′ (setsField l) c,
+          decode-complete l (rooted u′ (setsField l) c) t,
           record {
             ports-are = ports ∙ eu;
             sets-are = sets ∙ en;
             nodes-are = nodes ∙ kk ∙ sym (rooted-nodes c);
-            cells-are = cells ∙ ap (λ (w : ℕ). w + 1) (i .cells) ∙ add-one (cellCount u′ c 0) ∙ sym (rooted-cells u′ (getD l 6 0) c);
+            cells-are = cells ∙ ap (λ (w : ℕ). w + 1) (i .cells) ∙ add-one (cellCount u′ c 0) ∙ sym (rooted-cells u′ (setsField l) c);
             firsts-are = table-tree 0 K 0 (firstCells u′ c 1 0) [] x x₁ x₂ x₂ (omega (arith, length-firsts u′ c 1 0)) (omega (arith, room .of-firsts)) (i .firsts-are) (m .0) (sym (laid-nothing x₂ K))
                 ∙ ap (λ (w : ℕ). laid x 0 (0 ∷ (firstCells u′ c w 0 ++ []))) (let e : 1 ≡ 0 + u′ ^ 0 = omega (arith, pow-zero u′) in e);
             ends-are = table-tree 0 K K (ends c 1) [] y y₁ y₂ y₂ (omega (arith, length-ends c 1)) (omega (arith, room .of-ends)) (i .ends-are) (m .1) (sym (laid-nothing y₂ K))

@@ -1,8 +1,14 @@
 -- The plan table's bytes: paper 01, section Plan table. Fields are read and written through the names below only.
+use mathlib.Core.Bool.{Bool, _&&_}
 use mathlib.Core.List.{List, [], _∷_, _++_}
-use Prim.Native.Nat.{ℕ, zero, suc, _+_, _*_, _/_, _%_}
+use Prim.Native.Nat.{ℕ, zero, suc, _+_, _*_, _/_, _%_, _<_}
+use lib.Dec.{eqb}
 use lib.ListN.{getD}
 use Rattle.esol.specs.Formula.{isin, notin, port, size, Node, root, all, any, and, or, lit, Forest, none, tree, Plan, relationNumber, relationOf, kindNumber, nodeCount}
+
+-- Each number of a list is a byte.
+abbrev pub Bytes : List ℕ → Type 0
+Bytes l = (i : ℕ) → getD l i 0 < 256
 
 -- "Header, 9 bytes"; "Then 8 bytes a node".
 unfoldable pub headerLength : ℕ
@@ -31,8 +37,27 @@ aField l = getD l 2 0
 unfoldable pub bField : List ℕ → ℕ
 bField l = getD l 3 0
 
+unfoldable pub parentField : List ℕ → ℕ
+parentField l = word (getD l 4 0) (getD l 5 0)
+
 unfoldable pub endField : List ℕ → ℕ
 endField l = word (getD l 6 0) (getD l 7 0)
+
+-- "mark `PLN`, 16-bit version 1, u, n, 16-bit node count": the fields of the header that a table begins with.
+unfoldable pub marked : List ℕ → Bool
+marked l = eqb (getD l 0 0) 80 && eqb (getD l 1 0) 76 && eqb (getD l 2 0) 78
+
+unfoldable pub versionField : List ℕ → ℕ
+versionField l = word (getD l 3 0) (getD l 4 0)
+
+unfoldable pub portsField : List ℕ → ℕ
+portsField l = getD l 5 0
+
+unfoldable pub setsField : List ℕ → ℕ
+setsField l = getD l 6 0
+
+unfoldable pub nodesField : List ℕ → ℕ
+nodesField l = word (getD l 7 0) (getD l 8 0)
 
 -- "Relation (kinds 7, 8)"; "Unused fields are 0."
 unfoldable pub relationByte : Node → ℕ
@@ -81,9 +106,12 @@ nodeOf (suc (suc (suc (suc (suc (suc zero)))))) r a b = lit (notin a b)
 nodeOf (suc (suc (suc (suc (suc (suc (suc zero))))))) r a b = lit (port (relationOf r) a b)
 nodeOf (suc (suc (suc (suc (suc (suc (suc (suc k)))))))) r a b = lit (size (relationOf r) a b)
 
--- One record: a node, its parent's number and its end.
+-- One record by its fields, and the record of a node by its parent's number and its end.
+unfoldable pub recordBytes : ℕ → ℕ → ℕ → ℕ → ℕ → ℕ → List ℕ
+recordBytes kind relation a b parent end = kind ∷ relation ∷ a ∷ b ∷ (wordBytes parent ++ wordBytes end)
+
 unfoldable pub recordOf : Node → ℕ → ℕ → List ℕ
-recordOf n parent end = kindNumber n ∷ relationByte n ∷ aByte n ∷ bByte n ∷ (wordBytes parent ++ wordBytes end)
+recordOf n parent end = recordBytes (kindNumber n) (relationByte n) (aByte n) (bByte n) parent end
 
 -- "Nodes stand parent first, children in text order, so the records of a subtree stand together, from a node up to its end
 -- (the number of the first node after it)": the records of a forest whose first node is numbered i and whose parent is p.

@@ -2,15 +2,15 @@
 use mathlib.Core.Path.{_≡_}
 use mathlib.Core.Bool.{Bool, true, false, cond, _&&_}
 use mathlib.Core.List.{List, _++_}
-use Prim.Native.Nat.{ℕ, _+_, _*_, _/_, _%_, _^_, _≤_, _<_}
+use Prim.Native.Nat.{ℕ, _+_, _*_, _^_, _≤_, _<_}
 use lib.Dec.{eqb, leb, ltb}
-use lib.ListN.{length, getD, take, drop}
+use lib.ListN.{length, take, drop}
 use Rattle.esol.specs.Formula.{Forest, Plan, nodeCount}
 use Rattle.esol.specs.Cells.{cellCount, ownCells}
 use Rattle.plan.specs.declared.Checked.{Checked}
 use Rattle.plan.specs.declared.Info.{Info}
-use Rattle.plan.specs.Bytes.{headerLength, recordLength, word, kindField, relationField, aField, bField, endField, records}
-use Rattle.plan.specs.Rules.{everyNode, treeCount, maySit, nestingRule, depthRule, nodeRule}
+use Rattle.plan.specs.Bytes.{Bytes, headerLength, recordLength, kindField, relationField, aField, bField, parentField, endField, marked, versionField, portsField, setsField, nodesField, records}
+use Rattle.plan.specs.Rules.{everyNode, treeCount, mayNest, nestingRule, depthRule, nodeRule}
 use Rattle.plan.specs.Decode.{broken, sound, decode}
 use Rattle.plan.specs.Index.{firstCells, ends, forestUses, usesTable}
 
@@ -27,8 +27,8 @@ fieldRule sets d kind r a b =
 -- The rules of a whole record but its end.
 unfoldable pub recordRule : ℕ → ℕ → ℕ → ℕ → List ℕ → Bool
 recordRule sets d above parent l =
-    fieldRule sets d (kindField l) (relationField l) (aField l) (bField l) && depthRule d && maySit above (kindField l)
-    && (eqb (getD l 4 0) (parent % 256) && eqb (getD l 5 0) (parent / 256))
+    fieldRule sets d (kindField l) (relationField l) (aField l) (bField l) && depthRule d && mayNest above (kindField l)
+    && eqb (parentField l) parent
 
 -- The depth and the cells of the children of an inner node of a kind, where it has depth d and width cells.
 unfoldable pub kindDepth : ℕ → ℕ → ℕ
@@ -47,12 +47,11 @@ pub record UsesFit (kind a b : ℕ) : Type 0 where
   pub set : 4 < kind → kind ≤ 6 → b ≤ 15
   pub sized : 7 < kind → a ≤ 15
 
--- A record's end, and its bytes.
-pub record EndIs (l : List ℕ) (r : ℕ) : Type 0 where
-  pub is : r ≡ endField l
+-- A 16-bit field of a part, as it is read from bytes.
+pub record FieldIs (field : List ℕ → ℕ) (l : List ℕ) (r : ℕ) : Type 0 where
+  pub is : r ≡ field l
   pub fits : r < 65536
-  pub low : getD l 6 0 ≡ r % 256
-  pub high : getD l 7 0 ≡ r / 256
+  pub bytes : Bytes l
 
 -- A list with the numbers vs from place i on.
 unfoldable pub laid : List ℕ → ℕ → List ℕ → List ℕ
@@ -76,7 +75,7 @@ pub record Placed (l : List ℕ) (i parent d ports sets width first : ℕ) (firs
 pub record Sound (l : List ℕ) (i parent d sets above : ℕ) (f : Forest) : Type 0 where
   pub is : l ≡ records f i parent
   pub rules : everyNode (nodeRule sets) f d ≡ true
-  pub seats : nestingRule above f ≡ true
+  pub nested : nestingRule above f ≡ true
 
 -- What is known of the forest, and what the index tables hold of it.
 pub record Indexed (i d ports first : ℕ) (f : Forest) (r : Checked) (firsts ends′ uses firsts′ ends″ uses′ : List ℕ) : Type 0 where
@@ -95,21 +94,18 @@ pub record Judged (l : List ℕ) (i parent d ports sets above first : ℕ) (r : 
 -- The rules of a header but its node count, and of the root's record where the plan has so many nodes.
 unfoldable pub headerRule : List ℕ → Bool
 headerRule l =
-    (eqb (getD l 0 0) 80 && eqb (getD l 1 0) 76 && eqb (getD l 2 0) 78) && (eqb (getD l 3 0) 1 && eqb (getD l 4 0) 0)
-    && ((leb 1 (getD l 5 0) && leb (getD l 5 0) 64) && (leb 1 (getD l 6 0) && leb (getD l 6 0) 16))
-
-unfoldable pub wordRule : ℕ → ℕ → ℕ → Bool
-wordRule low high x = eqb low (x % 256) && eqb high (x / 256)
+    marked l && eqb (versionField l) 1
+    && ((leb 1 (portsField l) && leb (portsField l) 64) && (leb 1 (setsField l) && leb (setsField l) 16))
 
 unfoldable pub rootRule : ℕ → List ℕ → Bool
 rootRule nodes l =
-    (eqb (getD l 0 0) 0 && eqb (getD l 1 0) 0 && eqb (getD l 2 0) 0) && eqb (getD l 3 0) 0
-    && (wordRule (getD l 4 0) (getD l 5 0) 65535 && wordRule (getD l 6 0) (getD l 7 0) nodes)
+    (eqb (kindField l) 0 && eqb (relationField l) 0 && eqb (aField l) 0) && eqb (bField l) 0
+    && (eqb (parentField l) 65535 && eqb (endField l) nodes)
 
 -- The header and the root's record keep the rules, and no record is cut off.
 unfoldable pub frontRule : List ℕ → Bool
 frontRule l =
-    let nodes = word (getD l 7 0) (getD l 8 0) in
+    let nodes = nodesField l in
     leb headerLength (length l) && headerRule l && leb 2 nodes && leb nodes 512 && leb (headerLength + recordLength * nodes) (length l)
     && rootRule nodes (drop headerLength l)
 

@@ -4,9 +4,9 @@ use mathlib.Core.Bool.{Bool, true, false, cond, _&&_}
 use mathlib.Core.List.{List, [], _∷_, _++_}
 use Prim.Native.Nat.{ℕ, zero, suc, _+_, _-_, _*_}
 use lib.Dec.{eqb}
-use lib.ListN.{getD, take, drop}
+use lib.ListN.{take, drop}
 use Rattle.esol.specs.Formula.{Forest, none, tree, Plan}
-use Rattle.plan.specs.Bytes.{headerLength, recordLength, word, kindField, relationField, aField, bField, endField, nodeOf, encoding}
+use Rattle.plan.specs.Bytes.{headerLength, recordLength, kindField, relationField, aField, bField, endField, portsField, setsField, nodesField, nodeOf, encoding}
 use Rattle.plan.specs.Rules.{planRule}
 
 -- The table of a plan: the bytes begin with the plan's encoding, and the plan keeps the rules.
@@ -28,15 +28,15 @@ forestOf (suc m) (x ∷ xs) i =
 
 -- "Bytes [..] past a plan's own": how many bytes are the plan's own, by the node count in the header.
 unfoldable pub ownBytes : List ℕ → ℕ
-ownBytes l = headerLength + recordLength * word (getD l 7 0) (getD l 8 0)
+ownBytes l = headerLength + recordLength * nodesField l
 
 -- The plan that bytes would be the table of.
 unfoldable pub candidate : List ℕ → Plan
 candidate bytes =
-    let nodes = word (getD bytes 7 0) (getD bytes 8 0) in
+    let nodes = nodesField bytes in
     record {
-      ports = getD bytes 5 0;
-      sets = getD bytes 6 0;
+      ports = portsField bytes;
+      sets = setsField bytes;
       formula = forestOf nodes (take (recordLength * nodes) (drop headerLength bytes)) 0;
     }
 

@@ -20,12 +20,12 @@ unfoldable pub arityRule : ℕ → ℕ → Bool
 arityRule kind children = cond (leb kind 2) (eqb children 1) (cond (leb kind 4) (leb 2 children) (eqb children 0))
 
 -- "No "and" is a child of "and", no "or" of "or"": by the kind above and the node's kind.
-unfoldable pub maySit : ℕ → ℕ → Bool
-maySit above kind = not (eqb above kind && leb 3 above && leb above 4)
+unfoldable pub mayNest : ℕ → ℕ → Bool
+mayNest above kind = not (eqb above kind && leb 3 above && leb above 4)
 
 unfoldable pub nestingRule : ℕ → Forest → Bool
 nestingRule above none = true
-nestingRule above (tree n c s) = maySit above (kindNumber n) && nestingRule above s
+nestingRule above (tree n c s) = mayNest above (kindNumber n) && nestingRule above s
 
 -- "Depth [..] at most 3."
 unfoldable pub depthRule : ℕ → Bool

@@ -1,11 +1,11 @@
 // The plan table: paper 01, section Plan table.
 ghost use mathlib.Core.Path.{_≡_};
 ghost use mathlib.Core.Bool.{false, _&&_};
-ghost use Prim.Native.Nat.{ℕ, _+_, _*_, _/_, _%_, _^_, _≤_, _<_};
-ghost use lib.ListN.{length, getD, set};
-ghost use Rattle.plan.specs.Bytes.{headerLength, recordLength, word, endField};
-ghost use Rattle.plan.specs.Rules.{arityRule, maySit};
-ghost use Rattle.plan.specs.Check.{fieldRule, recordRule, headerRule, wordRule, rootRule, frontRule, PlanJudged, Room, kindDepth, kindWidth, kindUses, UsesFit, EndIs, Placed, Judged};
+ghost use Prim.Native.Nat.{ℕ, _+_, _*_, _^_, _≤_, _<_};
+ghost use lib.ListN.{length, set};
+ghost use Rattle.plan.specs.Bytes.{headerLength, recordLength, word, kindField, relationField, aField, bField, parentField, endField, marked, versionField, portsField, setsField, nodesField};
+ghost use Rattle.plan.specs.Rules.{arityRule, mayNest};
+ghost use Rattle.plan.specs.Check.{fieldRule, recordRule, headerRule, rootRule, frontRule, PlanJudged, Room, kindDepth, kindWidth, kindUses, UsesFit, FieldIs, Placed, Judged};
 
 // The length of a record, and of the header before the first.
 pub const RECORD: usize = 8;
@@ -46,6 +46,92 @@ fn three(a: bool, b: bool, c: bool) -> bool
     both(both(a, b), c)
 }
 
+// A 16-bit number by its bytes.
+fn word_of(low: u8, high: u8) -> usize
+    ensures { λ r. ⌜ (r ≡ word low high) × (r < 65536) ⌝ }
+{
+    wide(low) + 256 * wide(high)
+}
+
+// The fields of the record that a part begins with.
+pub fn kind_of(part: &[u8]) -> u8
+    requires { ⌜ recordLength ≤ length (now part) ⌝ }
+    ensures { λ r. ⌜ r ≡ kindField (now (part .entry)) ⌝ }
+{
+    part[0]
+}
+
+pub fn relation_of(part: &[u8]) -> u8
+    requires { ⌜ recordLength ≤ length (now part) ⌝ }
+    ensures { λ r. ⌜ r ≡ relationField (now (part .entry)) ⌝ }
+{
+    part[1]
+}
+
+pub fn a_of(part: &[u8]) -> u8
+    requires { ⌜ recordLength ≤ length (now part) ⌝ }
+    ensures { λ r. ⌜ r ≡ aField (now (part .entry)) ⌝ }
+{
+    part[2]
+}
+
+pub fn b_of(part: &[u8]) -> u8
+    requires { ⌜ recordLength ≤ length (now part) ⌝ }
+    ensures { λ r. ⌜ r ≡ bField (now (part .entry)) ⌝ }
+{
+    part[3]
+}
+
+pub fn parent_of(part: &[u8]) -> usize
+    requires { ⌜ recordLength ≤ length (now part) ⌝ }
+    ensures { λ r. ⌜ FieldIs parentField (now (part .entry)) r ⌝ }
+{
+    word_of(part[4], part[5])
+}
+
+pub fn end_of(part: &[u8]) -> usize
+    requires { ⌜ recordLength ≤ length (now part) ⌝ }
+    ensures { λ r. ⌜ FieldIs endField (now (part .entry)) r ⌝ }
+{
+    word_of(part[6], part[7])
+}
+
+// The fields of the header that a table begins with.
+pub fn has_mark(table: &[u8]) -> bool
+    requires { ⌜ headerLength ≤ length (now table) ⌝ }
+    ensures { λ r. ⌜ r ≡ marked (now (table .entry)) ⌝ }
+{
+    three(table[0] == 80, table[1] == 76, table[2] == 78)
+}
+
+pub fn version_of(table: &[u8]) -> usize
+    requires { ⌜ headerLength ≤ length (now table) ⌝ }
+    ensures { λ r. ⌜ FieldIs versionField (now (table .entry)) r ⌝ }
+{
+    word_of(table[3], table[4])
+}
+
+pub fn ports_of(table: &[u8]) -> usize
+    requires { ⌜ headerLength ≤ length (now table) ⌝ }
+    ensures { λ r. ⌜ r ≡ portsField (now (table .entry)) ⌝ }
+{
+    wide(table[5])
+}
+
+pub fn sets_of(table: &[u8]) -> usize
+    requires { ⌜ headerLength ≤ length (now table) ⌝ }
+    ensures { λ r. ⌜ r ≡ setsField (now (table .entry)) ⌝ }
+{
+    wide(table[6])
+}
+
+pub fn nodes_of(table: &[u8]) -> usize
+    requires { ⌜ headerLength ≤ length (now table) ⌝ }
+    ensures { λ r. ⌜ FieldIs nodesField (now (table .entry)) r ⌝ }
+{
+    word_of(table[7], table[8])
+}
+
 // Whether a node's kind, relation, a and b keep the rules.
 fn fields_ok(kind: u8, relation: u8, a: u8, b: u8, sets: usize, depth: usize) -> bool
     ensures { λ r. ⌜ r ≡ fieldRule sets depth kind relation a b ⌝ }
@@ -71,8 +157,8 @@ fn fields_ok(kind: u8, relation: u8, a: u8, b: u8, sets: usize, depth: usize) ->
 }
 
 // Whether a node of a kind may stand directly below one of the kind above.
-fn may_sit(above: u8, kind: u8) -> bool
-    ensures { λ r. ⌜ r ≡ maySit above kind ⌝ }
+fn may_nest(above: u8, kind: u8) -> bool
+    ensures { λ r. ⌜ r ≡ mayNest above kind ⌝ }
 {
     if three(above == kind, 3 <= above, above <= 4) {
         return false;
@@ -98,18 +184,10 @@ fn record_ok(part: &[u8], parent: usize, depth: usize, above: u8, sets: usize) -
     requires { ⌜ recordLength ≤ length (now part) ⌝ }
     ensures { λ r. ⌜ r ≡ recordRule sets depth above parent (now (part .entry)) ⌝ }
 {
-    let fields = fields_ok(part[0], part[1], part[2], part[3], sets, depth);
-    let seat = may_sit(above, part[0]);
-    let up = both(wide(part[4]) == parent % 256, wide(part[5]) == parent / 256);
-    both(three(fields, depth <= 3, seat), up)
-}
-
-// The end of the record that a part begins with.
-pub fn end_of(part: &[u8]) -> usize
-    requires { ⌜ recordLength ≤ length (now part) ⌝ }
-    ensures { λ r. ⌜ EndIs (now (part .entry)) r ⌝ }
-{
-    wide(part[6]) + 256 * wide(part[7])
+    let kind = kind_of(part);
+    let fields = fields_ok(kind, relation_of(part), a_of(part), b_of(part), sets, depth);
+    let nested = may_nest(above, kind);
+    both(three(fields, depth <= 3, nested), parent_of(part) == parent)
 }
 
 pub fn child_depth(kind: u8, depth: usize) -> usize
@@ -228,7 +306,7 @@ fn check_forest(
     if part.len() < span {
         return broken();
     }
-    let kind = part[0];
+    let kind = kind_of(part);
     let below = child_depth(kind, depth);
     let wider = child_width(kind, width, ports);
     let c = check_forest(
@@ -251,7 +329,7 @@ fn check_forest(
     if !arity_ok(kind, c.trees) {
         return broken();
     }
-    let used = uses_of(kind, part[2], part[3]) | c.uses;
+    let used = uses_of(kind, a_of(part), b_of(part)) | c.uses;
     note(i, first, end, used, firsts, ends, uses);
     let s = check_forest(
         &part[span..],
@@ -291,37 +369,19 @@ fn header_ok(table: &[u8]) -> bool
     requires { ⌜ headerLength ≤ length (now table) ⌝ }
     ensures { λ r. ⌜ r ≡ headerRule (now (table .entry)) ⌝ }
 {
-    let mark = three(table[0] == 80, table[1] == 76, table[2] == 78);
-    let version = both(table[3] == 1, table[4] == 0);
-    let ports = both(1 <= table[5], table[5] <= 64);
-    let sets = both(1 <= table[6], table[6] <= 16);
-    three(mark, version, both(ports, sets))
-}
-
-// The node count in the header.
-fn nodes_of(table: &[u8]) -> usize
-    requires { ⌜ headerLength ≤ length (now table) ⌝ }
-    ensures { λ r. ⌜ (r ≡ word (getD (now (table .entry)) 7 0) (getD (now (table .entry)) 8 0)) × (getD (now (table .entry)) 7 0 ≡ r % 256) × (getD (now (table .entry)) 8 0 ≡ r / 256) ⌝ }
-{
-    wide(table[7]) + 256 * wide(table[8])
-}
-
-fn word_is(low: u8, high: u8, x: usize) -> bool
-    ensures { λ r. ⌜ r ≡ wordRule low high x ⌝ }
-{
-    both(wide(low) == x % 256, wide(high) == x / 256)
+    let ports = ports_of(table);
+    let sets = sets_of(table);
+    let counts = both(both(1 <= ports, ports <= 64), both(1 <= sets, sets <= 16));
+    three(has_mark(table), version_of(table) == 1, counts)
 }
 
 fn root_ok(part: &[u8], nodes: usize) -> bool
     requires { ⌜ recordLength ≤ length (now part) ⌝ }
     ensures { λ r. ⌜ r ≡ rootRule nodes (now (part .entry)) ⌝ }
 {
-    let fields = three(part[0] == 0, part[1] == 0, part[2] == 0);
-    let links = both(
-        word_is(part[4], part[5], 65535),
-        word_is(part[6], part[7], nodes),
-    );
-    three(fields, part[3] == 0, links)
+    let fields = three(kind_of(part) == 0, relation_of(part) == 0, a_of(part) == 0);
+    let links = both(parent_of(part) == 65535, end_of(part) == nodes);
+    three(fields, b_of(part) == 0, links)
 }
 
 fn no_plan() -> Info
@@ -367,8 +427,8 @@ pub fn check(table: &[u8], firsts: &mut [u32], ends: &mut [u16], uses: &mut [u64
     if !front_ok(table) {
         return no_plan();
     }
-    let ports = wide(table[5]);
-    let sets = wide(table[6]);
+    let ports = ports_of(table);
+    let sets = sets_of(table);
     let nodes = nodes_of(table);
     let from = HEADER + RECORD;
     let last = HEADER + RECORD * nodes;

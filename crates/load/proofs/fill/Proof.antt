@@ -51,7 +51,7 @@ part-fill-forest-end-2 c = search needs
 fill-forest-requires : tie.Need-fill-forest-requires
 unfolding headerLength recordLength
 fill-forest-requires c κs =
-    let e0 : c .before .before .before .before .before .before .before .before .before .before .args .sets - 0 ≡ c .before .before .before .before .before .before .before .before .before .before .args .sets = omega arith in rw (e0, c .before .before .before .before .before .before .before .before .before .before .pre .ports-are, c .before .before .before .before .before .before .before .before .before .before .pre .sets-are) (placed-plan (c .before .before .before .before .before .before .before .before .before .before .args .table .now) (c .before .before .before .before .before .before .before .before .before .before .pre .plan) (c .before .before .before .before .before .before .before .before .before .before .args .nodes) (c .before .before .before .before .before .before .before .before .before .before .args .masks .now) _ (ready (c .before .before .before .before .before .before .before .before .before .before .args .table .now) (c .before .before .before .before .before .before .before .before .before .before .pre .plan) (c .before .before .before .before .before .before .before .before .before .before .args .nodes) (c .before .before .before .before .before .before .before .before .before .before .pre .decodes) (c .before .before .before .before .before .before .before .before .before .before .pre .nodes-are)) (omega (arith, c .before .before .before .before .before .before .before .before .before .before .pre .own-masks, c .before .before .before .before .before .before .before .before .before .before .pre .sets-are)) (rw (c .before .before .before .before .before .before .before .before .before .before .pre .ports-are, c .before .before .before .before .before .before .before .before .before .before .pre .sets-are) at (c .before .before .before .before .before .before .before .before .before .before .pre .stray)) (omega (arith, c .before .before .before .before .before .put-unit .kept .1 .1 .0, c .before .before .before .before .before .before .before .before .before .before .pre .own-cells)))
+    let e0 : c .before .before .before .before .before .before .before .before .before .before .args .sets - 0 ≡ c .before .before .before .before .before .before .before .before .before .before .args .sets = omega arith in rw (e0, c .before .before .before .before .before .before .before .before .before .before .pre .ports-are, c .before .before .before .before .before .before .before .before .before .before .pre .sets-are) (placed-plan (c .before .before .before .before .before .before .before .before .before .before .args .table .now) (c .before .before .before .before .before .before .before .before .before .before .pre .plan) (c .before .before .before .before .before .before .before .before .before .before .args .nodes) (c .before .before .before .before .before .before .before .before .before .before .args .masks .now) _ (ready (c .before .before .before .before .before .before .before .before .before .before .args .table .now) (c .before .before .before .before .before .before .before .before .before .before .pre .plan) (c .before .before .before .before .before .before .before .before .before .before .args .nodes) (c .before .before .before .before .before .before .before .before .before .before .pre .decodes) (c .before .before .before .before .before .before .before .before .before .before .pre .nodes-are)) (omega (arith, c .before .before .before .before .before .before .before .before .before .before .pre .own-masks, c .before .before .before .before .before .before .before .before .before .before .pre .sets-are)) (rw (c .before .before .before .before .before .before .before .before .before .before .pre .ports-are, c .before .before .before .before .before .before .before .before .before .before .pre .sets-are) at (c .before .before .before .before .before .before .before .before .before .before .pre .within)) (omega (arith, c .before .before .before .before .before .put-unit .kept .1 .1 .0, c .before .before .before .before .before .before .before .before .before .before .pre .own-cells)))
 
 same-length : tie.Need-same-length
 same-length c = search needs

@@ -6,8 +6,8 @@ use lib.ListN.{take}
 use Rattle.esol.specs.Configuration.{ownMasks}
 use Rattle.load.specs.Load.{allWithin}
 use Rattle.load.specs.Fill.{FillsPlan}
-use Rattle.load.proofs.Loading.{ready, within-each}
-use Rattle.load.proofs.Answers.{load-broken, load-few-masks, load-few-cells, load-stray, accepted, load-accepts}
+use Rattle.load.proofs.Loading.{ready}
+use Rattle.load.proofs.Answers.{load-broken, load-few-masks, load-few-cells, load-not-within, accepted, load-accepts}
 use borrow.Author.Needs.{needs}
 use Rattle.load.proofs.load.Statement.{statement}
 use Rattle.load.proofs.load.Tie as tie
@@ -50,11 +50,11 @@ masks-ok-requires c κs =
 returns-4 : tie.Need-returns-4
 unfolding ownMasks
 returns-4 c =
-    load-stray (c .before .before .before .before .before .before .before .before .before .before .before .before .before .before .before .before .args .table .now) (c .before .before .before .before .before .before .before .before .before .before .before .before .before .before .before .before .args .masks .now) (c .before .before .before .before .before .before .before .before .before .before .before .before .before .before .before .before .args .cells .now) ((c .before .before .before .before .before .before .before .before .before .check .ensures .accepts (not-false _ (c .before .before .before .before .if1 .left))) .0) ((c .before .before .before .before .before .before .before .before .before .check .ensures .accepts (not-false _ (c .before .before .before .before .if1 .left))) .1) (omega (arith, ((c .before .before .before .before .before .before .before .before .before .check .ensures .accepts (not-false _ (c .before .before .before .before .if1 .left))) .2) .sets-are, c .before .before .before .if2 .left)) (omega (arith, ((c .before .before .before .before .before .before .before .before .before .check .ensures .accepts (not-false _ (c .before .before .before .before .if1 .left))) .2) .cells-are, c .before .before .if3 .left)) (ap₂ (λ (u n : ℕ). allWithin u (take n (c .before .before .before .before .before .before .before .before .before .before .before .before .before .before .before .before .args .masks .now))) (sym (((c .before .before .before .before .before .before .before .before .before .check .ensures .accepts (not-false _ (c .before .before .before .before .if1 .left))) .2) .ports-are)) (sym (((c .before .before .before .before .before .before .before .before .before .check .ensures .accepts (not-false _ (c .before .before .before .before .if1 .left))) .2) .sets-are)) ∙ sym (c .before .masks-ok .ensures) ∙ not-true _ (c .if4 .taken))
+    load-not-within (c .before .before .before .before .before .before .before .before .before .before .before .before .before .before .before .before .args .table .now) (c .before .before .before .before .before .before .before .before .before .before .before .before .before .before .before .before .args .masks .now) (c .before .before .before .before .before .before .before .before .before .before .before .before .before .before .before .before .args .cells .now) ((c .before .before .before .before .before .before .before .before .before .check .ensures .accepts (not-false _ (c .before .before .before .before .if1 .left))) .0) ((c .before .before .before .before .before .before .before .before .before .check .ensures .accepts (not-false _ (c .before .before .before .before .if1 .left))) .1) (omega (arith, ((c .before .before .before .before .before .before .before .before .before .check .ensures .accepts (not-false _ (c .before .before .before .before .if1 .left))) .2) .sets-are, c .before .before .before .if2 .left)) (omega (arith, ((c .before .before .before .before .before .before .before .before .before .check .ensures .accepts (not-false _ (c .before .before .before .before .if1 .left))) .2) .cells-are, c .before .before .if3 .left)) (ap₂ (λ (u n : ℕ). allWithin u (take n (c .before .before .before .before .before .before .before .before .before .before .before .before .before .before .before .before .args .masks .now))) (sym (((c .before .before .before .before .before .before .before .before .before .check .ensures .accepts (not-false _ (c .before .before .before .before .if1 .left))) .2) .ports-are)) (sym (((c .before .before .before .before .before .before .before .before .before .check .ensures .accepts (not-false _ (c .before .before .before .before .if1 .left))) .2) .sets-are)) ∙ sym (c .before .masks-ok .ensures) ∙ not-true _ (c .if4 .taken))
 
 fill-requires : tie.Need-fill-requires
 fill-requires c κs =
-    record { plan = ((c .before .before .before .before .before .before .before .before .before .before .check .ensures .accepts (not-false _ (c .before .before .before .before .before .if1 .left))) .0); decodes = ((c .before .before .before .before .before .before .before .before .before .before .check .ensures .accepts (not-false _ (c .before .before .before .before .before .if1 .left))) .1); ports-are = ((c .before .before .before .before .before .before .before .before .before .before .check .ensures .accepts (not-false _ (c .before .before .before .before .before .if1 .left))) .2) .ports-are; sets-are = ((c .before .before .before .before .before .before .before .before .before .before .check .ensures .accepts (not-false _ (c .before .before .before .before .before .if1 .left))) .2) .sets-are; nodes-are = ((c .before .before .before .before .before .before .before .before .before .before .check .ensures .accepts (not-false _ (c .before .before .before .before .before .if1 .left))) .2) .nodes-are; own-masks = c .before .before .before .before .if2 .left; stray = within-each (c .before .before .before .before .before .before .before .before .before .before .check .result .ports) (c .before .before .before .before .before .before .before .before .before .before .check .result .sets) (c .before .before .before .before .before .before .before .before .before .before .before .before .before .before .before .before .before .args .masks .now) (c .before .before .before .before .if2 .left) (sym (c .before .before .masks-ok .ensures) ∙ not-false _ (c .before .if4 .left)); own-cells = omega (arith, ((c .before .before .before .before .before .before .before .before .before .before .check .ensures .accepts (not-false _ (c .before .before .before .before .before .if1 .left))) .2) .cells-are, c .before .before .before .if3 .left) }
+    record { plan = ((c .before .before .before .before .before .before .before .before .before .before .check .ensures .accepts (not-false _ (c .before .before .before .before .before .if1 .left))) .0); decodes = ((c .before .before .before .before .before .before .before .before .before .before .check .ensures .accepts (not-false _ (c .before .before .before .before .before .if1 .left))) .1); ports-are = ((c .before .before .before .before .before .before .before .before .before .before .check .ensures .accepts (not-false _ (c .before .before .before .before .before .if1 .left))) .2) .ports-are; sets-are = ((c .before .before .before .before .before .before .before .before .before .before .check .ensures .accepts (not-false _ (c .before .before .before .before .before .if1 .left))) .2) .sets-are; nodes-are = ((c .before .before .before .before .before .before .before .before .before .before .check .ensures .accepts (not-false _ (c .before .before .before .before .before .if1 .left))) .2) .nodes-are; own-masks = c .before .before .before .before .if2 .left; within = sym (c .before .before .masks-ok .ensures) ∙ not-false _ (c .before .if4 .left); own-cells = omega (arith, ((c .before .before .before .before .before .before .before .before .before .before .check .ensures .accepts (not-false _ (c .before .before .before .before .before .if1 .left))) .2) .cells-are, c .before .before .before .if3 .left) }
 
 slice-read-t25 : tie.Need-slice-read-t25
 slice-read-t25 c =

@@ -5,7 +5,8 @@ use native.Mathlib.Omega.{arith}
 use lib.ListN.{drop}
 use Rattle.esol.proofs.Tables.{tabulate-cong}
 use Rattle.load.specs.Joined.{unitOf}
-use Rattle.load.specs.Fill.{config, NoStray, started}
+use Rattle.load.specs.Fill.{config, started}
+use Rattle.load.proofs.Loading.{within-at}
 use Rattle.load.proofs.Starting.{start-literal, start-inner, kind-low}
 use borrow.Author.Needs.{needs}
 use Rattle.load.proofs.start_cells.Statement.{statement}
@@ -17,9 +18,8 @@ use Rattle.load.proofs.join_of.Reads as join-of-reads
 use Rattle.load.proofs.put_unit.Reads as put-unit-reads
 
 put-literal-requires : tie.Need-put-literal-requires
-unfolding NoStray
 put-literal-requires c κs =
-    record { kind5 = c .before .if1 .taken; kind8 = kind-low _ _ _ _ _ _ (c .before .before .before .before .pre .fields); fields = c .before .before .before .before .pre .fields; all-masks = c .before .before .before .before .pre .sets-masks; within = c .before .before .before .before .pre .stray; ports1 = c .before .before .before .before .pre .ports1; ports64 = c .before .before .before .before .pre .ports64; depth3 = c .before .before .before .before .pre .depth3; width-is = c .before .before .before .before .pre .width-is; room = c .before .before .before .before .pre .room }
+    record { kind5 = c .before .if1 .taken; kind8 = kind-low _ _ _ _ _ _ (c .before .before .before .before .pre .fields); fields = c .before .before .before .before .pre .fields; all-masks = c .before .before .before .before .pre .sets-masks; within = λ S q. within-at (c .before .before .before .before .args .ports) (c .before .before .before .before .args .masks .now) (c .before .before .before .before .pre .within) S (omega (arith, c .before .before .before .before .pre .sets-masks)); ports1 = c .before .before .before .before .pre .ports1; ports64 = c .before .before .before .before .pre .ports64; depth3 = c .before .before .before .before .pre .depth3; width-is = c .before .before .before .before .pre .width-is; room = c .before .before .before .before .pre .room }
 
 same-length : tie.Need-same-length
 same-length c = search needs

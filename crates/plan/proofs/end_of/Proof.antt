@@ -1,47 +1,31 @@
 use native.Mathlib.Omega.{arith}
-use Rattle.plan.specs.Bytes.{recordLength}
-use Rattle.plan.proofs.Fields.{end-is}
+use Rattle.plan.specs.Bytes.{recordLength, endField}
 use borrow.Author.Needs.{needs}
 use Rattle.plan.proofs.end_of.Statement.{statement}
 use Rattle.plan.proofs.end_of.Tie as tie
 use Rattle.plan.proofs.end_of.Reads as reads
 use Rattle.plan.proofs.end_of.Lts as lts
-use Rattle.plan.proofs.wide.Reads as wide-reads
+use Rattle.plan.proofs.word_of.Reads as word-of-reads
 
-shared-slice-read-wide : tie.Need-shared-slice-read-wide
+shared-slice-read-word-of : tie.Need-shared-slice-read-word-of
 unfolding recordLength
-shared-slice-read-wide c =
+shared-slice-read-word-of c =
     omega arith
 
-wide-requires : tie.Need-wide-requires
-wide-requires c κs = search needs
-
-shared-slice-read-wide-2 : tie.Need-shared-slice-read-wide-2
+shared-slice-read-word-of-2 : tie.Need-shared-slice-read-word-of-2
 unfolding recordLength
-shared-slice-read-wide-2 c =
+shared-slice-read-word-of-2 c =
     omega arith
 
-wide-requires-2 : tie.Need-wide-requires-2
-wide-requires-2 c κs = search needs
-
-mul-result : tie.Need-mul-result
-mul-result c = search needs
-
-add-result : tie.Need-add-result
-add-result c = search needs
+word-of-requires : tie.Need-word-of-requires
+word-of-requires c κs = search needs
 
 returns : tie.Need-returns
+unfolding endField
 returns c =
-    end-is _ _ _ (c .before .before .wide .ensures .0) (c .before .before .wide .ensures .1) (c .wide2 .ensures .0) (c .wide2 .ensures .1)
+    record { is = c .word-of .ensures .0; fits = c .word-of .ensures .1; bytes = λ i. c .before .before .before .shared-slice-known .given i .fits }
 
 pub end-of-spec : {M : Type 1} → statement M
 end-of-spec =
     tie.close
-    (tie.spec
-    shared-slice-read-wide
-    wide-requires
-    shared-slice-read-wide-2
-    wide-requires-2
-    mul-result
-    add-result
-    returns)
+    (tie.spec shared-slice-read-word-of shared-slice-read-word-of-2 word-of-requires returns)

@@ -3,7 +3,7 @@ use native.Mathlib.Omega.{arith}
 use borrow.Author.Tests.{le-leb, lt-leb, not-true, not-false}
 use Rattle.plan.specs.Bytes.{headerLength, recordLength}
 use Rattle.plan.specs.Check.{rootRule, frontRule}
-use Rattle.plan.proofs.Whole.{rest-all}
+use Rattle.plan.proofs.Parts.{rest-all}
 use borrow.Author.Needs.{needs}
 use Rattle.plan.proofs.front_ok.Statement.{statement}
 use Rattle.plan.proofs.front_ok.Tie as tie
@@ -36,32 +36,37 @@ nodes-of-requires c κs =
 returns-3 : tie.Need-returns-3
 unfolding frontRule headerLength
 returns-3 c =
-    rw (← (c .before .nodes-of .ensures .0), le-leb _ _ (c .before .before .before .before .if1 .left), sym (c .before .before .before .header-ok .ensures) ∙ not-false _ (c .before .before .if2 .left), lt-leb _ _ (c .if3 .taken))
+    rw (← (c .before .nodes-of .ensures .is), le-leb _ _ (c .before .before .before .before .if1 .left), sym (c .before .before .before .header-ok .ensures) ∙ not-false _ (c .before .before .if2 .left), lt-leb _ _ (c .if3 .taken))
 
 returns-4 : tie.Need-returns-4
 unfolding frontRule headerLength
 returns-4 c =
-    rw (← (c .before .before .nodes-of .ensures .0), le-leb _ _ (c .before .before .before .before .before .if1 .left), sym (c .before .before .before .before .header-ok .ensures) ∙ not-false _ (c .before .before .before .if2 .left), le-leb _ _ (c .before .if3 .left), lt-leb _ _ (c .if4 .taken))
+    rw (← (c .before .before .nodes-of .ensures .is), le-leb _ _ (c .before .before .before .before .before .if1 .left), sym (c .before .before .before .before .header-ok .ensures) ∙ not-false _ (c .before .before .before .if2 .left), le-leb _ _ (c .before .if3 .left), lt-leb _ _ (c .if4 .taken))
 
 mul-if5 : tie.Need-mul-if5
-mul-if5 c = search needs
+mul-if5 c =
+    search needs
 
 add-if5 : tie.Need-add-if5
-add-if5 c = search needs
+add-if5 c =
+    search needs
 
 returns-5 : tie.Need-returns-5
 unfolding frontRule headerLength recordLength
 returns-5 c =
-    rw (← (c .before .before .before .nodes-of .ensures .0), le-leb _ _ (c .before .before .before .before .before .before .if1 .left), sym (c .before .before .before .before .before .header-ok .ensures) ∙ not-false _ (c .before .before .before .before .if2 .left), le-leb _ _ (c .before .before .if3 .left), le-leb _ _ (c .before .if4 .left), lt-leb _ _ (c .if5 .taken))
+    rw (← (c .before .before .before .nodes-of .ensures .is), le-leb _ _ (c .before .before .before .before .before .before .if1 .left), sym (c .before .before .before .before .before .header-ok .ensures) ∙ not-false _ (c .before .before .before .before .if2 .left), le-leb _ _ (c .before .before .if3 .left), le-leb _ _ (c .before .if4 .left), lt-leb _ _ (c .if5 .taken))
 
 sub-root-ok : tie.Need-sub-root-ok
-sub-root-ok c = search needs
+sub-root-ok c =
+    search needs
 
 part-root-ok-start : tie.Need-part-root-ok-start
-part-root-ok-start c = search needs
+part-root-ok-start c =
+    search needs
 
 part-root-ok-end : tie.Need-part-root-ok-end
-part-root-ok-end c = search needs
+part-root-ok-end c =
+    search needs
 
 root-ok-requires : tie.Need-root-ok-requires
 unfolding recordLength
@@ -71,7 +76,7 @@ root-ok-requires c κs =
 returns-6 : tie.Need-returns-6
 unfolding frontRule headerLength recordLength
 returns-6 c =
-    rw (← (c .before .before .before .before .before .nodes-of .ensures .0), le-leb _ _ (c .before .before .before .before .before .before .before .before .if1 .left), sym (c .before .before .before .before .before .before .before .header-ok .ensures) ∙ not-false _ (c .before .before .before .before .before .before .if2 .left), le-leb _ _ (c .before .before .before .before .if3 .left), le-leb _ _ (c .before .before .before .if4 .left), le-leb _ _ (c .before .before .if5 .left)) (c .root-ok .ensures ∙ ap (rootRule (c .before .before .before .before .before .nodes-of .result)) (rest-all 9 (c .before .before .before .before .before .before .before .before .before .before .args .table .now)))
+    rw (← (c .before .before .before .before .before .nodes-of .ensures .is), le-leb _ _ (c .before .before .before .before .before .before .before .before .if1 .left), sym (c .before .before .before .before .before .before .before .header-ok .ensures) ∙ not-false _ (c .before .before .before .before .before .before .if2 .left), le-leb _ _ (c .before .before .before .before .if3 .left), le-leb _ _ (c .before .before .before .if4 .left), le-leb _ _ (c .before .before .if5 .left)) (c .root-ok .ensures ∙ ap (rootRule (c .before .before .before .before .before .nodes-of .result)) (rest-all headerLength (c .before .before .before .before .before .before .before .before .before .before .args .table .now)))
 
 pub front-ok-spec : {M : Type 1} → statement M
 front-ok-spec =

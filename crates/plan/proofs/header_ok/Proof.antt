@@ -1,5 +1,3 @@
-use native.Mathlib.Omega.{arith}
-use Rattle.plan.specs.Bytes.{headerLength}
 use Rattle.plan.specs.Check.{headerRule}
 use borrow.Author.Needs.{needs}
 use Rattle.plan.proofs.header_ok.Statement.{statement}
@@ -7,70 +5,35 @@ use Rattle.plan.proofs.header_ok.Tie as tie
 use Rattle.plan.proofs.header_ok.Reads as reads
 use Rattle.plan.proofs.header_ok.Lts as lts
 use Rattle.plan.proofs.both.Reads as both-reads
+use Rattle.plan.proofs.has_mark.Reads as has-mark-reads
+use Rattle.plan.proofs.ports_of.Reads as ports-of-reads
+use Rattle.plan.proofs.sets_of.Reads as sets-of-reads
 use Rattle.plan.proofs.three.Reads as three-reads
+use Rattle.plan.proofs.version_of.Reads as version-of-reads
 
-shared-slice-read-three : tie.Need-shared-slice-read-three
-unfolding headerLength
-shared-slice-read-three c =
-    omega arith
+ports-of-requires : tie.Need-ports-of-requires
+ports-of-requires c κs = search needs
 
-shared-slice-read-three-2 : tie.Need-shared-slice-read-three-2
-unfolding headerLength
-shared-slice-read-three-2 c =
-    omega arith
-
-shared-slice-read-three-3 : tie.Need-shared-slice-read-three-3
-unfolding headerLength
-shared-slice-read-three-3 c =
-    omega arith
-
-three-requires : tie.Need-three-requires
-three-requires c κs = search needs
-
-shared-slice-read-both : tie.Need-shared-slice-read-both
-unfolding headerLength
-shared-slice-read-both c =
-    omega arith
-
-shared-slice-read-both-2 : tie.Need-shared-slice-read-both-2
-unfolding headerLength
-shared-slice-read-both-2 c =
-    omega arith
+sets-of-requires : tie.Need-sets-of-requires
+sets-of-requires c κs = search needs
 
 both-requires : tie.Need-both-requires
 both-requires c κs = search needs
 
-shared-slice-read-both-3 : tie.Need-shared-slice-read-both-3
-unfolding headerLength
-shared-slice-read-both-3 c =
-    omega arith
-
-shared-slice-read-both-4 : tie.Need-shared-slice-read-both-4
-unfolding headerLength
-shared-slice-read-both-4 c =
-    omega arith
-
 both-requires-2 : tie.Need-both-requires-2
 both-requires-2 c κs = search needs
-
-shared-slice-read-both-5 : tie.Need-shared-slice-read-both-5
-unfolding headerLength
-shared-slice-read-both-5 c =
-    omega arith
-
-shared-slice-read-both-6 : tie.Need-shared-slice-read-both-6
-unfolding headerLength
-shared-slice-read-both-6 c =
-    omega arith
 
 both-requires-3 : tie.Need-both-requires-3
 both-requires-3 c κs = search needs
 
-both-requires-4 : tie.Need-both-requires-4
-both-requires-4 c κs = search needs
+has-mark-requires : tie.Need-has-mark-requires
+has-mark-requires c κs = search needs
 
-three-requires-2 : tie.Need-three-requires-2
-three-requires-2 c κs = search needs
+version-of-requires : tie.Need-version-of-requires
+version-of-requires c κs = search needs
+
+three-requires : tie.Need-three-requires
+three-requires c κs = search needs
 
 returns : tie.Need-returns
 unfolding headerRule
@@ -81,19 +44,12 @@ pub header-ok-spec : {M : Type 1} → statement M
 header-ok-spec =
     tie.close
     (tie.spec
-    shared-slice-read-three
-    shared-slice-read-three-2
-    shared-slice-read-three-3
-    three-requires
-    shared-slice-read-both
-    shared-slice-read-both-2
+    ports-of-requires
+    sets-of-requires
     both-requires
-    shared-slice-read-both-3
-    shared-slice-read-both-4
     both-requires-2
-    shared-slice-read-both-5
-    shared-slice-read-both-6
     both-requires-3
-    both-requires-4
-    three-requires-2
+    has-mark-requires
+    version-of-requires
+    three-requires
     returns)

@@ -1,0 +1,5 @@
+pub mod MoveCall
+pub mod TrialCall
+pub mod ImproveCall
+pub mod Book
+pub mod Lists

@@ -1,0 +1,20 @@
+use mathlib.Core.Path.{refl}
+use native.Mathlib.Omega.{arith}
+use Rattle.plan.specs.Bytes.{recordLength, aField}
+use Rattle.plan.proofs.a_of.Statement.{statement}
+use Rattle.plan.proofs.a_of.Tie as tie
+use Rattle.plan.proofs.a_of.Reads as reads
+use Rattle.plan.proofs.a_of.Lts as lts
+
+shared-slice-read-result : tie.Need-shared-slice-read-result
+unfolding recordLength
+shared-slice-read-result c =
+    omega arith
+
+returns : tie.Need-returns
+unfolding aField
+returns c =
+    refl
+
+pub a-of-spec : {M : Type 1} → statement M
+a-of-spec = tie.close (tie.spec shared-slice-read-result returns)

@@ -1,0 +1,20 @@
+use mathlib.Core.Path.{refl}
+use native.Mathlib.Omega.{arith}
+use Rattle.plan.specs.Bytes.{recordLength, bField}
+use Rattle.plan.proofs.b_of.Statement.{statement}
+use Rattle.plan.proofs.b_of.Tie as tie
+use Rattle.plan.proofs.b_of.Reads as reads
+use Rattle.plan.proofs.b_of.Lts as lts
+
+shared-slice-read-result : tie.Need-shared-slice-read-result
+unfolding recordLength
+shared-slice-read-result c =
+    omega arith
+
+returns : tie.Need-returns
+unfolding bField
+returns c =
+    refl
+
+pub b-of-spec : {M : Type 1} → statement M
+b-of-spec = tie.close (tie.spec shared-slice-read-result returns)

@@ -1,0 +1,20 @@
+use mathlib.Core.Path.{refl}
+use native.Mathlib.Omega.{arith}
+use Rattle.plan.specs.Bytes.{recordLength, kindField}
+use Rattle.plan.proofs.kind_of.Statement.{statement}
+use Rattle.plan.proofs.kind_of.Tie as tie
+use Rattle.plan.proofs.kind_of.Reads as reads
+use Rattle.plan.proofs.kind_of.Lts as lts
+
+shared-slice-read-result : tie.Need-shared-slice-read-result
+unfolding recordLength
+shared-slice-read-result c =
+    omega arith
+
+returns : tie.Need-returns
+unfolding kindField
+returns c =
+    refl
+
+pub kind-of-spec : {M : Type 1} → statement M
+kind-of-spec = tie.close (tie.spec shared-slice-read-result returns)

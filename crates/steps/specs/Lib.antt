@@ -1,0 +1,3 @@
+pub mod Nodes
+pub mod Root
+pub mod Visit

@@ -1,0 +1,17 @@
+use mathlib.Core.Path.{refl}
+use borrow.Author.Tests.{le-leb, lt-leb}
+use Rattle.trial.proofs.is_quantifier.Statement.{statement}
+use Rattle.trial.proofs.is_quantifier.Tie as tie
+use Rattle.trial.proofs.is_quantifier.Reads as reads
+use Rattle.trial.proofs.is_quantifier.Lts as lts
+
+returns : tie.Need-returns
+returns c =
+    rw (le-leb _ _ (c .if1 .taken)) refl
+
+returns-2 : tie.Need-returns-2
+returns-2 c =
+    rw (lt-leb _ _ (c .if1 .left)) refl
+
+pub is-quantifier-spec : {M : Type 1} → statement M
+is-quantifier-spec = tie.close (tie.spec returns returns-2)
