@@ -1,0 +1,78 @@
+//! compare [ROUNDS [SEED]]: compares the proved engine with the second evaluator over random texts, tables and cells.
+//! compare --damage [ROUNDS [SEED]]: changes one word after every call, and fails unless each change is reported.
+//! compare --lists [CALLS [SEED]]: the driver of lists of calls, run by the second evaluator itself until the engine has them.
+use std::process::ExitCode;
+
+use vuyekhang::compare::{missed, one_round, Counts, Damage, Target};
+use vuyekhang::lists;
+use vuyekhang::random::Random;
+use vuyekhang::with_stack;
+
+const QUICK_ROUNDS: u64 = 20_000;
+const QUICK_CALLS: u64 = 5_000;
+
+fn main() -> ExitCode {
+    let words: Vec<String> = std::env::args().skip(1).collect();
+    let mode = words.first().filter(|w| w.starts_with("--")).cloned().unwrap_or_default();
+    let numbers: Vec<u64> = words.iter().skip(usize::from(!mode.is_empty())).map(|w| w.parse().expect("a number")).collect();
+    let amount = |quick: u64| numbers.first().copied().unwrap_or(quick);
+    let seed = numbers.get(1).copied().unwrap_or(1);
+    println!("seed {seed}");
+    let failed = match mode.as_str() {
+        "" => { let rounds = amount(QUICK_ROUNDS); with_stack(move || rounds_fail(rounds, seed)) }
+        "--damage" => { let rounds = amount(300); with_stack(move || damage_unseen(rounds, seed)) }
+        "--lists" => { let calls = amount(QUICK_CALLS); with_stack(move || lists_fail(calls, seed)) }
+        _ => panic!("unknown mode {mode}"),
+    };
+    ExitCode::from(u8::from(failed))
+}
+
+fn print(counts: &Counts) {
+    for (class, count) in &counts.0 {
+        println!("{class:30} {count:9}");
+    }
+}
+
+/// Each round has its own seed, so that one difference can be looked at alone: `compare 1 SEED`.
+fn rounds_fail(rounds: u64, seed: u64) -> bool {
+    let mut counts = Counts::default();
+    for round in 0..rounds {
+        let own = seed.wrapping_add(round);
+        if let Err(difference) = one_round(&mut Random::new(own), &mut counts, &mut Damage::to(Target::Nothing)) {
+            println!("difference in round {round}, seed {own}: {difference}");
+            return true;
+        }
+    }
+    print(&counts);
+    let missed = missed(&counts);
+    missed.iter().for_each(|m| println!("too seldom: {m}"));
+    println!("{rounds} rounds, {} texts, {} loads: no difference", counts.of("texts"), counts.of("loads"));
+    !missed.is_empty()
+}
+
+/// Fails unless every round in which a byte or a cell was changed ends in a difference.
+fn damage_unseen(rounds: u64, seed: u64) -> bool {
+    unseen("bytes", || Target::Bytes, rounds, seed) || unseen("cells", || Target::Cells, rounds, seed)
+}
+
+fn unseen(what: &str, target: fn() -> Target, rounds: u64, seed: u64) -> bool {
+    let (mut damaged, mut reported) = (0, 0);
+    for round in 0..rounds {
+        let mut damage = Damage::to(target());
+        let result = one_round(&mut Random::new(seed.wrapping_add(round)), &mut Counts::default(), &mut damage);
+        damaged += u64::from(damage.done > 0);
+        reported += u64::from(result.is_err());
+    }
+    println!("{what}: {damaged} rounds damaged, {reported} reported");
+    damaged == 0 || damaged != reported
+}
+
+fn lists_fail(calls: u64, seed: u64) -> bool {
+    let mut counts = Counts::default();
+    let result = lists::run(&lists::Second, calls, seed, &mut counts);
+    print(&counts);
+    if let Err(difference) = &result {
+        println!("difference: {difference}");
+    }
+    result.is_err()
+}
