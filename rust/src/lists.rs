@@ -200,6 +200,7 @@ pub fn run(calls: &dyn Calls, amount: u64, seed: u64, counts: &mut Counts) -> Co
     while done < amount {
         let r = &mut Random::new(seed.wrapping_mul(1_000_003).wrapping_add(list));
         let mut d = desk(r);
+        counts.met(if d.foreign { "lists from foreign cells" } else { "lists from a load" });
         for call in 0..100 {
             let result = match r.below(10) {
                 0..=5 => one_move(calls, &mut d, r, counts),
@@ -212,6 +213,16 @@ pub fn run(calls: &dyn Calls, amount: u64, seed: u64, counts: &mut Counts) -> Co
         }
         list += 1;
     }
-    counts.met("lists ended");
     Ok(())
+}
+
+/// Classes that a run of the lists must meet a hundred times.
+pub fn missed(counts: &Counts) -> Vec<String> {
+    let kinds = ["add", "drop", "transfer", "swap"];
+    let mut wanted: Vec<String> = kinds.iter().flat_map(|k| ["accepted", "refused 14", "refused 15"].map(|o| format!("move {k}: {o}"))).collect();
+    wanted.extend((11..=13).map(|n| format!("move over damaged tables: refused {n}")));
+    wanted.extend(["accepted", "refused 12", "refused 14", "refused 15"].map(|o| format!("trial: {o}")));
+    wanted.extend(["made", "no better move", "refused 12", "refused 14"].map(|o| format!("improve: {o}")));
+    let met = |class: &str| counts.0.iter().filter(|(c, _)| c.starts_with(class)).map(|(_, n)| n).sum::<u64>();
+    wanted.into_iter().filter(|class| met(class) < 100).map(|class| format!("{class}: met {} times, not 100", met(&class))).collect()
 }

@@ -9,21 +9,23 @@ use vuyekhang::random::Random;
 use vuyekhang::with_stack;
 
 const QUICK_ROUNDS: u64 = 20_000;
-const QUICK_CALLS: u64 = 5_000;
+const QUICK_CALLS: u64 = 20_000;
+const QUICK_DAMAGES: u64 = 1_000;
 
 fn main() -> ExitCode {
     let words: Vec<String> = std::env::args().skip(1).collect();
     let mode = words.first().filter(|w| w.starts_with("--")).cloned().unwrap_or_default();
     let numbers: Vec<u64> = words.iter().skip(usize::from(!mode.is_empty())).map(|w| w.parse().expect("a number")).collect();
-    let amount = |quick: u64| numbers.first().copied().unwrap_or(quick);
-    let seed = numbers.get(1).copied().unwrap_or(1);
-    println!("seed {seed}");
-    let failed = match mode.as_str() {
-        "" => { let rounds = amount(QUICK_ROUNDS); with_stack(move || rounds_fail(rounds, seed)) }
-        "--damage" => { let rounds = amount(300); with_stack(move || damage_unseen(rounds, seed)) }
-        "--lists" => { let calls = amount(QUICK_CALLS); with_stack(move || lists_fail(calls, seed)) }
+    let (run, quick): (fn(u64, u64) -> bool, u64) = match mode.as_str() {
+        "" => (rounds_fail, QUICK_ROUNDS),
+        "--damage" => (damage_unseen, QUICK_DAMAGES),
+        "--lists" => (lists_fail, QUICK_CALLS),
         _ => panic!("unknown mode {mode}"),
     };
+    let amount = numbers.first().copied().unwrap_or(quick);
+    let seed = numbers.get(1).copied().unwrap_or(1);
+    println!("seed {seed}");
+    let failed = with_stack(move || run(amount, seed));
     ExitCode::from(u8::from(failed))
 }
 
@@ -44,9 +46,12 @@ fn rounds_fail(rounds: u64, seed: u64) -> bool {
         }
     }
     print(&counts);
-    let missed = missed(&counts);
-    missed.iter().for_each(|m| println!("too seldom: {m}"));
     println!("{rounds} rounds, {} texts, {} loads: no difference", counts.of("texts"), counts.of("loads"));
+    too_seldom(&missed(&counts))
+}
+
+fn too_seldom(missed: &[String]) -> bool {
+    missed.iter().for_each(|m| println!("too seldom: {m}"));
     !missed.is_empty()
 }
 
@@ -69,10 +74,11 @@ fn unseen(what: &str, target: fn() -> Target, rounds: u64, seed: u64) -> bool {
 
 fn lists_fail(calls: u64, seed: u64) -> bool {
     let mut counts = Counts::default();
-    let result = lists::run(&lists::Second, calls, seed, &mut counts);
-    print(&counts);
-    if let Err(difference) = &result {
+    if let Err(difference) = lists::run(&lists::Second, calls, seed, &mut counts) {
         println!("difference: {difference}");
+        return true;
     }
-    result.is_err()
+    print(&counts);
+    println!("{calls} calls in lists, by the second evaluator on both sides: no difference");
+    too_seldom(&lists::missed(&counts))
 }
