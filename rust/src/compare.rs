@@ -2,9 +2,9 @@
 //! stands past a plan's own.
 use std::collections::BTreeMap;
 
-use crate::random::{any_text, damage_table, masks, Random};
+use crate::random::{any_text, damage_plan, damage_table, masks, Random};
 use crate::second::penalty::{cells as cells_of, text_true};
-use crate::second::table::{decode, encode, Plan, HEADER, RECORD};
+use crate::second::table::{decode, encode, judge, Plan, HEADER, RECORD, RULES};
 use crate::second::text::{read as second_read, Accepted, RELATIONS};
 use crate::second::{moves::tables, table};
 use crate::{load, node_part, read, Part};
@@ -224,14 +224,25 @@ fn one_truth(accepted: &Accepted, masks: &[u64], counts: &mut Counts) -> Compare
     Ok(())
 }
 
-fn one_damaged_table(plan: &Plan, r: &mut Random, counts: &mut Counts, damage: &mut Damage) -> Compared<()> {
+/// Half of the damage is to bytes, half to the plan's tree: the first finds what holds the table together, the second the rules
+/// behind that.
+fn damaged(plan: &Plan, r: &mut Random) -> Vec<u8> {
+    if r.chance(50) {
+        return encode(&damage_plan(plan, r));
+    }
     let mut bytes = encode(plan);
-    for _ in 0..1 + r.below(3) {
+    for _ in 0..1 + r.below(2) {
         damage_table(&mut bytes, r);
     }
+    bytes
+}
+
+fn one_damaged_table(plan: &Plan, r: &mut Random, counts: &mut Counts, damage: &mut Damage) -> Compared<()> {
+    let bytes = damaged(plan, r);
     counts.met("damaged tables");
     // Damage may leave a sound table of many more cells; its own masks and cells are then made for it.
-    let now = decode(&bytes);
+    let now = judge(&bytes);
+    counts.met(now.as_ref().map_or_else(|rule| format!("broken: {rule}"), |_| "damaged and sound".to_string()));
     let fits = now.as_ref().unwrap_or(plan);
     if fits.cells() > SOMETIMES {
         return Ok(());
@@ -245,11 +256,12 @@ pub fn missed(counts: &Counts) -> Vec<String> {
     let mut wanted: Vec<(String, u64)> = vec![("read accepted".into(), counts.of("texts") * 30 / 100)];
     wanted.extend((1..=10).chain([12]).map(|n| (format!("read {n:02}"), 100)));
     wanted.extend((11..=13).map(|n| (format!("load {n}"), 100)));
+    wanted.extend(RULES.map(|rule| (format!("broken: {rule}"), 20)));
     wanted.extend((0..=3).map(|d| (format!("depth {d}"), 100)));
     wanted.extend((1..=16).map(|n| (format!("sets {n:02}"), 20)));
     wanted.extend((1..=64).map(|u| (format!("ports {u:02}"), 10)));
     wanted.extend(RELATIONS.iter().flat_map(|r| [format!("size {r}"), format!("ports compared by {r}")]).map(|c| (c, 100)));
-    wanted.extend(["load accepted", "true", "false", "damaged tables"].map(|c| (c.to_string(), 100)));
+    wanted.extend(["load accepted", "true", "false", "damaged and sound"].map(|c| (c.to_string(), 100)));
     wanted.extend(["broken table", "short cells", "no such node", "a part"].map(|c| (format!("node cells: {c}"), 100)));
     wanted
         .into_iter()

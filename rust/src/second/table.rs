@@ -48,13 +48,18 @@ pub fn encode(plan: &Plan) -> Vec<u8> {
     bytes
 }
 
-fn header(bytes: &[u8]) -> Option<(usize, usize, usize)> {
-    if bytes.len() < HEADER || &bytes[..3] != b"PLN" || word(bytes, 3) != 1 {
-        return None;
-    }
+/// Ports, sets and node count, or the rule that the header breaks.
+fn header(bytes: &[u8]) -> Result<(usize, usize, usize), &'static str> {
+    let rule = |keeps: bool, name: &'static str| if keeps { Ok(()) } else { Err(name) };
+    rule(bytes.len() >= HEADER, "header cut short")?;
+    rule(&bytes[..3] == b"PLN", "mark")?;
+    rule(word(bytes, 3) == 1, "version")?;
     let (u, n, count) = (usize::from(bytes[5]), usize::from(bytes[6]), usize::from(word(bytes, 7)));
-    let sound = (1..=64).contains(&u) && (1..=16).contains(&n) && (2..=512).contains(&count);
-    (sound && bytes.len() >= HEADER + RECORD * count).then_some((u, n, count))
+    rule((1..=64).contains(&u), "ports")?;
+    rule((1..=16).contains(&n), "sets")?;
+    rule((2..=512).contains(&count), "node count")?;
+    rule(bytes.len() >= HEADER + RECORD * count, "records cut short")?;
+    Ok((u, n, count))
 }
 
 fn record(bytes: &[u8], i: usize) -> Node {
@@ -100,7 +105,7 @@ impl Plan {
 
     /// Nodes stand parent first and subtrees stand together: a node's parent is the node before it or stands above that one.
     /// Its end is where the first later node stands that is not below it.
-    fn ordered(&self) -> bool {
+    fn order(&self) -> Option<&'static str> {
         let mut above: Vec<usize> = vec![0];
         let mut ends = vec![self.nodes.len(); self.nodes.len()];
         for i in 1..self.nodes.len() {
@@ -108,15 +113,18 @@ impl Plan {
                 ends[above.pop().expect("just seen")] = i;
             }
             if above.is_empty() {
-                return false;
+                return Some("parent");
             }
             above.push(i);
         }
-        self.nodes[0].parent == u16::MAX && self.nodes.iter().zip(ends).all(|(node, end)| usize::from(node.end) == end)
+        if self.nodes[0].parent != u16::MAX {
+            return Some("the root's parent");
+        }
+        self.nodes.iter().zip(ends).any(|(node, end)| usize::from(node.end) != end).then_some("end")
     }
 
     /// "Root and quantifiers have one child, and/or two or more, literals none"; "only node 0 is a root"; nesting of and/or.
-    fn family(&self, i: usize) -> bool {
+    fn family(&self, i: usize) -> Option<&'static str> {
         let kind = self.nodes[i].kind;
         let children = self.children(i);
         let number = match kind {
@@ -125,30 +133,54 @@ impl Plan {
             _ => children.is_empty(),
         };
         let nested = matches!(kind, AND | OR) && children.iter().any(|&c| self.nodes[c].kind == kind);
-        number && !nested && (kind == ROOT) == (i == 0)
+        if kind > SIZE {
+            return Some("kind");
+        }
+        if (kind == ROOT) != (i == 0) {
+            return Some("only node 0 is a root");
+        }
+        if nested {
+            return Some("nesting");
+        }
+        (!number).then_some("number of children")
     }
 
-    fn fields(&self, i: usize) -> bool {
+    fn fields(&self, i: usize) -> Option<&'static str> {
         let node = &self.nodes[i];
         let depth = self.depth(i);
         let variable = |v: u8| usize::from(v) < depth;
         let set = |s: u8| usize::from(s) < self.n;
-        depth <= 3
-            && match node.kind {
-                ROOT | ALL | SOME | AND | OR => node.relation == 0 && node.a == 0 && node.b == 0,
-                IN | NOT_IN => node.relation == 0 && variable(node.a) && set(node.b),
-                COMPARE => node.relation <= 5 && variable(node.a) && variable(node.b),
-                SIZE => node.relation <= 5 && set(node.a) && node.b <= 64,
-                _ => false,
-            }
+        let rules = match node.kind {
+            IN | NOT_IN => [(node.relation == 0, "unused field"), (variable(node.a), "variable"), (set(node.b), "set")],
+            COMPARE => [(node.relation <= 5, "relation"), (variable(node.a), "variable"), (variable(node.b), "variable")],
+            SIZE => [(node.relation <= 5, "relation"), (set(node.a), "set"), (node.b <= 64, "constant")],
+            _ => [(node.relation == 0, "unused field"), (node.a == 0, "unused field"), (node.b == 0, "unused field")],
+        };
+        let depth_rule = [(depth <= 3, "depth")];
+        depth_rule.into_iter().chain(rules).find(|(keeps, _)| !keeps).map(|(_, name)| name)
     }
 }
 
-/// The plan of a table, or nothing where ground 11 applies. Bytes past the last record play no part.
-pub fn decode(bytes: &[u8]) -> Option<Plan> {
+/// The plan of a table, or the first rule found that it breaks, which is ground 11. Bytes past the last record play no part.
+pub fn judge(bytes: &[u8]) -> Result<Plan, &'static str> {
     let (u, n, count) = header(bytes)?;
     let plan = Plan { u, n, nodes: (0..count).map(|i| record(bytes, i)).collect() };
     // In this order, since the later rules walk up and down a tree that the first one makes sure of.
-    let sound = plan.ordered() && (0..count).all(|i| plan.family(i) && plan.fields(i));
-    (sound && plan.cells() as u128 <= MOST_CELLS).then_some(plan)
+    let broken = plan.order().or_else(|| (0..count).find_map(|i| plan.family(i).or_else(|| plan.fields(i))));
+    match broken {
+        Some(rule) => Err(rule),
+        None if plan.cells() as u128 > MOST_CELLS => Err("cell total"),
+        None => Ok(plan),
+    }
 }
+
+pub fn decode(bytes: &[u8]) -> Option<Plan> {
+    judge(bytes).ok()
+}
+
+/// The rules by the names that `judge` gives.
+pub const RULES: [&str; 21] = [
+    "header cut short", "mark", "version", "ports", "sets", "node count", "records cut short", "parent", "the root's parent", "end",
+    "kind", "only node 0 is a root", "nesting", "number of children", "depth", "unused field", "variable", "set", "relation",
+    "constant", "cell total",
+];
