@@ -73,6 +73,31 @@ impl Damage {
     }
 }
 
+/// A table that is lent from the middle of a larger one, so that a word written outside of it is seen.
+struct Lent<T> {
+    all: Vec<T>,
+    before: Vec<T>,
+}
+
+const GUARDS: usize = 4;
+
+impl<T: Copy + PartialEq + std::fmt::Debug> Lent<T> {
+    fn of(own: &[T], guard: T) -> Self {
+        let all = [&[guard; GUARDS][..], own, &[guard; GUARDS]].concat();
+        Lent { before: all.clone(), all }
+    }
+
+    fn part(&mut self) -> &mut [T] {
+        let end = self.all.len() - GUARDS;
+        &mut self.all[GUARDS..end]
+    }
+
+    /// What was lent holds `own`, then what it held before; nothing around it has changed.
+    fn holds(&self, what: &str, own: &[T]) -> Compared<()> {
+        same_table(what, &self.all, &[&self.before[..GUARDS], own, &self.before[GUARDS + own.len()..]].concat())
+    }
+}
+
 /// Reads a random text with both and compares the answer and every byte of the output table.
 pub fn one_text(r: &mut Random, counts: &mut Counts, damage: &mut Damage) -> Compared<Option<Accepted>> {
     let (u, text) = any_text(r);
@@ -84,12 +109,12 @@ pub fn one_text(r: &mut Random, counts: &mut Counts, damage: &mut Damage) -> Com
         _ => need + r.below(40),
     };
     let before: Vec<u8> = (0..room).map(|_| r.next() as u8).collect();
-    let mut table = before.clone();
-    let answer = read(u, &text, &mut table);
-    damage.bytes(&mut table, r);
+    let mut table = Lent::of(&before, r.next() as u8);
+    let answer = read(u, &text, table.part());
+    damage.bytes(table.part(), r);
     let expected = second_read(u, &text, room);
     let told = |e: String| format!("{e}\n  u {u}, room {room}, text {:?}", String::from_utf8_lossy(&text));
-    compare_read(answer, &expected, &table, &before).map_err(told)?;
+    compare_read(answer, &expected, &table).map_err(told)?;
     counts.met("texts");
     match expected {
         Ok(accepted) => {
@@ -103,13 +128,13 @@ pub fn one_text(r: &mut Random, counts: &mut Counts, damage: &mut Damage) -> Com
     }
 }
 
-fn compare_read(answer: crate::ReadAnswer, expected: &Result<Accepted, u32>, table: &[u8], before: &[u8]) -> Compared<()> {
+fn compare_read(answer: crate::ReadAnswer, expected: &Result<Accepted, u32>, table: &Lent<u8>) -> Compared<()> {
     let (number, nodes, cells, own) = match expected {
         Ok(a) => (0, a.plan.nodes.len() as u32, a.cells as u32, encode(&a.plan)),
         Err(number) => (*number, 0, 0, Vec::new()),
     };
     same("read's answer", &(answer.number, answer.nodes, answer.cells), &(number, nodes, cells))?;
-    same_table("plan table", table, &[&own[..], &before[own.len()..]].concat())
+    table.holds("plan table", &own)
 }
 
 fn count_accepted(accepted: &Accepted, counts: &mut Counts) {
@@ -153,9 +178,10 @@ fn tables_for(plan: &Plan, table: Vec<u8>, r: &mut Random) -> Tables {
 
 /// Loads with both and compares the answer and every cell; then the cells of some nodes.
 fn one_load(t: &Tables, r: &mut Random, counts: &mut Counts, damage: &mut Damage) -> Compared<()> {
-    let mut cells = t.cells.clone();
-    let answer = load(&t.table, &t.masks, &mut cells);
-    damage.cells(&mut cells, r);
+    let mut cells = Lent::of(&t.cells, r.next() as u32);
+    let (mut table, mut masks) = (Lent::of(&t.table, 0xA5), Lent::of(&t.masks, u64::MAX));
+    let answer = load(table.part(), masks.part(), cells.part());
+    damage.cells(cells.part(), r);
     let expected = tables(&t.table, &t.masks, &[t.cells.len()]);
     let (numbers, own) = match &expected {
         Ok(plan) => {
@@ -165,10 +191,15 @@ fn one_load(t: &Tables, r: &mut Random, counts: &mut Counts, damage: &mut Damage
         Err(number) => ((*number, 0, 0), Vec::new()),
     };
     same("load's answer", &(answer.number, answer.root, answer.cells), &numbers)?;
-    same_table("cells", &cells, &[&own[..], &t.cells[own.len()..]].concat())?;
+    cells.holds("cells", &own)?;
+    table.holds("plan table after a load", &[])?;
+    masks.holds("masks after a load", &[])?;
     counts.met("loads");
+    if own.len() > OFTEN {
+        counts.met("loads of many cells");
+    }
     counts.met(expected.as_ref().map_or_else(|n| format!("load {n}"), |_| "load accepted".to_string()));
-    (0..3).try_for_each(|_| one_part(&t.table, &cells, r, counts))
+    (0..3).try_for_each(|_| one_part(&t.table, cells.part(), r, counts))
 }
 
 /// Asks both for a node's part of a cell table, here with whatever the table holds.
@@ -262,6 +293,7 @@ pub fn missed(counts: &Counts) -> Vec<String> {
     wanted.extend((1..=64).map(|u| (format!("ports {u:02}"), 10)));
     wanted.extend(RELATIONS.iter().flat_map(|r| [format!("size {r}"), format!("ports compared by {r}")]).map(|c| (c, 100)));
     wanted.extend(["load accepted", "true", "false", "damaged and sound"].map(|c| (c.to_string(), 100)));
+    wanted.push(("loads of many cells".to_string(), 20));
     wanted.extend(["broken table", "short cells", "no such node", "a part"].map(|c| (format!("node cells: {c}"), 100)));
     wanted
         .into_iter()

@@ -32,14 +32,7 @@ pub struct Part {
 
 extern "C" {
     fn vk_read(u: u64, text: *const u8, text_len: usize, table: *mut u8, table_len: usize) -> ReadAnswer;
-    fn vk_load(
-        table: *const u8,
-        table_len: usize,
-        masks: *const u64,
-        masks_len: usize,
-        cells: *mut u32,
-        cells_len: usize,
-    ) -> LoadAnswer;
+    fn vk_load(table: *const u8, table_len: usize, masks: *const u64, masks_len: usize, cells: *mut u32, cells_len: usize) -> LoadAnswer;
     fn vk_node_cells(table: *const u8, table_len: usize, cells: *const u32, cells_len: usize, node: usize) -> Part;
 }
 

@@ -166,7 +166,9 @@ fn one_improve(calls: &dyn Calls, d: &mut Desk, r: &mut Random, counts: &mut Cou
             let (masks, cells) = after(d, &masks, &cells, m);
             (format!("improve: made {}", move_class(m)), masks, cells)
         }
-        (Ok(Improved::NoBetter(root)), Ok(best)) if best.is_empty() && *root == cells[0] => ("improve: no better move".to_string(), masks, cells),
+        (Ok(Improved::NoBetter(root)), Ok(best)) if best.is_empty() && *root == cells[0] => {
+            ("improve: no better move".to_string(), masks, cells)
+        }
         (Err(a), Err(b)) if a == b => (format!("improve: refused {a}"), masks, cells),
         _ => return Err(format!("improve of kinds {kinds}: the engine has {answer:?}, the second evaluator allows {best:?}")),
     };
@@ -219,7 +221,8 @@ pub fn run(calls: &dyn Calls, amount: u64, seed: u64, counts: &mut Counts) -> Co
 /// Classes that a run of the lists must meet a hundred times.
 pub fn missed(counts: &Counts) -> Vec<String> {
     let kinds = ["add", "drop", "transfer", "swap"];
-    let mut wanted: Vec<String> = kinds.iter().flat_map(|k| ["accepted", "refused 14", "refused 15"].map(|o| format!("move {k}: {o}"))).collect();
+    let mut wanted: Vec<String> =
+        kinds.iter().flat_map(|k| ["accepted", "refused 14", "refused 15"].map(|o| format!("move {k}: {o}"))).collect();
     wanted.extend((11..=13).map(|n| format!("move over damaged tables: refused {n}")));
     wanted.extend(["accepted", "refused 12", "refused 14", "refused 15"].map(|o| format!("trial: {o}")));
     wanted.extend(["made", "no better move", "refused 12", "refused 14"].map(|o| format!("improve: {o}")));

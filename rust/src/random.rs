@@ -228,7 +228,12 @@ fn damage_tokens(text: &mut Text, which: usize, r: &mut Random) -> bool {
             text.tokens.splice(close..close, letters);
         }
         8 => {
-            replace(text, r, |t| t.as_bytes()[0].is_ascii_digit(), &["64", "65", "66", "100", "18446744073709551616", "99999999999999999999999"]);
+            replace(
+                text,
+                r,
+                |t| t.as_bytes()[0].is_ascii_digit(),
+                &["64", "65", "66", "100", "18446744073709551616", "99999999999999999999999"],
+            );
         }
         9 => {
             // Nested double arrows double the core each time.

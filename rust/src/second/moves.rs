@@ -113,9 +113,10 @@ pub fn updated(plan: &Plan, masks: &[u64], pairs: &[(usize, usize)], old: &[u32]
             new[here] = if kind >= IN {
                 literal_penalty(plan, masks, node, &tuple) as u32
             } else if kind == ALL || kind == AND {
-                below(plan, node, &tuple).into_iter().filter(|(n, t)| is_touched(*n, t)).fold(old[here], |sum, (n, t)| {
-                    sum.wrapping_add(new[at(n, &t)]).wrapping_sub(old[at(n, &t)])
-                })
+                below(plan, node, &tuple)
+                    .into_iter()
+                    .filter(|(n, t)| is_touched(*n, t))
+                    .fold(old[here], |sum, (n, t)| sum.wrapping_add(new[at(n, &t)]).wrapping_sub(old[at(n, &t)]))
             } else {
                 let parts = below(plan, node, &tuple).into_iter().map(|(n, t)| new[at(n, &t)]);
                 if kind == ROOT { parts.last() } else { parts.min() }.expect("it has children")

@@ -180,7 +180,25 @@ pub fn decode(bytes: &[u8]) -> Option<Plan> {
 
 /// The rules by the names that `judge` gives.
 pub const RULES: [&str; 21] = [
-    "header cut short", "mark", "version", "ports", "sets", "node count", "records cut short", "parent", "the root's parent", "end",
-    "kind", "only node 0 is a root", "nesting", "number of children", "depth", "unused field", "variable", "set", "relation",
-    "constant", "cell total",
+    "header cut short",
+    "mark",
+    "version",
+    "ports",
+    "sets",
+    "node count",
+    "records cut short",
+    "parent",
+    "the root's parent",
+    "end",
+    "kind",
+    "only node 0 is a root",
+    "nesting",
+    "number of children",
+    "depth",
+    "unused field",
+    "variable",
+    "set",
+    "relation",
+    "constant",
+    "cell total",
 ];

@@ -49,9 +49,7 @@ enum Token {
 }
 
 /// Longest first, so that the first that fits is the longest token.
-const SIGNS: [&str; 21] = [
-    "<->", "->", "<-", "<=", ">=", "!=", "<", ">", "=", "[", "]", "(", ")", "@", "?", "~", "&", "|", ":", "/", "#",
-];
+const SIGNS: [&str; 21] = ["<->", "->", "<-", "<=", ">=", "!=", "<", ">", "=", "[", "]", "(", ")", "@", "?", "~", "&", "|", ":", "/", "#"];
 
 fn known_byte(b: u8) -> bool {
     b == b' ' || b == 10 || b.is_ascii_alphanumeric() || SIGNS.iter().any(|s| s.as_bytes().contains(&b))
@@ -305,7 +303,7 @@ fn joined(top: Top, width: u128, parts: &[Amount]) -> Amount {
 
 /// The amounts of a tree's core and of its negation's, each part looked at once: nested `<->` would double it every time.
 fn amounts(tree: &Tree, u: u128, width: u128) -> (Amount, Amount) {
-    use Top::{And, Other, Or};
+    use Top::{And, Or, Other};
     let one = |nodes, cells| Amount { top: Other, nodes, cells };
     let join = |top, parts: &[Amount]| joined(top, width, parts);
     match tree {
