@@ -4,6 +4,8 @@
 //! one, and that a table that is written is lent to nothing else; Rust's references say both.
 pub mod compare;
 pub mod lists;
+#[cfg(feature = "moves")]
+pub mod moves;
 pub mod random;
 pub mod second;
 

@@ -2,8 +2,8 @@
 //! One move and Lists of calls.
 //!
 //! The engine has none of these calls yet. Until then `Second` stands in its place, which shows that the driver runs and what it
-//! meets; `tests/lists.rs` puts mistakes there and sees them reported. To switch the engine on: declare vk_move, vk_trial and
-//! vk_improve in lib.rs, implement `Calls` over them, and hand that to `run` in bin/compare.rs.
+//! meets, and holds the rule of touched cells against Definition 5; `tests/lists.rs` puts mistakes there and sees them reported.
+//! The feature `moves` puts the engine there.
 use crate::compare::{same, same_table, Compared, Counts};
 use crate::random::{masks as random_masks, text, Random};
 use crate::second::moves::{best_moves, flipped, legal_moves, made, make_move, tables, trial, Move, Numbers};
@@ -195,7 +195,12 @@ fn one_refused(calls: &dyn Calls, d: &Desk, r: &mut Random, counts: &mut Counts)
     Ok(())
 }
 
-/// Runs so many calls, in lists of a few hundred over one plan each.
+/// Most lists are short, so that many plans are met; some are long.
+const SHORT: u64 = 100;
+const LONG: u64 = 5_000;
+const SHORT_BEFORE_LONG: u64 = 50;
+
+/// Runs at least so many calls, each list over the tables of one plan.
 pub fn run(calls: &dyn Calls, amount: u64, seed: u64, counts: &mut Counts) -> Compared<()> {
     let mut done = 0;
     let mut list = 0u64;
@@ -203,7 +208,8 @@ pub fn run(calls: &dyn Calls, amount: u64, seed: u64, counts: &mut Counts) -> Co
         let r = &mut Random::new(seed.wrapping_mul(1_000_003).wrapping_add(list));
         let mut d = desk(r);
         counts.met(if d.foreign { "lists from foreign cells" } else { "lists from a load" });
-        for call in 0..100 {
+        let length = if list % (SHORT_BEFORE_LONG + 1) == SHORT_BEFORE_LONG { LONG } else { SHORT };
+        for call in 0..length {
             let result = match r.below(10) {
                 0..=5 => one_move(calls, &mut d, r, counts),
                 6..=7 => one_trial(calls, &mut d, r, counts),

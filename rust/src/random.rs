@@ -55,8 +55,7 @@ impl Text {
         let mut all = Vec::new();
         for (i, token) in self.tokens.iter().enumerate() {
             // Two digit runs would become one, and signs could join to another sign.
-            let apart = i > 0 && (token.as_bytes()[0].is_ascii_digit() || !token.as_bytes()[0].is_ascii_alphanumeric());
-            if apart && i > 0 && joins(&self.tokens[i - 1], token) || r.chance(often) {
+            if i > 0 && joins(&self.tokens[i - 1], token) || r.chance(often) {
                 all.push(if r.chance(20) { b'\n' } else { b' ' });
             }
             all.extend(token.bytes());
@@ -69,7 +68,9 @@ impl Text {
 }
 
 fn joins(left: &str, right: &str) -> bool {
-    let (l, f) = (left.as_bytes()[left.len() - 1], right.as_bytes()[0]);
+    let (Some(l), Some(f)) = (left.bytes().last(), right.bytes().next()) else {
+        return false;
+    };
     l.is_ascii_digit() && f.is_ascii_digit() || b"<>=!-".contains(&l) && b"<>=!-".contains(&f)
 }
 
@@ -231,7 +232,7 @@ fn damage_tokens(text: &mut Text, which: usize, r: &mut Random) -> bool {
             replace(
                 text,
                 r,
-                |t| t.as_bytes()[0].is_ascii_digit(),
+                |t| t.starts_with(|c: char| c.is_ascii_digit()),
                 &["64", "65", "66", "100", "18446744073709551616", "99999999999999999999999"],
             );
         }

@@ -1,6 +1,6 @@
 //! compare [ROUNDS [SEED]]: compares the proved engine with the second evaluator over random texts, tables and cells.
 //! compare --damage [ROUNDS [SEED]]: changes one word after every call, and fails unless each change is reported.
-//! compare --lists [CALLS [SEED]]: the driver of lists of calls, run by the second evaluator itself until the engine has them.
+//! compare --lists [CALLS [SEED]]: lists of calls. Without the feature `moves` the second evaluator stands on both sides.
 use std::process::ExitCode;
 
 use vuyekhang::compare::{missed, one_round, Counts, Damage, Target};
@@ -72,13 +72,22 @@ fn unseen(what: &str, target: fn() -> Target, rounds: u64, seed: u64) -> bool {
     damaged == 0 || damaged != reported
 }
 
+#[cfg(feature = "moves")]
+const CALLS: vuyekhang::moves::Engine = vuyekhang::moves::Engine;
+#[cfg(feature = "moves")]
+const SIDE: &str = "the engine beside the second evaluator";
+#[cfg(not(feature = "moves"))]
+const CALLS: lists::Second = lists::Second;
+#[cfg(not(feature = "moves"))]
+const SIDE: &str = "the second evaluator on both sides";
+
 fn lists_fail(calls: u64, seed: u64) -> bool {
     let mut counts = Counts::default();
-    if let Err(difference) = lists::run(&lists::Second, calls, seed, &mut counts) {
+    if let Err(difference) = lists::run(&CALLS, calls, seed, &mut counts) {
         println!("difference: {difference}");
         return true;
     }
     print(&counts);
-    println!("{calls} calls in lists, by the second evaluator on both sides: no difference");
+    println!("{calls} calls in lists, {SIDE}: no difference");
     too_seldom(&lists::missed(&counts))
 }
