@@ -108,8 +108,8 @@ pub fn one_text(r: &mut Random, counts: &mut Counts, damage: &mut Damage) -> Com
         1 => need,
         _ => need + r.below(40),
     };
-    let before: Vec<u8> = (0..room).map(|_| r.next() as u8).collect();
-    let mut table = Lent::of(&before, r.next() as u8);
+    let before: Vec<u8> = (0..room).map(|_| r.word() as u8).collect();
+    let mut table = Lent::of(&before, r.word() as u8);
     let answer = read(u, &text, table.part());
     damage.bytes(table.part(), r);
     let expected = second_read(u, &text, room);
@@ -167,18 +167,18 @@ fn tables_for(plan: &Plan, table: Vec<u8>, r: &mut Random) -> Tables {
         own[set] |= 1 << (plan.u + r.below(64 - plan.u));
     }
     // Past the plan's own masks even a port of u or more plays no part.
-    own.extend((0..r.below(3)).map(|_| r.next()));
+    own.extend((0..r.below(3)).map(|_| r.word()));
     if r.chance(4) {
         own.truncate(r.below(plan.n));
     }
     let total = plan.cells();
     let length = if r.chance(4) { r.below(total) } else { total + r.below(4) };
-    Tables { table, masks: own, cells: (0..length).map(|_| r.next() as u32).collect() }
+    Tables { table, masks: own, cells: (0..length).map(|_| r.word() as u32).collect() }
 }
 
 /// Loads with both and compares the answer and every cell; then the cells of some nodes.
 fn one_load(t: &Tables, r: &mut Random, counts: &mut Counts, damage: &mut Damage) -> Compared<()> {
-    let mut cells = Lent::of(&t.cells, r.next() as u32);
+    let mut cells = Lent::of(&t.cells, r.word() as u32);
     let (mut table, mut masks) = (Lent::of(&t.table, 0xA5), Lent::of(&t.masks, u64::MAX));
     let answer = load(table.part(), masks.part(), cells.part());
     damage.cells(cells.part(), r);
@@ -206,7 +206,7 @@ fn one_load(t: &Tables, r: &mut Random, counts: &mut Counts, damage: &mut Damage
 fn one_part(table: &[u8], cells: &[u32], r: &mut Random, counts: &mut Counts) -> Compared<()> {
     let plan = decode(table);
     let count = plan.as_ref().map_or(8, |p| p.nodes.len());
-    let node = if r.chance(5) { r.next() as usize } else { r.below(count + 2) };
+    let node = if r.chance(5) { r.word() as usize } else { r.below(count + 2) };
     let length = if r.chance(10) { r.below(cells.len() + 1) } else { cells.len() };
     let answer = node_part(table, &cells[..length], node);
     let (class, expected) = match &plan {
@@ -234,7 +234,7 @@ pub fn one_round(r: &mut Random, counts: &mut Counts, damage: &mut Damage) -> Co
         return Ok(());
     }
     let mut bytes = encode(plan);
-    bytes.extend((0..r.below(5)).map(|_| r.next() as u8));
+    bytes.extend((0..r.below(5)).map(|_| r.word() as u8));
     let t = tables_for(plan, bytes.clone(), r);
     let told = |e: String| format!("{e}\n  masks {:?}, table {bytes:?}", t.masks);
     one_load(&t, r, counts, damage).map_err(told)?;

@@ -72,10 +72,10 @@ fn desk(r: &mut Random) -> Desk {
         let mut cells = cells_of(&plan, &masks);
         let foreign = r.chance(30);
         if foreign {
-            cells.iter_mut().for_each(|c| *c = if r.chance(50) { r.next() as u32 } else { *c });
+            cells.iter_mut().for_each(|c| *c = if r.chance(50) { r.word() as u32 } else { *c });
         }
-        masks.extend((0..r.below(3)).map(|_| r.next()));
-        cells.extend((0..r.below(4)).map(|_| r.next() as u32));
+        masks.extend((0..r.below(3)).map(|_| r.word()));
+        cells.extend((0..r.below(4)).map(|_| r.word() as u32));
         return Desk { table: encode(&plan), plan, masks, cells, scratch: Vec::new(), foreign };
     }
 }
@@ -88,7 +88,7 @@ fn any_move(d: &Desk, r: &mut Random) -> Move {
         let of_kind: Vec<&Move> = legal.iter().filter(|m| m.kind == kind).collect();
         return if of_kind.is_empty() { legal[r.below(legal.len())] } else { *of_kind[r.below(of_kind.len())] };
     }
-    let field = |r: &mut Random, most: usize| if r.chance(3) { r.next() as u32 } else { r.below(most + 1) as u32 };
+    let field = |r: &mut Random, most: usize| if r.chance(3) { r.word() as u32 } else { r.below(most + 1) as u32 };
     let kind = field(r, 5);
     let t = if kind == 3 || r.chance(5) { field(r, d.plan.n) } else { 0 };
     let q = if kind == 4 || r.chance(5) { field(r, d.plan.u) } else { 0 };
@@ -99,7 +99,7 @@ fn any_move(d: &Desk, r: &mut Random) -> Move {
 fn lend_scratch(d: &mut Desk, r: &mut Random) {
     let total = d.plan.cells();
     let length = if r.chance(10) { r.below(total) } else { total + r.below(3) };
-    d.scratch = (0..length).map(|_| r.next() as u32).collect();
+    d.scratch = (0..length).map(|_| r.word() as u32).collect();
 }
 
 /// After every call: the masks are the book's, every cell is what it must be, and guard words are as they were.
@@ -155,7 +155,7 @@ fn one_trial(calls: &dyn Calls, d: &mut Desk, r: &mut Random, counts: &mut Count
 }
 
 fn one_improve(calls: &dyn Calls, d: &mut Desk, r: &mut Random, counts: &mut Counts) -> Compared<()> {
-    let kinds = if r.chance(10) { [0, 16, r.next() as u32][r.below(3)] } else { 1 + r.below(15) as u32 };
+    let kinds = if r.chance(10) { [0, 16, r.word() as u32][r.below(3)] } else { 1 + r.below(15) as u32 };
     lend_scratch(d, r);
     let (masks, cells, scratch) = (d.masks.clone(), d.cells.clone(), d.scratch.clone());
     let best = best_moves(&d.table, &masks, &cells, scratch.len(), kinds);

@@ -10,7 +10,7 @@ impl Random {
         Random(seed)
     }
 
-    pub fn next(&mut self) -> u64 {
+    pub fn word(&mut self) -> u64 {
         self.0 = self.0.wrapping_add(0x9E37_79B9_7F4A_7C15);
         let z = (self.0 ^ (self.0 >> 30)).wrapping_mul(0xBF58_476D_1CE4_E5B9);
         let z = (z ^ (z >> 27)).wrapping_mul(0x94D0_49BB_1331_11EB);
@@ -19,7 +19,7 @@ impl Random {
 
     /// A number below n.
     pub fn below(&mut self, n: usize) -> usize {
-        (self.next() % n as u64) as usize
+        (self.word() % n as u64) as usize
     }
 
     pub fn chance(&mut self, percent: usize) -> bool {
@@ -183,7 +183,7 @@ impl Writer<'_> {
 
     fn constant(&mut self) -> u64 {
         let most = [3, self.u.min(64), 64][self.r.below(3)];
-        self.r.next() % (most + 1)
+        self.r.word() % (most + 1)
     }
 }
 
@@ -288,7 +288,7 @@ fn damage_bytes(bytes: &mut Vec<u8>, which: usize, r: &mut Random) {
         }
         _ => {
             if at < bytes.len() {
-                bytes[at] = r.next() as u8;
+                bytes[at] = r.word() as u8;
             }
         }
     }
@@ -304,7 +304,7 @@ pub fn any_text(r: &mut Random) -> (u64, Vec<u8>) {
     for damage in left {
         damage_bytes(&mut bytes, damage, r);
     }
-    let u = if r.chance(4) { [0, 65, 256, 257, (1 << 32) + 3, u64::MAX, r.next()][r.below(7)] } else { made.u };
+    let u = if r.chance(4) { [0, 65, 256, 257, (1 << 32) + 3, u64::MAX, r.word()][r.below(7)] } else { made.u };
     (u, bytes)
 }
 
@@ -312,10 +312,10 @@ pub fn any_text(r: &mut Random) -> (u64, Vec<u8>) {
 pub fn masks(r: &mut Random, u: usize, n: usize) -> Vec<u64> {
     let within = if u == 64 { u64::MAX } else { (1 << u) - 1 };
     let mut one = || match r.below(4) {
-        0 => r.next() & r.next() & r.next(),
-        1 => r.next() | r.next() | r.next(),
+        0 => r.word() & r.word() & r.word(),
+        1 => r.word() | r.word() | r.word(),
         2 => 0,
-        _ => r.next(),
+        _ => r.word(),
     };
     (0..n).map(|_| one() & within).collect()
 }
@@ -333,7 +333,7 @@ pub fn damage_table(bytes: &mut Vec<u8>, r: &mut Random) {
         4 => set(bytes, record + 6, r.below(count + 2) as u8),
         5 => {
             let at = r.below(bytes.len().max(1));
-            let value = r.next() as u8;
+            let value = r.word() as u8;
             set(bytes, at, value);
         }
         6 => bytes.truncate(r.below(bytes.len() + 1)),

@@ -118,8 +118,8 @@ pub fn updated(plan: &Plan, masks: &[u64], pairs: &[(usize, usize)], old: &[u32]
                     .filter(|(n, t)| is_touched(*n, t))
                     .fold(old[here], |sum, (n, t)| sum.wrapping_add(new[at(n, &t)]).wrapping_sub(old[at(n, &t)]))
             } else {
-                let parts = below(plan, node, &tuple).into_iter().map(|(n, t)| new[at(n, &t)]);
-                if kind == ROOT { parts.last() } else { parts.min() }.expect("it has children")
+                let mut parts = below(plan, node, &tuple).into_iter().map(|(n, t)| new[at(n, &t)]);
+                if kind == ROOT { parts.next() } else { parts.min() }.expect("it has children")
             };
         }
     }

@@ -64,11 +64,11 @@ pub fn penalty(plan: &Plan, masks: &[u64], node: usize, tuple: &[usize]) -> u64 
     if kind >= IN {
         return literal_penalty(plan, masks, node, tuple);
     }
-    let parts = below(plan, node, tuple).into_iter().map(|(n, t)| penalty(plan, masks, n, &t));
+    let mut parts = below(plan, node, tuple).into_iter().map(|(n, t)| penalty(plan, masks, n, &t));
     match kind {
         ALL | AND => parts.sum(),
         SOME | OR => parts.min().expect("it has children"),
-        ROOT => parts.last().expect("it has a child"),
+        ROOT => parts.next().expect("it has a child"),
         _ => unreachable!("every kind is above"),
     }
 }
