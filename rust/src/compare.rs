@@ -282,6 +282,33 @@ fn one_damaged_table(plan: &Plan, r: &mut Random, counts: &mut Counts, damage: &
     one_load(&t, r, counts, damage).map_err(|e| format!("{e}\n  masks {:?}, cells {}, damaged table {:?}", t.masks, t.cells.len(), t.table))
 }
 
+/// Tokens of every kind, and parts of tokens, for texts that are tried one and all.
+const TOKENS: [&str; 22] =
+    ["@", "?", "~", "(", ")", "&", "|", "->", "<-", "<->", ":", "/", "#", "<", "!=", "-", "x", "y", "S", "T", "0", "65"];
+
+/// What stands before them: the beginnings of a text from which every part of the grammar is a few tokens away.
+const BEGINNINGS: [&str; 14] =
+    ["", "[", "[S", "[S]", "[S]~", "[S]#S", "[S]#S<0", "[S]#S<0->", "[S]@x", "[S]@x x", "[S]@x x:S", "[S]@x x:S&", "[S]@x@y", "[S]@x(x:S|"];
+
+/// Reads every beginning and so many tokens behind it with both, with no blanks or one between two tokens.
+pub fn short_texts(tokens: usize, counts: &mut Counts) -> Compared<()> {
+    let most = TOKENS.len().pow(tokens as u32);
+    (0..most).try_for_each(|which| {
+        let chosen: Vec<&str> = (0..tokens).map(|i| TOKENS[which / TOKENS.len().pow(i as u32) % TOKENS.len()]).collect();
+        let behind = ["", " "].map(|blank| chosen.join(blank));
+        BEGINNINGS.iter().try_for_each(|start| behind.iter().try_for_each(|end| short_text(&format!("{start}{end}"), counts)))
+    })
+}
+
+fn short_text(text: &str, counts: &mut Counts) -> Compared<()> {
+    let mut table = Lent::of(&[0; 64], 0xA5);
+    let answer = read(2, text.as_bytes(), table.part());
+    let expected = second_read(2, text.as_bytes(), 64);
+    compare_read(answer, &expected, &table).map_err(|e| format!("{e}\n  u 2, room 64, text {text:?}"))?;
+    counts.met(expected.map_or_else(|n| format!("read {n:02}"), |_| "read accepted".to_string()));
+    Ok(())
+}
+
 /// Classes of the calls that exist today and how often each must be met.
 pub fn missed(counts: &Counts) -> Vec<String> {
     let mut wanted: Vec<(String, u64)> = vec![("read accepted".into(), counts.of("texts") * 30 / 100)];

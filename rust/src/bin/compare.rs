@@ -1,14 +1,16 @@
 //! compare [ROUNDS [SEED]]: compares the proved engine with the second evaluator over random texts, tables and cells.
 //! compare --damage [ROUNDS [SEED]]: changes one word after every call, and fails unless each change is reported.
+//! compare --short [TOKENS]: reads some beginnings of texts, each with every choice of at most so many tokens behind it, with both.
 //! compare --lists [CALLS [SEED]]: lists of calls. Without the feature `moves` the second evaluator stands on both sides.
 use std::process::ExitCode;
 
-use vuyekhang::compare::{missed, one_round, Counts, Damage, Target};
+use vuyekhang::compare::{missed, one_round, short_texts, Counts, Damage, Target};
 use vuyekhang::lists;
 use vuyekhang::random::Random;
 use vuyekhang::with_stack;
 
 const QUICK_ROUNDS: u64 = 20_000;
+const QUICK_TOKENS: u64 = 3;
 const QUICK_CALLS: u64 = 20_000;
 const QUICK_DAMAGES: u64 = 1_000;
 
@@ -19,6 +21,7 @@ fn main() -> ExitCode {
     let (run, quick): (fn(u64, u64) -> bool, u64) = match mode.as_str() {
         "" => (rounds_fail, QUICK_ROUNDS),
         "--damage" => (damage_unseen, QUICK_DAMAGES),
+        "--short" => (short_fail, QUICK_TOKENS),
         "--lists" => (lists_fail, QUICK_CALLS),
         _ => panic!("unknown mode {mode}"),
     };
@@ -70,6 +73,18 @@ fn unseen(what: &str, target: fn() -> Target, rounds: u64, seed: u64) -> bool {
     }
     println!("{what}: {damaged} rounds damaged, {reported} reported");
     damaged == 0 || damaged != reported
+}
+
+/// Every text, so that no seed plays a part.
+fn short_fail(tokens: u64, _seed: u64) -> bool {
+    let mut counts = Counts::default();
+    let result = (0..=tokens as usize).try_for_each(|k| short_texts(k, &mut counts));
+    print(&counts);
+    match result {
+        Ok(()) => println!("every choice of at most {tokens} tokens: no difference"),
+        Err(ref difference) => println!("difference: {difference}"),
+    }
+    result.is_err()
 }
 
 #[cfg(feature = "moves")]
