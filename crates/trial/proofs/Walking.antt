@@ -10,7 +10,7 @@ use native.Mathlib.Omega.{arith}
 use native.Mathlib.Decide.{ℕ-discrete}
 use lib.Dec.{eqb, leb, ltb}
 use lib.ListN.{length, getD}
-use borrow.Author.Tests.{eqb-true, leb-true, ltb-true, ltb-false}
+use borrow.Author.Tests.{eqb-true, leb-true}
 use Rattle.esol.specs.Formula.{Literal, isin, notin, port, size, Node, root, all, any, and, or, lit, Forest, none, tree, kindNumber, nodeCount, childDepth, Every, OfLiteral}
 use Rattle.esol.specs.Configuration.{Configuration, indicator, configuration, inMasks}
 use Rattle.esol.specs.Truth.{Tuple}
@@ -25,7 +25,7 @@ use Rattle.plan.specs.Bytes.{headerLength, recordLength, kindField, relationFie
 use Rattle.plan.specs.Rules.{treeCount, arityRule}
 use Rattle.plan.specs.Index.{nodeUses}
 use Rattle.hits.specs.declared.Changed.{Changed}
-use Rattle.hits.specs.Hits.{meets, Says, restWord, portWord}
+use Rattle.hits.specs.Hits.{meets, restWord, portWord}
 use Rattle.walk.specs.Walk.{adds, begun, gathered, changes}
 use Rattle.steps.specs.declared.After.{After}
 use Rattle.steps.specs.declared.Sum.{Sum}
@@ -34,6 +34,7 @@ use Rattle.steps.specs.Visit.{Visit, MasksSettled, CellsFit, TablesLong, Joined
 use Rattle.steps.proofs.KindOf.{adds-kind, Quantifier, Joint, quantifier-of, joint-of, literal-of}
 use Rattle.steps.proofs.Steps.{packed-lt}
 use Rattle.steps.proofs.Visits.{all-constants, node-here, fits-here, node-below, room-here, visit-next, visit-children, visit-ports, touched-here, port-visit, port-untouched}
+use Rattle.steps.proofs.Ports.{Reached, reached-first, reached-next, reached-all}
 use Rattle.steps.proofs.Outcomes.{begun-fits, untouched-after, literal-cell, inner-cell, trees-more, trees-none, port-more, port-skipped, ports-none}
 use Rattle.trial.specs.Walking.{Ready, CellReady, CellGives, TreesReady, TreesGive, PortsReady, PortsSo}
 
@@ -45,7 +46,7 @@ unfolding CellsFit
 all-fit cells h j = h j
 
 -- a literal has no children
-no-children : (n : Node) (f : Forest) (l : Literal) → n ≡ lit l → arityRule (kindNumber n) (treeCount f) ≡ true → treeCount f ≡ 0
+pub no-children : (n : Node) (f : Forest) (l : Literal) → n ≡ lit l → arityRule (kindNumber n) (treeCount f) ≡ true → treeCount f ≡ 0
 unfolding arityRule kindNumber
 no-children n f l q h = go l (ap (λ (x : Node). arityRule (kindNumber x) (treeCount f)) (sym q) ∙ h)
   where
@@ -93,17 +94,17 @@ module _ (u sets : ℕ) (c : Changed) (bytes firsts ends uses masks cells : List
     -- what a visited cell says of itself
     module _ (ch : Change) (n : Node) (f s : Forest) (b : ℕ) (e : Tuple) (ready : Ready u sets c firsts ends uses masks cells ch)
         (v : Standing ch i (tree n f s) b d e place digits word) where
-      here : NodeIs bytes firsts ends uses i n f b
+      pub here : NodeIs bytes firsts ends uses i n f b
       here = node-here u sets ch bytes firsts ends uses cells i n f s b d e place digits word v
 
-      fits : NodeFits sets n f d
+      pub fits : NodeFits sets n f d
       fits = fits-here u sets ch bytes firsts ends uses cells i n f s b d e place digits word v
 
       old-here : (old : ℕ) → old ≡ getD cells (getD firsts i 0 + place) 0 → old ≡ cellOf u cells b e
       unfolding cellOf
       old-here old h = h ∙ ap₂ (λ (x y : ℕ). getD cells (x + y) 0) (here .first-is) (v .place-is)
 
-      touched-is : (used : ℕ) (x : Bool) → used ≡ getD uses i 0 → meets used word ≡ x → touched ch n f e ≡ x
+      pub touched-is : (used : ℕ) (x : Bool) → used ≡ getD uses i 0 → meets used word ≡ x → touched ch n f e ≡ x
       touched-is used x h m =
           touched-here u sets ch bytes firsts ends uses cells i n f s b d e place digits word v (ready .masks-settled .sets16) ∙ ap (λ (y : ℕ). meets y word) (sym h) ∙ m
 
@@ -116,17 +117,17 @@ module _ (u sets : ℕ) (c : Changed) (bytes firsts ends uses masks cells : List
           omega (arith, v .place-is, place-lt u (ready .masks-settled .ports1) (v .tuple), width-low u d (ready .masks-settled .ports64) (fits .depth3))
 
       -- the children of a quantifier, and of another inner node
-      ports-here : (used : ℕ) → used ≡ getD uses i 0 → Quantifier n
+      pub ports-here : (used : ℕ) → used ≡ getD uses i 0 → Quantifier n
           → PortsVisit u sets ch bytes firsts ends uses cells (i + 1) f (b + u ^ d) d e (place * u) digits word used
       unfolding Fitting Every
       ports-here used h q =
           let low : suc d ≤ 3 = first-tree f (suc d) sets (q .one (treeCount f) (fits .children)) (subst (λ (x : ℕ). Every (NodeFits sets) f x) (q .deeper d) (v .fitting .1)) in
           rw (add-one i, h) (visit-ports u sets ch bytes firsts ends uses cells i n f s b d e place digits word v (q .deeper d) (q .no-uses) low)
 
-      trees-here : Joint n → Standing ch (i + 1) f (b + u ^ d) d e place digits word
+      pub trees-here : Joint n → Standing ch (i + 1) f (b + u ^ d) d e place digits word
       trees-here q = rw (add-one i) (visit-children u sets ch bytes firsts ends uses cells i n f s b d e place digits word v (q .level d))
 
-      end-here : (end : ℕ) → end ≡ getD ends i 0 → end ≡ i + 1 + nodeCount f
+      pub end-here : (end : ℕ) → end ≡ getD ends i 0 → end ≡ i + 1 + nodeCount f
       end-here end h = h ∙ here .end-is ∙ (let w : i + suc (nodeCount f) ≡ i + 1 + nodeCount f = omega arith in w)
 
       -- a literal's record
@@ -402,21 +403,18 @@ module _ (u sets : ℕ) (c : Changed) (bytes firsts ends uses masks cells : List
         let m = r .ready .masks-settled in
         (omega (arith, r .visit .depth), rw (r .visit .digits-are) (packed-lt (omega (arith, m .ports64)) (r .visit .tuple)), omega (arith, m .ports64))
 
-    -- The ports below x are done; where only those of the change are visited, the first of them is done or next.
-    pub record Passed (all add : Bool) (acc : Sum) (x : ℕ) (r : Sum) : Type 0 where
-      pub below : x ≤ u
-      pub so : So add x acc r
-      pub late : all ≡ false → c .p ≤ x
+    abbrev pub Passed : Bool → Bool → Sum → ℕ → Sum → Type 0
+    Passed every add acc x r = Reached u c every (λ m. So add m acc r) x
 
     module _ (all add : Bool) (al : all ≡ (not add || meets used (restWord word d))) (acc : Sum) (ready : Ports acc) where
-      sums : all ≡ false → (add ≡ true) × (meets used (restWord word d) ≡ false)
+      pub sums : all ≡ false → (add ≡ true) × (meets used (restWord word d) ≡ false)
       sums h = go add refl
         where
           go : (x : Bool) → add ≡ x → (add ≡ true) × (meets used (restWord word d) ≡ false)
           go true q = (q, sym (ap (λ (y : Bool). not y || meets used (restWord word d)) q) ∙ sym al ∙ h)
           go false q = absurd (true≢false (sym (ap (λ (y : Bool). not y || meets used (restWord word d)) q) ∙ sym al ∙ h))
 
-      skip-to : (r : Sum) → all ≡ false → (x x′ : ℕ) → x ≤ x′ → ((y : ℕ) → x ≤ y → y < x′ → (y ≢ c .p) × (y ≢ c .q)) → So add x acc r → So add x′ acc r
+      pub skip-to : (r : Sum) → all ≡ false → (x x′ : ℕ) → x ≤ x′ → ((y : ℕ) → x ≤ y → y < x′ → (y ≢ c .p) × (y ≢ c .q)) → So add x acc r → So add x′ acc r
       skip-to r h x x′ l apart so =
           let s = sums h in
           let w : x + (x′ - x) ≡ x′ = omega arith in
@@ -424,69 +422,13 @@ module _ (u sets : ℕ) (c : Changed) (bytes firsts ends uses masks cells : List
           (subst (λ (m : ℕ). So true m acc r) w (ports-skip acc r (ready .low) (s .1) (x′ - x) x (λ y g k. apart y g (omega arith)) (subst (λ (a : Bool). So a x acc r) (s .0) so)))
 
       pub ports-start : (x : ℕ) → x ≡ cond all 0 (c .p) → Passed all add acc x acc
-      ports-start x q = go all refl
-        where
-          says : Says u (ready .change) c
-          says = ready .ready .says
-
-          go : (a : Bool) → all ≡ a → Passed all add acc x acc
-          go true h =
-              let z : x ≡ 0 = q ∙ ap (λ (y : Bool). cond y 0 (c .p)) h in
-              record {
-                below = omega arith;
-                so = rw z (ports-begin add acc (ready .few));
-                late = λ g. absurd (true≢false (sym h ∙ g));
-              }
-          go false h =
-              let z : x ≡ c .p = q ∙ ap (λ (y : Bool). cond y 0 (c .p)) h in
-              record {
-                below = omega (arith, says .order, says .below);
-                so = rw z (skip-to acc h 0 (c .p) (omega arith) (λ y g k. (λ e. omega arith, λ e. omega (arith, says .order))) (ports-begin add acc (ready .few)));
-                late = λ g. omega arith;
-              }
+      ports-start x q =
+          reached-first u c (ready .ready .says .order) (ready .ready .says .below) all (λ m. So add m acc acc) (skip-to acc) x q (ports-begin add acc (ready .few))
 
       pub ports-step : (x x′ : ℕ) (mid r : Sum) → Passed all add acc x mid → x < u → So add (suc x) acc r → x′ ≡ cond all (x + 1) (cond (ltb x (c .q)) (c .q) u)
           → (x < x′) × Passed all add acc x′ r
-      ports-step x x′ mid r passed l so q = go all refl (ltb x (c .q)) refl
-        where
-          says : Says u (ready .change) c
-          says = ready .ready .says
-
-          at : (a b : Bool) → all ≡ a → ltb x (c .q) ≡ b → x′ ≡ cond a (x + 1) (cond b (c .q) u)
-          at a b h k = q ∙ ap₂ (λ (y z : Bool). cond y (x + 1) (cond z (c .q) u)) h k
-
-          go : (a : Bool) → all ≡ a → (b : Bool) → ltb x (c .q) ≡ b → (x < x′) × Passed all add acc x′ r
-          go true h b k =
-              let z : x′ ≡ x + 1 = at true b h k in (
-                omega arith,
-                record {
-                  below = omega arith;
-                  so = rw (z ∙ add-one x) so;
-                  late = λ g. absurd (true≢false (sym h ∙ g));
-                },
-              )
-          go false h true k =
-              let z : x′ ≡ c .q = at false true h k in
-              let before = ltb-true x (c .q) k in
-              let first = passed .late h in (
-                omega arith,
-                record {
-                  below = omega (arith, says .below);
-                  so = rw z (skip-to r h (suc x) (c .q) (omega arith) (λ y g m. (λ e. omega arith, λ e. omega arith)) so);
-                  late = λ g. omega arith;
-                },
-              )
-          go false h false k =
-              let z : x′ ≡ u = at false false h k in
-              let past = ltb-false x (c .q) k in
-              let first = passed .late h in (
-                omega arith,
-                record {
-                  below = omega arith;
-                  so = rw z (skip-to r h (suc x) u (omega arith) (λ y g m. (λ e. omega arith, λ e. omega arith)) so);
-                  late = λ g. omega arith;
-                },
-              )
+      ports-step x x′ mid r passed l so q =
+          reached-next u c (ready .ready .says .order) (ready .ready .says .below) all (λ m. So add m acc r) (skip-to r) x x′ (passed .late) l so q
 
     pub finished : (every add : Bool) (acc : Sum) (x : ℕ) (r : Sum) → Passed every add acc x r → u ≤ x → So add u acc r
-    finished every add acc x r passed h = let e : x ≡ u = omega (arith, passed .below) in rw e at (passed .so)
+    finished every add acc x r passed h = reached-all u c every (λ m. So add m acc r) x passed h

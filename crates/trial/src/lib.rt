@@ -29,7 +29,7 @@ ghost use Rattle.trial.specs.Opening.{Opens};
 ghost use Rattle.trial.specs.Walking.{CellReady, CellGives, TreesReady, TreesGive, PortsReady, PortsSo};
 
 // Whether a node of a kind binds a variable.
-fn is_quantifier(kind: u8) -> bool
+pub fn is_quantifier(kind: u8) -> bool
     ensures { λ r. ⌜ r ≡ (leb 1 kind && leb kind 2) ⌝ }
 {
     if 1 <= kind {
@@ -40,7 +40,7 @@ fn is_quantifier(kind: u8) -> bool
 
 // Whether every port below a quantifier must be visited: a minimum reads all of them, and a sum does if more than the ports
 // of the change can be touched.
-fn every_port(add: bool, used: u64, word: u64, depth: usize) -> bool
+pub fn every_port(add: bool, used: u64, word: u64, depth: usize) -> bool
     ensures { λ r. ⌜ r ≡ (not add || meets used (restWord word depth)) ⌝ }
 {
     if add {
@@ -50,7 +50,7 @@ fn every_port(add: bool, used: u64, word: u64, depth: usize) -> bool
 }
 
 // The first port to visit, and the next.
-fn first_port(all: bool, c: Changed) -> usize
+pub fn first_port(all: bool, c: Changed) -> usize
     ensures { λ r. ⌜ r ≡ cond all 0 (c .p) ⌝ }
 {
     if all {
@@ -59,7 +59,7 @@ fn first_port(all: bool, c: Changed) -> usize
     c.p
 }
 
-fn next_port(all: bool, c: Changed, x: usize, ports: usize) -> usize
+pub fn next_port(all: bool, c: Changed, x: usize, ports: usize) -> usize
     requires { ⌜ x < ports ⌝ }
     ensures { λ r. ⌜ r ≡ cond all (x + 1) (cond (ltb x (c .q)) (c .q) ports) ⌝ }
 {

@@ -1,0 +1,5 @@
+pub mod Known
+pub mod Order
+pub mod Stepping
+pub mod Fitting
+pub mod Listing

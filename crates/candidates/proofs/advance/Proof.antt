@@ -1,0 +1,39 @@
+use mathlib.Core.Path.{sym, _∙_}
+use Rattle.esol.specs.Moves.{ofKinds}
+use Rattle.candidates.specs.Candidates.{StepsAny}
+use Rattle.candidates.proofs.Stepping.{skip-kind}
+use borrow.Author.Needs.{needs}
+use Rattle.candidates.proofs.advance.Statement.{statement}
+use Rattle.candidates.proofs.advance.Tie as tie
+use Rattle.candidates.proofs.advance.Reads as reads
+use Rattle.candidates.proofs.advance.Lts as lts
+use Rattle.candidates.proofs.at_fields.Reads as at-fields-reads
+use Rattle.candidates.proofs.of_kinds.Reads as of-kinds-reads
+use Rattle.candidates.proofs.step.Reads as step-reads
+
+of-kinds-requires : tie.Need-of-kinds-requires
+of-kinds-requires c κs = search needs
+
+step-requires : tie.Need-step-requires
+step-requires c κs = search needs
+
+returns : tie.Need-returns
+unfolding StepsAny
+returns c =
+    c .step .ensures (c .before .before .before .args .kinds)
+
+add-at-fields : tie.Need-add-at-fields
+add-at-fields c = search needs
+
+at-fields-requires : tie.Need-at-fields-requires
+at-fields-requires c κs = search needs
+
+returns-2 : tie.Need-returns-2
+unfolding ofKinds
+returns-2 c =
+    rw (c .at-fields .ensures) (skip-kind (c .before .before .before .before .args .ports) (c .before .before .before .before .args .sets) (c .before .before .before .before .args .kinds) (c .before .before .before .before .args .m) (c .before .before .before .before .pre) (sym (c .before .before .before .of-kinds .ensures) ∙ c .before .before .if1 .left))
+
+pub advance-spec : {M : Type 1} → statement M
+advance-spec =
+    tie.close
+    (tie.spec of-kinds-requires step-requires returns add-at-fields at-fields-requires returns-2)

@@ -1,0 +1,26 @@
+use denote.Ref.{now}
+use native.Mathlib.Omega.{arith}
+use Rattle.candidates.specs.Candidates.{outset}
+use Rattle.candidates.proofs.Stepping.{zeros-begin}
+use borrow.Author.Needs.{needs}
+use Rattle.candidates.proofs.first_candidate.Statement.{statement}
+use Rattle.candidates.proofs.first_candidate.Tie as tie
+use Rattle.candidates.proofs.first_candidate.Reads as reads
+use Rattle.candidates.proofs.first_candidate.Lts as lts
+use Rattle.candidates.proofs.at_fields.Reads as at-fields-reads
+use Rattle.candidates.proofs.next_candidate.Reads as next-candidate-reads
+
+at-fields-requires : tie.Need-at-fields-requires
+at-fields-requires c κs = search needs
+
+next-candidate-requires : tie.Need-next-candidate-requires
+next-candidate-requires c κs =
+    rw (c .at-fields .ensures) (zeros-begin _ (c .before .before .args .ports) (c .before .before .args .sets) (now (c .before .before .args .masks)) (omega arith) (c .before .before .pre))
+
+returns : tie.Need-returns
+unfolding outset
+returns c =
+    rw (← c .before .at-fields .ensures) (c .next-candidate .ensures)
+
+pub first-candidate-spec : {M : Type 1} → statement M
+first-candidate-spec = tie.close (tie.spec at-fields-requires next-candidate-requires returns)

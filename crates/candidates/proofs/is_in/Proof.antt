@@ -1,0 +1,31 @@
+use borrow.Author.Needs.{needs}
+use Rattle.esol.specs.Configuration.{inMasks}
+use borrow.Author.Needs.{needs}
+use Rattle.candidates.proofs.is_in.Statement.{statement}
+use Rattle.candidates.proofs.is_in.Tie as tie
+use Rattle.candidates.proofs.is_in.Reads as reads
+use Rattle.candidates.proofs.is_in.Lts as lts
+use Rattle.candidates.proofs.wide.Reads as wide-reads
+use Rattle.esol.proofs.has_port.Reads as has-port-reads
+
+wide-requires : tie.Need-wide-requires
+wide-requires c κs = search needs
+
+mul-has-port : tie.Need-mul-has-port
+mul-has-port c = search needs
+
+shared-slice-read-has-port : tie.Need-shared-slice-read-has-port
+shared-slice-read-has-port c = search needs
+
+has-port-requires : tie.Need-has-port-requires
+has-port-requires c κs = search needs
+
+returns : tie.Need-returns
+unfolding inMasks
+returns c =
+    cc
+
+pub is-in-spec : {M : Type 1} → statement M
+is-in-spec =
+    tie.close
+    (tie.spec wide-requires mul-has-port shared-slice-read-has-port has-port-requires returns)

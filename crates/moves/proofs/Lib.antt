@@ -1,0 +1,2 @@
+pub mod Rooted
+pub mod Writes

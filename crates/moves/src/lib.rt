@@ -1,0 +1,276 @@
+// Moves: a change carried through the cells in place, each touched cell once and children first. Paper 01, section One move.
+use hits::Changed;
+use hits::first_word;
+use hits::meet;
+use hits::port_word;
+use steps::After;
+use steps::Sum;
+use steps::adds_of;
+use steps::begin;
+use steps::cell_at;
+use steps::close;
+use steps::end_at;
+use steps::join;
+use steps::kind_at;
+use steps::literal_at;
+use steps::uses_at;
+use steps::with_port;
+use trial::every_port;
+use trial::first_port;
+use trial::is_quantifier;
+use trial::next_port;
+ghost use mathlib.Core.Path.{_≡_};
+ghost use Prim.Native.Nat.{_+_, _<_};
+ghost use lib.ListN.{length, getD, set};
+ghost use Rattle.steps.specs.Root.{RootReady, RootGives};
+ghost use Rattle.trial.specs.Walking.{CellReady, CellGives, TreesReady, TreesGive, PortsReady, PortsSo};
+ghost use Rattle.moves.specs.Writing.{CellWrites, TreesWrite, PortsWrite, RootWrites};
+
+// Writes a cell's number at a place of its node.
+fn put_cell(firsts: &[u32], i: usize, place: usize, value: u32, cells: &mut [u32])
+    requires { ⌜ (i < length (now firsts)) × (getD (now firsts) i 0 + place < length (now cells)) ⌝ }
+    ensures { λ _. ⌜ now (cells .exit) ≡ set (now (cells .entry)) (getD (now (firsts .entry)) i 0 + place) value ⌝ }
+{
+    let at = firsts[i] as usize + place;
+    cells[at] = value;
+}
+
+// A cell and all that is touched below it, written. Its old number is read first: the sum above takes the new minus the old.
+fn cell_written(
+    table: &[u8],
+    firsts: &[u32],
+    ends: &[u16],
+    uses: &[u64],
+    masks: &[u64],
+    cells: &mut [u32],
+    ports: usize,
+    sets: usize,
+    c: Changed,
+    i: usize,
+    depth: usize,
+    place: usize,
+    digits: u32,
+    word: u64,
+) -> After
+    requires { ⌜ CellReady ports sets c (now table) (now firsts) (now ends) (now uses) (now masks) (now cells) i depth place digits word ⌝ }
+    ensures { λ r. ⌜ CellGives ports sets c (now (table .entry)) (now (firsts .entry)) (now (ends .entry)) (now (uses .entry)) (now (masks .entry)) (now (cells .entry)) i depth place digits word r × CellWrites ports sets c (now (table .entry)) (now (firsts .entry)) (now (ends .entry)) (now (uses .entry)) (now (masks .entry)) (now (cells .entry)) i depth place digits word (now (cells .exit)) ⌝ }
+{
+    let old = cell_at(firsts, i, place, &cells[..]);
+    let used = uses_at(uses, i);
+    if !meet(used, word) {
+        return After {
+            old: old,
+            value: old,
+            changed: 0,
+        };
+    }
+    let kind = kind_at(table, i);
+    if 5 <= kind {
+        let value = literal_at(table, i, ports, sets, depth, masks, digits);
+        put_cell(firsts, i, place, value, cells);
+        return close(
+            old,
+            Sum {
+                value: value,
+                changed: 0,
+            },
+        );
+    }
+    let add = adds_of(kind);
+    let begun = begin(add, old);
+    let end = end_at(ends, i);
+    if is_quantifier(kind) {
+        let r = ports_written(
+            table,
+            firsts,
+            ends,
+            uses,
+            masks,
+            cells,
+            ports,
+            sets,
+            c,
+            i + 1,
+            end,
+            depth,
+            place * ports,
+            digits,
+            word,
+            used,
+            add,
+            begun,
+        );
+        put_cell(firsts, i, place, r.value, cells);
+        return close(old, r);
+    }
+    let r = trees_written(
+        table,
+        firsts,
+        ends,
+        uses,
+        masks,
+        cells,
+        ports,
+        sets,
+        c,
+        i + 1,
+        end,
+        depth,
+        place,
+        digits,
+        word,
+        add,
+        begun,
+    );
+    put_cell(firsts, i, place, r.value, cells);
+    close(old, r)
+}
+
+// The trees of a forest at a tuple, written one after the other and gone into a sum or a minimum.
+fn trees_written(
+    table: &[u8],
+    firsts: &[u32],
+    ends: &[u16],
+    uses: &[u64],
+    masks: &[u64],
+    cells: &mut [u32],
+    ports: usize,
+    sets: usize,
+    c: Changed,
+    i: usize,
+    until: usize,
+    depth: usize,
+    place: usize,
+    digits: u32,
+    word: u64,
+    add: bool,
+    acc: Sum,
+) -> Sum
+    requires { ⌜ TreesReady ports sets c (now table) (now firsts) (now ends) (now uses) (now masks) (now cells) i until depth place digits word acc ⌝ }
+    ensures { λ r. ⌜ TreesGive ports sets c (now (table .entry)) (now (firsts .entry)) (now (ends .entry)) (now (uses .entry)) (now (masks .entry)) (now (cells .entry)) i until depth place digits word add acc r × TreesWrite ports sets c (now (table .entry)) (now (firsts .entry)) (now (ends .entry)) (now (uses .entry)) (now (masks .entry)) (now (cells .entry)) i until depth place digits word (now (cells .exit)) ⌝ }
+{
+    if until <= i {
+        return acc;
+    }
+    let r = cell_written(
+        table,
+        firsts,
+        ends,
+        uses,
+        masks,
+        cells,
+        ports,
+        sets,
+        c,
+        i,
+        depth,
+        place,
+        digits,
+        word,
+    );
+    let next = end_at(ends, i);
+    trees_written(
+        table,
+        firsts,
+        ends,
+        uses,
+        masks,
+        cells,
+        ports,
+        sets,
+        c,
+        next,
+        until,
+        depth,
+        place,
+        digits,
+        word,
+        add,
+        join(add, acc, r),
+    )
+}
+
+// The trees below a quantifier, written at each port that can be touched, or visited at all of them.
+fn ports_written(
+    table: &[u8],
+    firsts: &[u32],
+    ends: &[u16],
+    uses: &[u64],
+    masks: &[u64],
+    cells: &mut [u32],
+    ports: usize,
+    sets: usize,
+    c: Changed,
+    i: usize,
+    until: usize,
+    depth: usize,
+    row: usize,
+    digits: u32,
+    word: u64,
+    used: u64,
+    add: bool,
+    acc: Sum,
+) -> Sum
+    requires { ⌜ PortsReady ports sets c (now table) (now firsts) (now ends) (now uses) (now masks) (now cells) i until depth row digits word used acc ⌝ }
+    ensures { λ r. ⌜ PortsSo ports sets c (now (table .entry)) (now (firsts .entry)) (now (ends .entry)) (now (uses .entry)) (now (masks .entry)) (now (cells .entry)) i until depth row digits word used add ports acc r × PortsWrite ports sets c (now (table .entry)) (now (firsts .entry)) (now (ends .entry)) (now (uses .entry)) (now (masks .entry)) (now (cells .entry)) i until depth row digits word used ports (now (cells .exit)) ⌝ }
+{
+    let all = every_port(add, used, word, depth);
+    let mut sum = acc;
+    let mut x = first_port(all, c);
+    while x < ports {
+        sum = trees_written(
+            table,
+            firsts,
+            ends,
+            uses,
+            masks,
+            cells,
+            ports,
+            sets,
+            c,
+            i,
+            until,
+            depth + 1,
+            row + x,
+            with_port(digits, depth, x),
+            port_word(c, word, depth, x),
+            add,
+            sum,
+        );
+        x = next_port(all, c, x, ports);
+    }
+    sum
+}
+
+// A change carried through all of a plan's own cells, under the masks after it.
+pub fn root_written(
+    table: &[u8],
+    firsts: &[u32],
+    ends: &[u16],
+    uses: &[u64],
+    masks: &[u64],
+    cells: &mut [u32],
+    ports: usize,
+    sets: usize,
+    c: Changed,
+) -> After
+    requires { ⌜ RootReady ports sets c (now table) (now firsts) (now ends) (now uses) (now masks) (now cells) ⌝ }
+    ensures { λ r. ⌜ RootGives ports c (now (table .entry)) (now (masks .entry)) (now (cells .entry)) r × RootWrites ports c (now (table .entry)) (now (masks .entry)) (now (cells .entry)) (now (cells .exit)) ⌝ }
+{
+    cell_written(
+        table,
+        firsts,
+        ends,
+        uses,
+        masks,
+        cells,
+        ports,
+        sets,
+        c,
+        0,
+        0,
+        0,
+        0,
+        first_word(c),
+    )
+}
