@@ -1,0 +1,248 @@
+// Texts of paper 01 through read and load, each ground at its boundary: what it prints is held to the file stdout.
+use load::Loaded;
+use load::load;
+use reader::Answer;
+use reader::read;
+ghost use Prim.Native.Nat.{_≤_, _<_};
+
+// j, or 0 behind the last of n places.
+fn wrapped(j: usize, n: usize) -> usize
+    requires { ⌜ 1 ≤ n ⌝ }
+    ensures { λ r. ⌜ r < n ⌝ }
+{
+    if j < n {
+        return j;
+    }
+    0
+}
+
+// Lays a piece again and again over out, from place `from` up to place `to`, as far as there is room.
+fn lay(out: &mut [u8], from: usize, to: usize, piece: &[u8]) {
+    if piece.len() == 0 {
+        return;
+    }
+    let mut i = from;
+    let mut j = 0;
+    while i < to {
+        if out.len() <= i {
+            return;
+        }
+        let k = wrapped(j, piece.len());
+        out[i] = piece[k];
+        i += 1;
+        j = k + 1;
+    }
+}
+
+fn accepted(nodes: u32, cells: u32) {
+    io::write_all(1, b"nodes ");
+    io::print_decimal(1, nodes as u64);
+    io::write_all(1, b" cells ");
+    io::print_decimal(1, cells as u64);
+    io::write_all(1, b"\n");
+}
+
+fn loaded(root: u32, cells: u32) {
+    io::write_all(1, b"penalty ");
+    io::print_decimal(1, root as u64);
+    io::write_all(1, b" cells ");
+    io::print_decimal(1, cells as u64);
+    io::write_all(1, b"\n");
+}
+
+fn refused(number: u8) {
+    io::write_all(1, b"refused ");
+    io::print_decimal(1, number as u64);
+    io::write_all(1, b"\n");
+}
+
+// Reads a text into a table and prints the answer: `nodes N cells C` or `refused N`.
+fn say_read(u: u64, text: &[u8], table: &mut [u8]) {
+    let answer = read(u, text, table);
+    match answer {
+        Answer::Accepted { nodes, cells } => accepted(nodes, cells),
+        Answer::Refused(n) => refused(n),
+    }
+}
+
+// Reads a text and prints the answer.
+fn say(u: u64, text: &[u8]) {
+    let mut table = [0u8; 4105];
+    say_read(u, text, &mut table);
+}
+
+// Reads a text, loads its table and prints load's answer: `penalty P cells C` or `refused N`.
+fn run(u: u64, text: &[u8], masks: &[u64], cells: &mut [u32]) {
+    let mut table = [0u8; 4105];
+    say_read(u, text, &mut table);
+    let answer = load(&table, masks, cells);
+    match answer {
+        Loaded::Accepted { root, cells } => loaded(root, cells),
+        Loaded::Refused(n) => refused(n),
+    }
+}
+
+// A text of four parts, the second and the fourth of so many bytes, laid from pieces; read over one port.
+fn say_long(first: &[u8], piece: &[u8], length: usize, middle: &[u8], last: &[u8], more: usize) {
+    let mut text = [32u8; 8192];
+    if 1000 < first.len() {
+        return;
+    }
+    if 1000 < middle.len() {
+        return;
+    }
+    if 4100 < length {
+        return;
+    }
+    if 4100 < more {
+        return;
+    }
+    let a = first.len();
+    let b = a + length;
+    let c = b + middle.len();
+    let d = c + more;
+    lay(&mut text, 0, a, first);
+    lay(&mut text, a, b, piece);
+    lay(&mut text, b, c, middle);
+    lay(&mut text, c, d, last);
+    say_part(&text, d);
+}
+
+fn say_part(text: &[u8], length: usize) {
+    if text.len() < length {
+        return;
+    }
+    say(1, &text[0..length]);
+}
+
+// The starred plans, in the paper's order.
+fn starred() {
+    let mut cells = [0u32; 128];
+    let three = [3u64, 7, 1];
+    let one = [1u64, 1];
+    run(
+        3,
+        b"[STI] @x (x:I <-> x:S & x:T) & #I <= 1",
+        &three,
+        &mut cells,
+    );
+    run(2, b"[ST] @x (x/S | x:T) & ?x (x:T & x/S)", &one, &mut cells);
+    let none = [0u64];
+    run(1, b"[S] ?x x:S", &none, &mut cells);
+    run(1, b"[S] ?x x:S", &one, &mut cells);
+    run(64, b"[S] #S < 0", &none, &mut cells);
+    let full = [18446744073709551615u64];
+    run(64, b"[S] #S > 64", &full, &mut cells);
+    run(64, b"[S] #S = 2", &none, &mut cells);
+    let four = [15u64];
+    run(64, b"[S] #S = 2", &four, &mut cells);
+    let two = [3u64];
+    run(64, b"[S] #S != 2", &two, &mut cells);
+}
+
+// Ports, bytes, grammar, names, constants, quantifiers and cells.
+fn short_texts() {
+    say(0, b"[S] ?x x:S");
+    say(1, b"[S] ?x x:S");
+    say(64, b"[S] ?x x:S");
+    say(65, b"[S] ?x x:S");
+    say(257, b"[S] ?x x:S");
+    say(4294967299, b"[S] ?x x:S");
+    say(1, b"[S]#S<1 - $");
+    say(1, b"[S]#S<1 - ");
+    say(1, b"[S]\t#S<1");
+    say(1, b"");
+    say(1, b"[]#S<1");
+    say(1, b"[S]");
+    say(1, b"[S]\n#S\n<1\n");
+    say(1, b"[S] #S < = 1");
+    say(1, b"[S] #S <= 64");
+    say(1, b"[S] #S <= 65");
+    say(1, b"[S] #S <= 064");
+    say(1, b"[S] #S <= 99999999999999999999999999999999999999999");
+    say(1, b"[S] #S<1->#S<2->#S<3");
+    say(1, b"[S] @x @x x:S");
+    say(1, b"[S] @x x:S & x:S");
+    say(1, b"[S] @x x:S & @x x:S");
+    say(1, b"[S] @x x:T");
+    say(1, b"[SS] #S<1");
+    say(1, b"[ABCDEFGHIJKLMNOP] #A<1");
+    say(1, b"[ABCDEFGHIJKLMNOPQ] #A<1");
+    say(1, b"[S] @x@y@zx<z");
+    say(1, b"[S] @x@y@z?wx<w");
+    say(64, b"[S] @x @y @z (x:S & y:S)");
+    say(64, b"[S] @x @y @z (x:S & y:S & z:S)");
+}
+
+// Lengths, nestings and nodes at their limits.
+fn long_texts() {
+    say_long(b"[S] #S<1", b" ", 4088, b"", b"", 0);
+    say_long(b"[S] #S<1", b" ", 4089, b"", b"", 0);
+    say_long(b"[S] ", b"~", 64, b"#S<1", b"", 0);
+    say_long(b"[S] ", b"~", 65, b"#S<1", b"", 0);
+    say_long(b"[S] ", b"(", 64, b"#S<1", b")", 64);
+    say_long(b"[S] ", b"(", 65, b"#S<1", b")", 65);
+    say_long(b"[S]", b"(", 2044, b"#S<1", b")", 2044);
+    say_long(b"[S]", b"(", 4088, b"#S<1", b"", 0);
+    say_long(b"[S] #S<1", b"&#S<1", 2545, b"", b"", 0);
+    say_long(b"[S] #S<1", b"&#S<1", 2550, b"", b"", 0);
+    say_long(b"[S] ", b"(", 64, b"#S<1", b"<->#S<1)", 512);
+    say_long(b"[S] ", b"(", 64, b"#S<1", b"<->#S<1)", 513);
+}
+
+// An output table of just the plan's length, and one byte less: the old bytes stay.
+fn tables() {
+    let mut table = [7u8; 36];
+    say_short(b"[S] ?x x:S", &mut table, 32);
+    show(&table);
+    say_short(b"[S] ?x x:S", &mut table, 33);
+    show(&table);
+}
+
+fn say_short(text: &[u8], table: &mut [u8], length: usize) {
+    if table.len() < length {
+        return;
+    }
+    say_read(1, text, &mut table[0..length]);
+}
+
+fn wide(b: u8) -> u64 {
+    b as u64
+}
+
+fn show(bytes: &[u8]) {
+    let mut i = 0;
+    while i < bytes.len() {
+        io::print_decimal(1, wide(bytes[i]));
+        io::write_all(1, b" ");
+        i += 1;
+    }
+    io::write_all(1, b"\n");
+}
+
+// Room for the largest plans.
+fn room() -> [u32; 800000] {
+    [0u32; 800000]
+}
+
+// 65,536 conjuncts are false: 16 bits would have stored 0. Then 790,594 cells.
+fn large_plans() {
+    let mut cells = room();
+    let none = [0u64];
+    run(
+        64,
+        b"[S] @x @y (x:S&x:S&x:S&x:S&x:S&x:S&x:S&x:S&x:S&x:S&x:S&x:S&x:S&x:S&x:S&x:S)",
+        &none,
+        &mut cells,
+    );
+    run(64, b"[S] @x @y @z (x:S & y:S)", &none, &mut cells);
+    run(64, b"[S] @x @y @z (x:S & y:S & z:S)", &none, &mut cells);
+}
+
+fn main() {
+    starred();
+    short_texts();
+    long_texts();
+    tables();
+    large_plans();
+}

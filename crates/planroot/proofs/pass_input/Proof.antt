@@ -1,0 +1,114 @@
+use Prim.Native.Nat.{_≤_, _<_}
+use mathlib.Core.Path.{_≡_, refl, sym, ap, _∙_}
+use mathlib.Core.List.{[], _++_}
+use native.Mathlib.Omega.{arith}
+use borrow.Author.Needs.{needs}
+use lib.ListN.{length}
+use Rattle.planroot.specs.Known.{Known}
+use Rattle.planroot.proofs.Passing.{known-start, known-step}
+use Rattle.planroot.proofs.pass_input.Statement.{statement}
+use Rattle.planroot.proofs.pass_input.Tie as tie
+use Rattle.planroot.proofs.pass_input.Reads as reads
+use Rattle.planroot.proofs.pass_input.Lts as lts
+use Rattle.input.proofs.start.Reads as start-reads
+use Rattle.input.proofs.step.Reads as step-reads
+use Rattle.io.proofs.buffer.Reads as buffer-reads
+use Rattle.io.proofs.read_full.Reads as read-full-reads
+
+abbrev Inv-loop : tie.InvT-loop
+Inv-loop masks₀ text₀ s₀ piece₀ left₀ masks text s piece left = Known s masks text × (length masks ≡ length masks₀) × (length text ≡ length text₀) × (length piece ≡ 4096)
+
+abbrev μ-loop : tie.MeasureT-loop
+μ-loop masks₀ text₀ s₀ piece₀ left₀ masks text s piece left = left
+
+start-requires : tie.Need-start-requires Inv-loop μ-loop
+start-requires c κs =
+    search needs
+
+buffer-requires : tie.Need-buffer-requires Inv-loop μ-loop
+buffer-requires c κs =
+    search needs
+
+loop-holds : tie.Need-loop-holds Inv-loop μ-loop
+loop-holds c =
+    (known-start _ _ _ (c .before .start .ensures), refl, refl, sym (c .buffer .ensures))
+
+slice-aggregate-read-full : tie.Need-slice-aggregate-read-full Inv-loop μ-loop
+slice-aggregate-read-full c =
+    sym (c .before .before .loop .inv .3)
+
+read-full-requires : tie.Need-read-full-requires Inv-loop μ-loop
+read-full-requires c κs =
+    search needs
+
+same-length : tie.Need-same-length Inv-loop μ-loop
+same-length c =
+    c .before .before .before .before .before .loop .inv .1
+
+same-length-2 : tie.Need-same-length-2 Inv-loop μ-loop
+same-length-2 c =
+    c .before .before .before .before .before .loop .inv .2
+
+returns : tie.Need-returns Inv-loop μ-loop
+returns c =
+    c .before .before .before .before .before .loop .inv .0
+
+array-share-prefix-piece : tie.Need-array-share-prefix-piece Inv-loop μ-loop
+array-share-prefix-piece c =
+    search needs
+
+slice-aggregate-step : tie.Need-slice-aggregate-step Inv-loop μ-loop
+slice-aggregate-step c =
+    search needs
+
+step-requires : tie.Need-step-requires Inv-loop μ-loop
+step-requires c κs =
+    record { masks-room = rw (c .before .before .before .before .before .before .before .before .loop .inv .1) (c .before .before .before .before .before .before .before .before .before .before .before .before .before .pre .masks-room); text-room = rw (c .before .before .before .before .before .before .before .before .loop .inv .2) (c .before .before .before .before .before .before .before .before .before .before .before .before .before .pre .text-room) }
+
+sub-left : tie.Need-sub-left Inv-loop μ-loop
+sub-left c =
+    omega (arith, c .before .before .before .before .before .before .before .before .before .before .before .before .loop-test .taken)
+
+loop-less : tie.Need-loop-less Inv-loop μ-loop
+loop-less c =
+    omega (arith, c .before .before .before .before .before .before .before .before .before .before .before .before .loop-test .taken)
+
+loop-again : tie.Need-loop-again Inv-loop μ-loop
+loop-again c =
+    (known-step _ _ _ _ _ _ _ (c .before .before .before .before .before .before .before .before .before .before .before .before .before .loop .inv .0) (c .before .before .before .before .step .ensures), c .before .before .before .before .step .kept .1 .1 .0 ∙ c .before .before .before .before .before .before .before .before .before .before .before .before .before .loop .inv .1, c .before .before .before .before .step .kept .1 .1 .1 .0 ∙ c .before .before .before .before .before .before .before .before .before .before .before .before .before .loop .inv .2, c .before .before .before .before .before .before .before .before .before .before .read-full .kept .1 .0 ∙ c .before .before .before .before .before .before .before .before .before .before .before .before .before .loop .inv .3)
+
+same-length-3 : tie.Need-same-length-3 Inv-loop μ-loop
+same-length-3 c =
+    c .before .loop .inv .1
+
+same-length-4 : tie.Need-same-length-4 Inv-loop μ-loop
+same-length-4 c =
+    c .before .loop .inv .2
+
+returns-2 : tie.Need-returns-2 Inv-loop μ-loop
+returns-2 c =
+    c .before .loop .inv .0
+
+pub pass-input-spec : {M : Type 1} → statement M
+pass-input-spec =
+    tie.close
+    (tie.spec
+    Inv-loop
+    μ-loop
+    start-requires
+    buffer-requires
+    loop-holds
+    slice-aggregate-read-full
+    read-full-requires
+    same-length
+    same-length-2
+    returns
+    array-share-prefix-piece
+    slice-aggregate-step
+    step-requires
+    sub-left
+    loop-less
+    loop-again
+    same-length-3
+    same-length-4
+    returns-2)

@@ -1,0 +1,4 @@
+-- Laws of planroot's line.
+pub mod Answers
+pub mod Finishing
+pub mod Pieces

@@ -1,0 +1,4 @@
+pub mod Loading
+pub mod Line
+pub mod Contract
+pub mod Pieces
