@@ -1,0 +1,4 @@
+pub mod Choosing
+pub mod Trying
+pub mod Copying
+pub mod Searching
