@@ -2,3 +2,4 @@ pub mod Choosing
 pub mod Trying
 pub mod Copying
 pub mod Searching
+pub mod Answering
