@@ -1,7 +1,7 @@
 -- The list of candidates: what is in it, its order, and the walk through it. Assumes nothing.
 use mathlib.Core.Path.{_≡_, refl, sym, ap, ap₂, _∙_, subst}
 use mathlib.Core.Logic.{_⊎_, inl, inr, _↔_}
-use mathlib.Core.Bool.{Bool, true, false, cond, _&&_, true≢false, false≢true}
+use mathlib.Core.Bool.{Bool, true, false, cond, true≢false}
 use mathlib.Core.List.{List, [], _∷_, _++_, List·Memᴰ, List·Memᴰ·head, List·Memᴰ·tail, List·Memᴰ·cases-cons, List·Memᴰ·not-nil, Memᴰ·append-left, Memᴰ·append-right}
 use Prim.Native.Nat.{ℕ, zero, suc, _+_, _*_, _≤_, _<_}
 use native.Mathlib.Omega.{arith}
@@ -14,7 +14,7 @@ use Rattle.esol.specs.Penalty.{eachPort}
 use Rattle.esol.specs.Moves.{known, fits, legal, ofKinds}
 use Rattle.esol.proofs.Lists.{and-left, and-right, and-true}
 use Rattle.calls.specs.ImproveCall.{Candidate}
-use Rattle.candidates.specs.Candidates.{fieldsAre, allMoves, kept, candidates, Earlier, Rising, Once, place, tEnd, qEnd, Fields, Sized, Begins, Follows, NoneLater, outset, Walked}
+use Rattle.candidates.specs.Candidates.{fieldsAre, allMoves, kept, candidates, Rising, Once, place, tEnd, qEnd, Fields, Sized, Begins, Follows, outset, Walked}
 use Rattle.candidates.proofs.Known.{known-fields}
 use Rattle.candidates.proofs.Order.{Low, fields-low, place-same, place-earlier}
 

@@ -12,15 +12,17 @@ use Rattle.esol.specs.Formula.{Plan}
 use Rattle.esol.specs.Configuration.{inMasks}
 use Rattle.calls.specs.ImproveCall.{rootNow, rootAfter, Candidate}
 use Rattle.candidates.specs.declared.Next.{Next}
-use Rattle.candidates.specs.Candidates.{fieldsAre, place, Sized, outset, Follows, NoneLater, NextOr}
+use Rattle.candidates.specs.Candidates.{fieldsAre, place, Sized, outset, NextOr}
 use Rattle.candidates.proofs.Order.{place-same}
-use Rattle.candidates.proofs.Listing.{candidate-fields, candidate-low, candidate-high, past-outset}
+use Rattle.candidates.proofs.Listing.{candidate-fields, candidate-low, past-outset}
 use Rattle.improve.specs.declared.Choice.{Choice}
-use Rattle.improve.specs.Choosing.{BestFound, NoneFound, FoundOr, choiceOf}
+use Rattle.improve.specs.Choosing.{FoundOr, choiceOf}
 
 -- the best of the candidates passed
 unfoldable pub BestSo : Bool → Plan → ℕ → List ℕ → List ℕ → Choice → Type 0
-BestSo true P kinds own before b = Candidate P kinds own (b .m) × (b .root ≡ rootAfter P (b .m) own before) × (b .root < rootNow before)
+BestSo true P kinds own before b =
+    Candidate P kinds own (b .m) × (b .root ≡ rootAfter P (b .m) own before) × (b .root < rootNow before)
+    × ((n : Move) → Candidate P kinds own n → place n < place (b .m) → b .root < rootAfter P n own before)
 BestSo false P kinds own before b = b .root ≡ rootNow before
 
 -- The state of a search that stands at a candidate, or has passed them all.
@@ -100,7 +102,7 @@ module _ (P : Plan) (Z : Sized (P .ports) (P .sets)) (kinds : ℕ) (own before :
       go (yes l) =
           let x = best-low (best .found) best (S .best-so) in
           subst (λ (y : Choice). Sought P kinds own before y next) (sym (b ∙ ap (λ (f : Bool). cond f (choiceOf true (at .m) root) best) (lt-ltb root (best .root) l)))
-          (sought-on best (choiceOf true (at .m) root) at next root S t e N (S .here t, e, omega (arith, l, x)) (omega (arith, l)) (omega arith))
+          (sought-on best (choiceOf true (at .m) root) at next root S t e N (S .here t, e, omega (arith, l, x), (λ n c h. let y = S .least n c (λ z. h) in omega (arith, y, l))) (omega (arith, l)) (omega arith))
       go (no n) =
           subst (λ (y : Choice). Sought P kinds own before y next) (sym (b ∙ ap (λ (f : Bool). cond f (choiceOf true (at .m) root) best) (le-ltb root (best .root) (omega arith))))
           (sought-on best best at next root S t e N (S .best-so) (omega arith) (omega arith))
@@ -108,7 +110,7 @@ module _ (P : Plan) (Z : Sized (P .ports) (P .sets)) (kinds : ℕ) (own before :
   found-or : (f : Bool) (b : Choice) → BestSo f P kinds own before b → ((m : Move) → Candidate P kinds own m → b .root ≤ rootAfter P m own before)
       → FoundOr f P kinds own before b
   unfolding BestSo FoundOr
-  found-or true b h l = record { candidate = h .0; root-is = h .1; smaller = h .2; least = l }
+  found-or true b h l = record { candidate = h .0; root-is = h .1; smaller = h .2; least = l; earliest = h .3 }
   found-or false b e l = record { root-is = e; none-smaller = λ m c. let x = l m c in omega (arith, x, e) }
 
   -- past the last

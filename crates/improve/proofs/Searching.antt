@@ -1,13 +1,11 @@
 -- The search over the tables: its state at each candidate, for the plan that the bytes spell. Assumes nothing.
-use mathlib.Core.Path.{_≡_, refl, sym, ap, _∙_, subst}
+use mathlib.Core.Path.{_≡_, sym, _∙_, subst}
 use mathlib.Core.Bool.{Bool, true, false, cond}
 use mathlib.Core.List.{List}
-use Prim.Native.Nat.{ℕ, _≤_, _<_}
-use native.Mathlib.Omega.{arith}
+use Prim.Native.Nat.{ℕ, _<_}
 use lib.Dec.{ltb}
 use lib.ListN.{length, getD, take}
 use lib.Seq.{getD-take}
-use Rattle.esol.specs.declared.Move.{Move}
 use Rattle.esol.specs.Formula.{Plan}
 use Rattle.esol.specs.Configuration.{inMasks, ownMasks}
 use Rattle.esol.specs.Cells.{ownCells}
@@ -18,7 +16,7 @@ use Rattle.candidates.specs.declared.Next.{Next}
 use Rattle.candidates.specs.Candidates.{place, outset, BeginsOver, GivesNext}
 use Rattle.candidates.proofs.Listing.{candidate-high}
 use Rattle.improve.specs.declared.Choice.{Choice}
-use Rattle.improve.specs.Choosing.{SearchReady, SearchRoom, TryReady, RootIs, Chooses, choiceOf}
+use Rattle.improve.specs.Choosing.{SearchReady, TryReady, RootIs, Chooses, choiceOf}
 use Rattle.improve.proofs.Choosing.{Sought, left, left-less, sought-first, sought-next, sought-end}
 use Rattle.improve.proofs.Trying.{sized-of, gives-here, begins-over, root-cell}
 

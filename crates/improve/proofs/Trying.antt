@@ -1,18 +1,18 @@
 -- One candidate tried: what its masks and the walk ask, and the root that it would leave. Assumes nothing.
-use mathlib.Core.Path.{_≡_, refl, sym, ap, _∙_, subst}
-use mathlib.Core.Bool.{true, _&&_}
+use mathlib.Core.Path.{_≡_, sym, ap, _∙_, subst}
+use mathlib.Core.Bool.{true}
 use mathlib.Core.List.{List}
 use Prim.Native.Nat.{ℕ, _≤_, _<_}
 use native.Mathlib.Nat.{pow-zero}
 use native.Mathlib.Omega.{arith}
 use lib.ListN.{length, getD, take}
-use lib.Seq.{length-take-le, take-all, getD-take}
+use lib.Seq.{length-take-le, take-all}
 use Rattle.esol.specs.declared.Move.{Move}
 use Rattle.esol.specs.Formula.{Forest, Plan}
 use Rattle.esol.specs.Configuration.{inMasks, ownMasks, spelled}
 use Rattle.esol.specs.Cells.{cellCount, ownCells}
 use Rattle.esol.specs.Moves.{moveMasks, movePairs, known, fits, legal}
-use Rattle.esol.specs.Change.{Change, pairsChange, newCells}
+use Rattle.esol.specs.Change.{pairsChange, newCells}
 use Rattle.esol.proofs.Lists.{and-left, and-right}
 use Rattle.plan.specs.Decode.{sound, decode}
 use Rattle.plan.specs.Facts.{PlanFacts}
@@ -21,16 +21,16 @@ use Rattle.plan.proofs.Facts.{plan-facts}
 use Rattle.load.specs.Load.{allWithin}
 use Rattle.load.proofs.Loading.{within-at}
 use Rattle.hits.specs.declared.Changed.{Changed}
-use Rattle.hits.specs.Hits.{Says, Tells}
+use Rattle.hits.specs.Hits.{Tells}
 use Rattle.steps.specs.declared.After.{After}
-use Rattle.steps.specs.Visit.{MasksSettled, CellsFit, TablesLong}
-use Rattle.steps.specs.Root.{Indexed, RootReady, RootAfter, RootGives}
+use Rattle.steps.specs.Visit.{MasksSettled}
+use Rattle.steps.specs.Root.{RootReady, RootGives}
 use Rattle.steps.proofs.Rooting.{formula-is}
 use Rattle.calls.specs.MoveCall.{cellsAfter}
-use Rattle.calls.specs.ImproveCall.{rootNow, rootAfter, Candidate}
+use Rattle.calls.specs.ImproveCall.{rootAfter}
 use Rattle.calls.proofs.Within.{move-within, move-length}
 use Rattle.candidates.specs.declared.Next.{Next}
-use Rattle.candidates.specs.Candidates.{Fields, Sized, KnownOver, LegalOver, Begins, BeginsOver, SizedOver, NextOr, GivesNext}
+use Rattle.candidates.specs.Candidates.{Fields, Sized, LegalOver, Begins, BeginsOver, SizedOver, NextOr, GivesNext}
 use Rattle.candidates.proofs.Known.{known-fields}
 use Rattle.candidates.proofs.Listing.{candidate-begins}
 use Rattle.improve.specs.Choosing.{SearchReady, RootIs}

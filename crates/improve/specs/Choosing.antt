@@ -14,6 +14,7 @@ use Rattle.load.specs.Load.{allWithin}
 use Rattle.steps.specs.Visit.{CellsFit, TablesLong}
 use Rattle.steps.specs.Root.{Indexed}
 use Rattle.calls.specs.ImproveCall.{rootNow, rootAfter, Candidate}
+use Rattle.candidates.specs.Candidates.{place}
 use Rattle.improve.specs.declared.Choice.{Choice}
 
 -- Tables to which none of 11 to 13 applies, as trial's opening leaves them.
@@ -50,6 +51,8 @@ pub record BestFound (P : Plan) (kinds : ℕ) (own before : List ℕ) (r : Choic
   pub root-is : r .root ≡ rootAfter P (r .m) own before
   pub smaller : r .root < rootNow before
   pub least : (m : Move) → Candidate P kinds own m → r .root ≤ rootAfter P m own before
+  -- Which of equally good moves is left free; this one is the first in the order, as paper 02's request 2026-01 will ask.
+  pub earliest : (m : Move) → Candidate P kinds own m → place m < place (r .m) → r .root < rootAfter P m own before
 
 -- "Otherwise it answers "no better move" with the root"
 pub record NoneFound (P : Plan) (kinds : ℕ) (own before : List ℕ) (r : Choice) : Type 0 where

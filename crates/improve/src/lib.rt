@@ -10,7 +10,7 @@ ghost use mathlib.Core.Path.{_≡_};
 ghost use mathlib.Core.Bool.{true, false, cond};
 ghost use Prim.Native.Nat.{ℕ, _≤_};
 ghost use lib.Dec.{ltb};
-ghost use lib.ListN.{length, getD, take};
+ghost use lib.ListN.{length, take};
 ghost use Rattle.candidates.specs.Candidates.{outset};
 ghost use Rattle.improve.specs.Choosing.{SearchReady, SearchRoom, TryReady, RootIs, Chooses, choiceOf};
 

@@ -1,7 +1,5 @@
 use Prim.Native.Nat.{_-_}
 use native.Mathlib.Omega.{arith}
-use lib.ListN.{length, length-set}
-use borrow.Author.Needs.{needs}
 use Rattle.improve.proofs.Copying.{Copied, copied-none, copied-one, copied-all}
 use Rattle.improve.proofs.copy_masks.Statement.{statement}
 use Rattle.improve.proofs.copy_masks.Tie as tie

@@ -1,9 +1,6 @@
 use denote.Ref.{now}
-use mathlib.Core.Path.{_≡_, ap, _∙_}
-use mathlib.Core.List.{List}
-use Prim.Native.Nat.{ℕ}
+use mathlib.Core.Path.{ap, _∙_}
 use native.Mathlib.Omega.{arith}
-use lib.ListN.{length, take}
 use Rattle.esol.specs.Moves.{moveMasks}
 use Rattle.improve.proofs.Trying.{ports-fit, sets-fit, masks-long, legal-over, sets-known, try-ready, root-is}
 use borrow.Author.Needs.{needs}
