@@ -9,7 +9,6 @@ use native.Mathlib.Numerals.{add-one}
 use native.Mathlib.Omega.{arith}
 use lib.Dec.{leb, ltb}
 use lib.ListN.{length, getD, set}
-use borrow.Author.Tests.{ltb-true, ltb-false}
 use Rattle.esol.specs.Formula.{Literal, Node, root, all, any, and, or, lit, Forest, none, tree, kindNumber, nodeCount, childDepth}
 use Rattle.esol.specs.Configuration.{Configuration, configuration, inMasks}
 use Rattle.esol.specs.Truth.{Tuple}
@@ -19,7 +18,7 @@ use Rattle.esol.proofs.Lists.{or-left, or-right}
 use Rattle.plan.specs.Bytes.{kindField}
 use Rattle.plan.specs.Rules.{treeCount}
 use Rattle.hits.specs.declared.Changed.{Changed}
-use Rattle.hits.specs.Hits.{meets, Says, restWord, portWord}
+use Rattle.hits.specs.Hits.{meets, restWord, portWord}
 use Rattle.walk.specs.Walk.{gathered, eachWritten, writtenBelow, written}
 use Rattle.walk.proofs.Frame.{renewals-agree, changes-agree, later-agrees, port-agrees, written-tree, written-port}
 use Rattle.steps.specs.declared.After.{After}
@@ -28,9 +27,10 @@ use Rattle.steps.specs.Nodes.{recordAt}
 use Rattle.steps.specs.Visit.{Visit, CellsFit, Joined, TreesAfter, PortsVisit}
 use Rattle.steps.proofs.KindOf.{quantifier-of, joint-of, literal-of}
 use Rattle.steps.proofs.Visits.{visit-next, port-visit, port-untouched}
+use Rattle.steps.proofs.Ports.{Reached, reached-first, reached-next, reached-all}
 use Rattle.steps.proofs.Outcomes.{trees-more, port-more}
 use Rattle.trial.specs.Walking.{Ready, CellGives, TreesReady, TreesGive, PortsReady, PortsSo}
-use Rattle.trial.proofs.Walking.{no-children, here, fits, touched-is, ports-here, trees-here, end-here, next-ready, port-ready, Passed, sums, ports-start, ports-step}
+use Rattle.trial.proofs.Walking.{no-children, here, fits, touched-is, ports-here, trees-here, end-here, next-ready, port-ready, ports-begin, sums, skip-to}
 use Rattle.moves.specs.Writing.{CellWrites, TreesWrite, PortsWrite}
 
 -- What is written at and below one cell.
@@ -331,8 +331,7 @@ module _ (u sets : ℕ) (c : Changed) (bytes firsts ends uses masks : List ℕ) 
 
       -- What holds at the loop's head: beside what the reading walk has passed, the table with the ports below x written.
       pub record Carried (every add : Bool) (acc : Sum) (x : ℕ) (r : Sum) (new : List ℕ) : Type 0 where
-        pub passed : Passed u sets c bytes firsts ends uses masks cells i until d row digits word used every add acc x r
-        pub stored : PortsTo x new
+        pub reached : Reached u c every (λ m. So add m acc r × PortsTo m new) x
         pub fit : CellsFit new
         pub long : length new ≡ length cells
 
@@ -341,51 +340,22 @@ module _ (u sets : ℕ) (c : Changed) (bytes firsts ends uses masks : List ℕ) 
           → TreesReady u sets c bytes firsts ends uses masks mid i until (d + 1) (row + x) digits′ word′ sum
       carried-ready every add acc sum x digits′ word′ mid ready at low dg wd =
           trees-kept cells mid (at .fit) (at .long) i until (d + 1) (row + x) digits′ word′ sum
-          (port-ready u sets c bytes firsts ends uses masks cells i until d row digits word used add acc sum ready x digits′ word′ (at .passed .so) low dg wd)
+          (port-ready u sets c bytes firsts ends uses masks cells i until d row digits word used add acc sum ready x digits′ word′ (at .reached .so .0) low dg wd)
 
       module _ (every add : Bool) (al : every ≡ (not add || meets used (restWord word d))) (acc : Sum) (ready : Ports acc) where
-        pass-to : (new : List ℕ) → every ≡ false → (x x′ : ℕ) → x ≤ x′ → ((y : ℕ) → x ≤ y → y < x′ → (y ≢ c .p) × (y ≢ c .q)) → PortsTo x new → PortsTo x′ new
-        pass-to new h x x′ l apart so =
+        pass-to : (r : Sum) (new : List ℕ) → every ≡ false → (x x′ : ℕ) → x ≤ x′ → ((y : ℕ) → x ≤ y → y < x′ → (y ≢ c .p) × (y ≢ c .q))
+            → So add x acc r × PortsTo x new → So add x′ acc r × PortsTo x′ new
+        pass-to r new h x x′ l apart both =
             let s = sums u sets c bytes firsts ends uses masks cells i until d row digits word used every add al acc ready h in
-            let w : x + (x′ - x) ≡ x′ = omega arith in
-            subst (λ (m : ℕ). PortsTo m new) w (ports-passed new (s .1) (x′ - x) x (λ y g k. apart y g (omega arith)) so)
-
-        says : Says u (ready .change) c
-        says = ready .ready .says
-
-        stored-first : (x : ℕ) → x ≡ cond every 0 (c .p) → PortsTo x cells
-        stored-first x q = go every refl
-          where
-            go : (a : Bool) → every ≡ a → PortsTo x cells
-            go true h = let z : x ≡ 0 = q ∙ ap (λ (y : Bool). cond y 0 (c .p)) h in rw z no-port-written
-            go false h =
-                let z : x ≡ c .p = q ∙ ap (λ (y : Bool). cond y 0 (c .p)) h in
-                rw z (pass-to cells h 0 (c .p) (omega arith) (λ y g k. (λ e. omega arith, λ e. omega (arith, says .order))) no-port-written)
-
-        stored-next : (x x′ : ℕ) (new : List ℕ) → (every ≡ false → c .p ≤ x) → x < u → PortsTo (suc x) new → x′ ≡ cond every (x + 1) (cond (ltb x (c .q)) (c .q) u)
-            → PortsTo x′ new
-        stored-next x x′ new late l so q = go every refl (ltb x (c .q)) refl
-          where
-            at : (a b : Bool) → every ≡ a → ltb x (c .q) ≡ b → x′ ≡ cond a (x + 1) (cond b (c .q) u)
-            at a b h k = q ∙ ap₂ (λ (y z : Bool). cond y (x + 1) (cond z (c .q) u)) h k
-
-            go : (a : Bool) → every ≡ a → (b : Bool) → ltb x (c .q) ≡ b → PortsTo x′ new
-            go true h b k = let z : x′ ≡ x + 1 = at true b h k in rw (z ∙ add-one x) so
-            go false h true k =
-                let z : x′ ≡ c .q = at false true h k in
-                let before = ltb-true x (c .q) k in
-                let first = late h in
-                rw z (pass-to new h (suc x) (c .q) (omega arith) (λ y g m. (λ e. omega arith, λ e. omega arith)) so)
-            go false h false k =
-                let z : x′ ≡ u = at false false h k in
-                let past = ltb-false x (c .q) k in
-                let first = late h in
-                rw z (pass-to new h (suc x) u (omega arith) (λ y g m. (λ e. omega arith, λ e. omega arith)) so)
+            let w : x + (x′ - x) ≡ x′ = omega arith in (
+              skip-to u sets c bytes firsts ends uses masks cells i until d row digits word used every add al acc ready r h x x′ l apart (both .0),
+              subst (λ (m : ℕ). PortsTo m new) w (ports-passed new (s .1) (x′ - x) x (λ y g k. apart y g (omega arith)) (both .1)),
+            )
 
         pub carried-start : (x : ℕ) → x ≡ cond every 0 (c .p) → Carried every add acc x acc cells
         carried-start x q = record {
-          passed = ports-start u sets c bytes firsts ends uses masks cells i until d row digits word used every add al acc ready x q;
-          stored = stored-first x q;
+          reached = reached-first u c (ready .ready .says .order) (ready .ready .says .below) every (λ m. So add m acc acc × PortsTo m cells) (pass-to acc cells) x q
+              (ports-begin u sets c bytes firsts ends uses masks cells i until d row digits word used add acc (ready .few), no-port-written);
           fit = ready .ready .cells-fit;
           long = refl;
         }
@@ -397,16 +367,11 @@ module _ (u sets : ℕ) (c : Changed) (bytes firsts ends uses masks : List ℕ) 
             → CellsFit new → length new ≡ length mid → x′ ≡ cond every (x + 1) (cond (ltb x (c .q)) (c .q) u)
             → (x < x′) × Carried every add acc x′ r new
         carried-step x x′ sum r mid new at low digits′ word′ dg wd one fits′ long′ q =
-            let step = ports-step u sets c bytes firsts ends uses masks cells i until d row digits word used every add al acc ready x x′ sum r (at .passed) low
-            (ports-follow x low digits′ word′ dg wd mid (at .fit) (at .long) (at .stored) add acc sum r (at .passed .so) (one .0)) q in (
-              step .0,
-              record {
-                passed = step .1;
-                stored = stored-next x x′ new (at .passed .late) low (port-written x low digits′ word′ dg wd mid (at .fit) (at .long) (at .stored) new (one .1)) q;
-                fit = fits′;
-                long = long′ ∙ at .long;
-              },
-            )
+            let step = reached-next u c (ready .ready .says .order) (ready .ready .says .below) every (λ m. So add m acc r × PortsTo m new) (pass-to r new) x x′ (at .reached .late) low (
+              ports-follow x low digits′ word′ dg wd mid (at .fit) (at .long) (at .reached .so .1) add acc sum r (at .reached .so .0) (one .0),
+              port-written x low digits′ word′ dg wd mid (at .fit) (at .long) (at .reached .so .1) new (one .1),
+            ) q in
+            (step .0, record { reached = step .1; fit = fits′; long = long′ ∙ at .long })
 
-      pub all-written : (every add : Bool) (acc : Sum) (x : ℕ) (r : Sum) (new : List ℕ) → Carried every add acc x r new → u ≤ x → PortsTo u new
-      all-written every add acc x r new at h = let e : x ≡ u = omega (arith, at .passed .below) in rw e at (at .stored)
+      pub all-carried : (every add : Bool) (acc : Sum) (x : ℕ) (r : Sum) (new : List ℕ) → Carried every add acc x r new → u ≤ x → So add u acc r × PortsTo u new
+      all-carried every add acc x r new at h = reached-all u c every (λ m. So add m acc r × PortsTo m new) x (at .reached) h

@@ -10,7 +10,7 @@ use native.Mathlib.Omega.{arith}
 use native.Mathlib.Decide.{ℕ-discrete}
 use lib.Dec.{eqb, leb, ltb}
 use lib.ListN.{length, getD}
-use borrow.Author.Tests.{eqb-true, leb-true, ltb-true, ltb-false}
+use borrow.Author.Tests.{eqb-true, leb-true}
 use Rattle.esol.specs.Formula.{Literal, isin, notin, port, size, Node, root, all, any, and, or, lit, Forest, none, tree, kindNumber, nodeCount, childDepth, Every, OfLiteral}
 use Rattle.esol.specs.Configuration.{Configuration, indicator, configuration, inMasks}
 use Rattle.esol.specs.Truth.{Tuple}
@@ -25,7 +25,7 @@ use Rattle.plan.specs.Bytes.{headerLength, recordLength, kindField, relationFie
 use Rattle.plan.specs.Rules.{treeCount, arityRule}
 use Rattle.plan.specs.Index.{nodeUses}
 use Rattle.hits.specs.declared.Changed.{Changed}
-use Rattle.hits.specs.Hits.{meets, Says, restWord, portWord}
+use Rattle.hits.specs.Hits.{meets, restWord, portWord}
 use Rattle.walk.specs.Walk.{adds, begun, gathered, changes}
 use Rattle.steps.specs.declared.After.{After}
 use Rattle.steps.specs.declared.Sum.{Sum}
@@ -34,6 +34,7 @@ use Rattle.steps.specs.Visit.{Visit, MasksSettled, CellsFit, TablesLong, Joined
 use Rattle.steps.proofs.KindOf.{adds-kind, Quantifier, Joint, quantifier-of, joint-of, literal-of}
 use Rattle.steps.proofs.Steps.{packed-lt}
 use Rattle.steps.proofs.Visits.{all-constants, node-here, fits-here, node-below, room-here, visit-next, visit-children, visit-ports, touched-here, port-visit, port-untouched}
+use Rattle.steps.proofs.Ports.{Reached, reached-first, reached-next, reached-all}
 use Rattle.steps.proofs.Outcomes.{begun-fits, untouched-after, literal-cell, inner-cell, trees-more, trees-none, port-more, port-skipped, ports-none}
 use Rattle.trial.specs.Walking.{Ready, CellReady, CellGives, TreesReady, TreesGive, PortsReady, PortsSo}
 
@@ -402,11 +403,8 @@ module _ (u sets : ℕ) (c : Changed) (bytes firsts ends uses masks cells : List
         let m = r .ready .masks-settled in
         (omega (arith, r .visit .depth), rw (r .visit .digits-are) (packed-lt (omega (arith, m .ports64)) (r .visit .tuple)), omega (arith, m .ports64))
 
-    -- The ports below x are done; where only those of the change are visited, the first of them is done or next.
-    pub record Passed (all add : Bool) (acc : Sum) (x : ℕ) (r : Sum) : Type 0 where
-      pub below : x ≤ u
-      pub so : So add x acc r
-      pub late : all ≡ false → c .p ≤ x
+    abbrev pub Passed : Bool → Bool → Sum → ℕ → Sum → Type 0
+    Passed every add acc x r = Reached u c every (λ m. So add m acc r) x
 
     module _ (all add : Bool) (al : all ≡ (not add || meets used (restWord word d))) (acc : Sum) (ready : Ports acc) where
       pub sums : all ≡ false → (add ≡ true) × (meets used (restWord word d) ≡ false)
@@ -416,7 +414,7 @@ module _ (u sets : ℕ) (c : Changed) (bytes firsts ends uses masks cells : List
           go true q = (q, sym (ap (λ (y : Bool). not y || meets used (restWord word d)) q) ∙ sym al ∙ h)
           go false q = absurd (true≢false (sym (ap (λ (y : Bool). not y || meets used (restWord word d)) q) ∙ sym al ∙ h))
 
-      skip-to : (r : Sum) → all ≡ false → (x x′ : ℕ) → x ≤ x′ → ((y : ℕ) → x ≤ y → y < x′ → (y ≢ c .p) × (y ≢ c .q)) → So add x acc r → So add x′ acc r
+      pub skip-to : (r : Sum) → all ≡ false → (x x′ : ℕ) → x ≤ x′ → ((y : ℕ) → x ≤ y → y < x′ → (y ≢ c .p) × (y ≢ c .q)) → So add x acc r → So add x′ acc r
       skip-to r h x x′ l apart so =
           let s = sums h in
           let w : x + (x′ - x) ≡ x′ = omega arith in
@@ -424,69 +422,13 @@ module _ (u sets : ℕ) (c : Changed) (bytes firsts ends uses masks cells : List
           (subst (λ (m : ℕ). So true m acc r) w (ports-skip acc r (ready .low) (s .1) (x′ - x) x (λ y g k. apart y g (omega arith)) (subst (λ (a : Bool). So a x acc r) (s .0) so)))
 
       pub ports-start : (x : ℕ) → x ≡ cond all 0 (c .p) → Passed all add acc x acc
-      ports-start x q = go all refl
-        where
-          says : Says u (ready .change) c
-          says = ready .ready .says
-
-          go : (a : Bool) → all ≡ a → Passed all add acc x acc
-          go true h =
-              let z : x ≡ 0 = q ∙ ap (λ (y : Bool). cond y 0 (c .p)) h in
-              record {
-                below = omega arith;
-                so = rw z (ports-begin add acc (ready .few));
-                late = λ g. absurd (true≢false (sym h ∙ g));
-              }
-          go false h =
-              let z : x ≡ c .p = q ∙ ap (λ (y : Bool). cond y 0 (c .p)) h in
-              record {
-                below = omega (arith, says .order, says .below);
-                so = rw z (skip-to acc h 0 (c .p) (omega arith) (λ y g k. (λ e. omega arith, λ e. omega (arith, says .order))) (ports-begin add acc (ready .few)));
-                late = λ g. omega arith;
-              }
+      ports-start x q =
+          reached-first u c (ready .ready .says .order) (ready .ready .says .below) all (λ m. So add m acc acc) (skip-to acc) x q (ports-begin add acc (ready .few))
 
       pub ports-step : (x x′ : ℕ) (mid r : Sum) → Passed all add acc x mid → x < u → So add (suc x) acc r → x′ ≡ cond all (x + 1) (cond (ltb x (c .q)) (c .q) u)
           → (x < x′) × Passed all add acc x′ r
-      ports-step x x′ mid r passed l so q = go all refl (ltb x (c .q)) refl
-        where
-          says : Says u (ready .change) c
-          says = ready .ready .says
-
-          at : (a b : Bool) → all ≡ a → ltb x (c .q) ≡ b → x′ ≡ cond a (x + 1) (cond b (c .q) u)
-          at a b h k = q ∙ ap₂ (λ (y z : Bool). cond y (x + 1) (cond z (c .q) u)) h k
-
-          go : (a : Bool) → all ≡ a → (b : Bool) → ltb x (c .q) ≡ b → (x < x′) × Passed all add acc x′ r
-          go true h b k =
-              let z : x′ ≡ x + 1 = at true b h k in (
-                omega arith,
-                record {
-                  below = omega arith;
-                  so = rw (z ∙ add-one x) so;
-                  late = λ g. absurd (true≢false (sym h ∙ g));
-                },
-              )
-          go false h true k =
-              let z : x′ ≡ c .q = at false true h k in
-              let before = ltb-true x (c .q) k in
-              let first = passed .late h in (
-                omega arith,
-                record {
-                  below = omega (arith, says .below);
-                  so = rw z (skip-to r h (suc x) (c .q) (omega arith) (λ y g m. (λ e. omega arith, λ e. omega arith)) so);
-                  late = λ g. omega arith;
-                },
-              )
-          go false h false k =
-              let z : x′ ≡ u = at false false h k in
-              let past = ltb-false x (c .q) k in
-              let first = passed .late h in (
-                omega arith,
-                record {
-                  below = omega arith;
-                  so = rw z (skip-to r h (suc x) u (omega arith) (λ y g m. (λ e. omega arith, λ e. omega arith)) so);
-                  late = λ g. omega arith;
-                },
-              )
+      ports-step x x′ mid r passed l so q =
+          reached-next u c (ready .ready .says .order) (ready .ready .says .below) all (λ m. So add m acc r) (skip-to r) x x′ (passed .late) l so q
 
     pub finished : (every add : Bool) (acc : Sum) (x : ℕ) (r : Sum) → Passed every add acc x r → u ≤ x → So add u acc r
-    finished every add acc x r passed h = let e : x ≡ u = omega (arith, passed .below) in rw e at (passed .so)
+    finished every add acc x r passed h = reached-all u c every (λ m. So add m acc r) x passed h

@@ -3,8 +3,8 @@ use Prim.Native.Nat.{ℕ, _+_, _-_, _*_, _<_}
 use native.Mathlib.Omega.{arith}
 use borrow.Author.Needs.{needs}
 use borrow.Author.Tests.{not-true, not-false}
-use Rattle.trial.proofs.Walking.{node-low, firsts-room, ends-room, uses-room, cell-room, record-room, place-low, times-fits, literal-ready, ports-ready, trees-ready, gives-untouched, gives-literal, gives-ports, gives-trees, none-left, some-left, rest-few, row-fits, digits-ready, finished}
-use Rattle.moves.proofs.Writes.{room-kept, all-fit, untouched-moved, literal-moved, ports-moved, trees-moved, none-written, later-ready, later-moved, Carried, carried-ready, carried-start, carried-step, all-written}
+use Rattle.trial.proofs.Walking.{node-low, firsts-room, ends-room, uses-room, cell-room, record-room, place-low, times-fits, literal-ready, ports-ready, trees-ready, gives-untouched, gives-literal, gives-ports, gives-trees, none-left, some-left, rest-few, row-fits, digits-ready}
+use Rattle.moves.proofs.Writes.{room-kept, all-fit, untouched-moved, literal-moved, ports-moved, trees-moved, none-written, later-ready, later-moved, Carried, carried-ready, carried-start, carried-step, all-carried}
 use borrow.Fn.Kinds.{In}
 use borrow.Fn.PlainCycle.{Measures, is, falls, and}
 use Rattle.moves.proofs.cell_written.Reads as cell-written
@@ -263,7 +263,7 @@ ports-written-same-length t c =
 
 ports-written-returns : (t : ℕ) → ports-written-lts.Need-returns (ports-written-claims t) (ports-written-at t) ports-written.Post ports-written-Inv-loop ports-written-μ-loop
 ports-written-returns t c =
-    (finished _ _ _ _ _ _ _ _ _ _ _ _ _ _ _ _ _ _ _ _ _ (c .before .loop .inv .passed) (c .loop-test .left), all-written _ _ _ _ _ _ _ _ _ _ _ _ _ _ _ _ _ _ _ _ _ _ (c .before .loop .inv) (c .loop-test .left))
+    all-carried _ _ _ _ _ _ _ _ _ _ _ _ _ _ _ _ _ _ _ _ _ _ (c .before .loop .inv) (c .loop-test .left)
 
 trees-written-returns : (t : ℕ) → trees-written-lts.Need-returns (trees-written-claims t) (trees-written-at t) trees-written.Post
 trees-written-returns t c =
