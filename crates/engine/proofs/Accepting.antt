@@ -16,7 +16,7 @@ use Rattle.esol.specs.Change.{Change, pairsChange, newCells, differing}
 use Rattle.esol.proofs.Lists.{and-left, and-right}
 use Rattle.plan.specs.Decode.{Decoded, sound, decode}
 use Rattle.plan.specs.Facts.{PlanFacts}
-use Rattle.plan.proofs.Encoding.{decode-sound}
+use Rattle.plan.proofs.Encoding.{decode-sound, one-plan}
 use Rattle.plan.proofs.Facts.{plan-facts}
 use Rattle.load.specs.Load.{allWithin}
 use Rattle.load.proofs.Loading.{within-at}
@@ -36,7 +36,7 @@ use Rattle.calls.specs.MoveCall.{cellsAfter, moveAnswer, moveOr, moves}
 use Rattle.calls.specs.TrialCall.{trialOr}
 use Rattle.calls.proofs.Steps.{grounds-legal}
 use Rattle.calls.proofs.Within.{move-within, move-length}
-use Rattle.engine.specs.Judged.{MoveNumber, MoveReady}
+use Rattle.engine.specs.Judged.{MoveNumber, MoveReady, Carried, Carries}
 use Rattle.engine.proofs.Answering.{move-opened}
 
 -- a plan whose tables are open, and a move to which neither 14 nor 15 applies
@@ -142,72 +142,92 @@ module _ (bytes masks : List ℕ) (shortest : ℕ) (o : Opened) (firsts ends use
     unfolding MoveNumber
     number-is = number Q (sym (opened .ports-are)) (sym (opened .sets-are)) ∙ ap (λ (xs : List ℕ). refusal (moveGrounds Q (inMasks xs) m)) mine-is
 
-    module _ (zero-is : n ≡ 0) where
-      pub free : refusal (moveGrounds Q (inMasks mine) m) ≡ 0
-      free = sym number-is ∙ zero-is
+    pub free : n ≡ 0 → refusal (moveGrounds Q (inMasks mine) m) ≡ 0
+    free zero-is = sym number-is ∙ zero-is
 
-      abbrev legal-here : legal Q (inMasks mine) m ≡ true
-      legal-here = is-legal bytes masks shortest o firsts ends uses opened m free
+  module _ (m : Move) (none : refusal (moveGrounds Q (inMasks mine) m) ≡ 0) where
+    abbrev legal-here : legal Q (inMasks mine) m ≡ true
+    legal-here = is-legal bytes masks shortest o firsts ends uses opened m none
 
-      abbrev fields : Fields (Q .ports) (Q .sets) m
-      fields = known-fields Q m (is-known bytes masks shortest o firsts ends uses opened m free)
+    abbrev fields : Fields (Q .ports) (Q .sets) m
+    fields = known-fields Q m (is-known bytes masks shortest o firsts ends uses opened m none)
 
-      -- the masks that the move changes
-      pub legal-over : (u k j : ℕ) → u ≡ o .ports → k ≡ o .sets → (xs : List ℕ) → xs ≡ take (o .sets) masks → LegalOver u k m xs
-      unfolding legal ownMasks
-      legal-over u k j eu ek xs h =
-          let f : Fields u k m = rw (eu ∙ opened .ports-are, ek ∙ opened .sets-are) fields in
-          let l : length xs ≡ o .sets = ap length h ∙ length-take-le (o .sets) masks (omega (arith, opened .sets-are, opened .own-masks)) in
-          record {
-            known-over = record {
-              fields = f;
-              ports-high = omega (arith, eu, opened .ports-are, facts .ports64);
-              masks-enough = omega (arith, ek, l);
-            };
-            fitting = ap (λ (ys : List ℕ). fits (inMasks ys) m) (take-all k xs (omega (arith, ek, l)) ∙ h ∙ mine-is) ∙ and-right (known Q m) _ legal-here;
-          }
+    -- the masks that the move changes
+    pub legal-over : (u k j : ℕ) → u ≡ o .ports → k ≡ o .sets → (xs : List ℕ) → xs ≡ take (o .sets) masks → LegalOver u k m xs
+    unfolding legal ownMasks
+    legal-over u k j eu ek xs h =
+        let f : Fields u k m = rw (eu ∙ opened .ports-are, ek ∙ opened .sets-are) fields in
+        let l : length xs ≡ o .sets = ap length h ∙ length-take-le (o .sets) masks (omega (arith, opened .sets-are, opened .own-masks)) in
+        record {
+          known-over = record {
+            fields = f;
+            ports-high = omega (arith, eu, opened .ports-are, facts .ports64);
+            masks-enough = omega (arith, ek, l);
+          };
+          fitting = ap (λ (ys : List ℕ). fits (inMasks ys) m) (take-all k xs (omega (arith, ek, l)) ∙ h ∙ mine-is) ∙ and-right (known Q m) _ legal-here;
+        }
 
-      pub change-ready : (m .s < 16) × (m .t < 16)
-      unfolding tEnd
-      change-ready = (omega (arith, fields .s-below, facts .sets16), below (eqb (m .kind) 3) (fields .t-below))
-        where
-          below : (b : Bool) → m .t < cond b (Q .sets) 1 → m .t < 16
-          below true h = omega (arith, facts .sets16)
-          below false h = omega arith
+    pub change-ready : (m .s < 16) × (m .t < 16)
+    unfolding tEnd
+    change-ready = (omega (arith, fields .s-below, facts .sets16), below (eqb (m .kind) 3) (fields .t-below))
+      where
+        below : (b : Bool) → m .t < cond b (Q .sets) 1 → m .t < 16
+        below true h = omega (arith, facts .sets16)
+        below false h = omega arith
 
-      -- the part of the masks that comes back
-      pub back-length : (ys : List ℕ) (j : ℕ) → j ≡ o .sets → ys ≡ moveMasks m (take j masks) → length ys ≡ o .sets
-      unfolding ownMasks
-      back-length ys j ej h =
-          ap length h ∙ move-length m (take j masks) ∙ ap (λ (x : ℕ). length (take x masks)) ej
-          ∙ length-take-le (o .sets) masks (omega (arith, opened .sets-are, opened .own-masks))
+    -- the part of the masks that comes back
+    pub back-length : (ys : List ℕ) (j : ℕ) → j ≡ o .sets → ys ≡ moveMasks m (take j masks) → length ys ≡ o .sets
+    unfolding ownMasks
+    back-length ys j ej h =
+        ap length h ∙ move-length m (take j masks) ∙ ap (λ (x : ℕ). length (take x masks)) ej
+        ∙ length-take-le (o .sets) masks (omega (arith, opened .sets-are, opened .own-masks))
 
-      pub back-fits : (ys rest : List ℕ) (j : ℕ) → j ≡ o .sets → ys ≡ moveMasks m (take j masks) → o .sets ≤ length (ys ++ rest)
-      back-fits ys rest j ej h = rw (length-append ys rest) (omega (arith, back-length ys j ej h))
+    pub back-fits : (ys rest : List ℕ) (j : ℕ) → j ≡ o .sets → ys ≡ moveMasks m (take j masks) → o .sets ≤ length (ys ++ rest)
+    back-fits ys rest j ej h = rw (length-append ys rest) (omega (arith, back-length ys j ej h))
 
-      -- as it is lent again
-      pub lent-again : (ys rest : List ℕ) (j : ℕ) → j ≡ o .sets → ys ≡ moveMasks m (take j masks) → take j (ys ++ rest) ≡ moveMasks m mine
-      lent-again ys rest j ej h =
-          take-at ys rest j (back-length ys j ej h ∙ sym ej) ∙ h ∙ ap (λ (x : ℕ). moveMasks m (take x masks)) ej ∙ ap (moveMasks m) mine-is
+    -- as it is lent again
+    pub lent-again : (ys rest : List ℕ) (j : ℕ) → j ≡ o .sets → ys ≡ moveMasks m (take j masks) → take j (ys ++ rest) ≡ moveMasks m mine
+    lent-again ys rest j ej h =
+        take-at ys rest j (back-length ys j ej h ∙ sym ej) ∙ h ∙ ap (λ (x : ℕ). moveMasks m (take x masks)) ej ∙ ap (moveMasks m) mine-is
 
-      pub back-is : (ys : List ℕ) (j : ℕ) → j ≡ o .sets → ys ≡ moveMasks m (take j masks) → ys ≡ moveMasks m mine
-      back-is ys j ej h = h ∙ ap (λ (x : ℕ). moveMasks m (take x masks)) ej ∙ ap (moveMasks m) mine-is
+    pub back-is : (ys : List ℕ) (j : ℕ) → j ≡ o .sets → ys ≡ moveMasks m (take j masks) → ys ≡ moveMasks m mine
+    back-is ys j ej h = h ∙ ap (λ (x : ℕ). moveMasks m (take x masks)) ej ∙ ap (moveMasks m) mine-is
 
-      pub past-is : (j : ℕ) → j ≡ o .sets → drop j masks ≡ drop (ownMasks Q) masks
-      unfolding ownMasks
-      past-is j ej = ap (λ (x : ℕ). drop x masks) (ej ∙ opened .sets-are)
+    pub past-is : (j : ℕ) → j ≡ o .sets → drop j masks ≡ drop (ownMasks Q) masks
+    unfolding ownMasks
+    past-is j ej = ap (λ (x : ℕ). drop x masks) (ej ∙ opened .sets-are)
+
+-- the same under other names for ports and sets
+unfoldable pub reopen : (bytes masks : List ℕ) (shortest : ℕ) (o : Opened) (firsts ends uses : List ℕ) → OpenPlan bytes masks shortest o firsts ends uses
+    → OpenPlan bytes masks shortest record { number = 0; ports = o .ports; sets = o .sets } firsts ends uses
+reopen bytes masks shortest o firsts ends uses opened = record {
+  plan = opened .plan;
+  decodes = opened .decodes;
+  ports-are = opened .ports-are;
+  sets-are = opened .sets-are;
+  indexed = opened .indexed;
+  own-masks = opened .own-masks;
+  own-cells = opened .own-cells;
+  within = opened .within;
+}
+
+-- a move that is carried out
+pub carried : (bytes masks cells : List ℕ) (P : Plan) → decode bytes ≡ sound P → (m : Move) (r : After) (new ys rest : List ℕ)
+    → Accepted (r .old) (r .value) (r .changed) ≡ moveAnswer P m (take (ownMasks P) masks) (take (ownCells P) cells)
+    → new ≡ cellsAfter P m (take (ownMasks P) masks) (take (ownCells P) cells) ++ drop (ownCells P) cells
+    → ys ≡ moveMasks m (take (ownMasks P) masks) → rest ≡ drop (ownMasks P) masks → Carries bytes masks cells m r (ys ++ rest) new
+unfolding Carries
+carried bytes masks cells P d m r new ys rest a c y t Q e =
+    subst (λ (x : Plan). Carried x m masks cells r (ys ++ rest) new) (one-plan bytes P Q (decode-sound bytes P d) (decode-sound bytes Q e))
+    record { answer-is = a; masks-are = ap₂ _++_ y t; cells-are = c }
 
 -- the whole answer of a move
-pub move-made : (bytes masks cells : List ℕ) (o : Opened) (firsts ends uses : List ℕ) (opened : OpenPlan bytes masks (length cells) o firsts ends uses)
-    (m : Move) (n : ℕ) (r : After) (new ys rest : List ℕ) → n ≡ 0 → n ≡ refusal (moveGrounds (opened .plan) (inMasks (take (ownMasks (opened .plan)) masks)) m)
-    → openNumber (decode bytes) masks (length cells) ≡ 0
-    → Accepted (r .old) (r .value) (r .changed) ≡ moveAnswer (opened .plan) m (take (ownMasks (opened .plan)) masks) (take (ownCells (opened .plan)) cells)
-    → new ≡ cellsAfter (opened .plan) m (take (ownMasks (opened .plan)) masks) (take (ownCells (opened .plan)) cells) ++ drop (ownCells (opened .plan)) cells
-    → ys ≡ moveMasks m (take (ownMasks (opened .plan)) masks) → rest ≡ drop (ownMasks (opened .plan)) masks
-    → _≡_ {A = Moved × List ℕ × List ℕ} (Accepted (r .old) (r .value) (r .changed), ys ++ rest, new) (moves (decode bytes) m masks cells)
-unfolding moveOr
-move-made bytes masks cells o firsts ends uses opened m n r new ys rest z q open-is a c y t =
-    let P = opened .plan in
-    (λ i. (a i, y i ++ t i, c i))
-    ∙ move-opened P m masks cells 0 (ap (λ (d : Decoded). openNumber d masks (length cells)) (sym (opened .decodes)) ∙ open-is) (sym z ∙ q)
-    ∙ ap (λ (d : Decoded). moves d m masks cells) (sym (opened .decodes))
+pub move-made : (bytes masks cells : List ℕ) (P : Plan) → decode bytes ≡ sound P → (m : Move) (r : After) (masks′ cells′ : List ℕ)
+    → refusal (moveGrounds P (inMasks (take (ownMasks P) masks)) m) ≡ 0 → openNumber (decode bytes) masks (length cells) ≡ 0 → Carries bytes masks cells m r masks′ cells′
+    → _≡_ {A = Moved × List ℕ × List ℕ} (Accepted (r .old) (r .value) (r .changed), masks′, cells′) (moves (decode bytes) m masks cells)
+unfolding moveOr Carries
+move-made bytes masks cells P d m r masks′ cells′ none open-is carries =
+    let c = carries P d in
+    (λ i. (c .answer-is i, c .masks-are i, c .cells-are i))
+    ∙ move-opened P m masks cells 0 (ap (λ (x : Decoded). openNumber x masks (length cells)) (sym d) ∙ open-is) (sym none)
+    ∙ ap (λ (x : Decoded). moves x m masks cells) (sym d)

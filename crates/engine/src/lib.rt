@@ -17,7 +17,7 @@ ghost use Rattle.plan.specs.Decode.{decode};
 ghost use Rattle.calls.specs.declared.Moved.the-variants.{Accepted};
 ghost use Rattle.calls.specs.MoveCall.{movedNumber, moves};
 ghost use Rattle.calls.specs.TrialCall.{trials, ScratchAfter};
-ghost use Rattle.engine.specs.Judged.{MoveNumber, MoveReady};
+ghost use Rattle.engine.specs.Judged.{MoveNumber, MoveReady, CarryReady, Carries};
 
 fn narrow(x: usize) -> u32
     requires { ⌜ x ≤ 64 ⌝ }
@@ -26,7 +26,7 @@ fn narrow(x: usize) -> u32
     x as u32
 }
 
-fn lesser(a: usize, b: usize) -> usize
+pub fn lesser(a: usize, b: usize) -> usize
     ensures { λ r. ⌜ r ≡ min a b ⌝ }
 {
     if a <= b {
@@ -109,6 +109,35 @@ pub fn trial(table: &[u8], masks: &[u64], cells: &[u32], scratch: &mut [u32], m:
     ))
 }
 
+// Makes a legal move over open tables: its masks, then the touched cells.
+pub fn carry(
+    table: &[u8],
+    firsts: &[u32],
+    ends: &[u16],
+    uses: &[u64],
+    masks: &mut [u64],
+    cells: &mut [u32],
+    ports: usize,
+    sets: usize,
+    m: Move,
+) -> After
+    requires { ⌜ CarryReady ports sets (now table) (now firsts) (now ends) (now uses) (now masks) (now cells) m ⌝ }
+    ensures { λ r. ⌜ Carries (now (table .entry)) (now (masks .entry)) (now (cells .entry)) m r (now (masks .exit)) (now (cells .exit)) ⌝ }
+{
+    masks_after(m, narrow(ports), narrow(sets), &mut masks[0..sets]);
+    root_written(
+        table,
+        firsts,
+        ends,
+        uses,
+        &masks[0..sets],
+        cells,
+        ports,
+        sets,
+        change_of(m),
+    )
+}
+
 // A move: tries 11 to 15; writes its masks and the touched cells in place.
 pub fn make_move(table: &[u8], masks: &mut [u64], cells: &mut [u32], m: Move) -> Moved
     ensures { λ r. ⌜ (r, now (masks .exit), now (cells .exit)) ≡ moves (decode (now (table .entry))) m (now (masks .entry)) (now (cells .entry)) ⌝ }
@@ -127,22 +156,19 @@ pub fn make_move(table: &[u8], masks: &mut [u64], cells: &mut [u32], m: Move) ->
     if o.number != 0 {
         return Moved::Refused(o.number);
     }
-    let ports = o.ports;
-    let sets = o.sets;
-    let number = move_number(m, ports, sets, &masks[..]);
+    let number = move_number(m, o.ports, o.sets, &masks[..]);
     if number != 0 {
         return Moved::Refused(number);
     }
-    masks_after(m, narrow(ports), narrow(sets), &mut masks[0..sets]);
-    accepted(root_written(
+    accepted(carry(
         table,
         &firsts,
         &ends,
         &uses,
-        &masks[0..sets],
+        masks,
         cells,
-        ports,
-        sets,
-        change_of(m),
+        o.ports,
+        o.sets,
+        m,
     ))
 }
