@@ -1,9 +1,9 @@
 -- The conditions of a legal move and the masks that it leaves, kind by kind. Assumes nothing.
-use mathlib.Core.Path.{_≡_, refl, sym, ap, ap₂, _∙_}
+use mathlib.Core.Path.{_≡_, sym, ap, ap₂, _∙_}
 use mathlib.Core.Logic.{_≢_}
 use mathlib.Core.Bool.{Bool, true, false, not, _&&_, true≢false}
 use mathlib.Core.List.{List}
-use Prim.Native.Nat.{ℕ, _≤_, _<_}
+use Prim.Native.Nat.{ℕ, _<_}
 use native.Mathlib.Omega.{arith}
 use native.Mathlib.Decide.{ℕ-discrete}
 use lib.Dec.{eqb}
@@ -12,11 +12,11 @@ use lib.Seq.{getD-take, getD-set-same, getD-set-other, set-set}
 use borrow.Author.Tests.{eqb-false, eq-eqb, ne-eqb, not-true}
 use Rattle.esol.specs.declared.Move.{Move}
 use Rattle.esol.specs.Configuration.{Sets, inMask, inMasks, enter, leave, flipPort}
-use Rattle.esol.specs.Moves.{MoveKind, moveKind, fieldsFit, fits, kindMasks, moveMasks}
+use Rattle.esol.specs.Moves.{moveKind, fieldsFit, fits, kindMasks, moveMasks}
 use Rattle.esol.proofs.Lists.{and-left, and-right}
 use Rattle.esol.proofs.Masks.{in-flip-other, enter-flip, leave-flip}
-use Rattle.candidates.specs.Candidates.{KnownOver, LegalOver, Fields}
-use Rattle.candidates.proofs.Known.{t-used, q-used, last-kind}
+use Rattle.candidates.specs.Candidates.{KnownOver, LegalOver}
+use Rattle.candidates.proofs.Known.{t-used, last-kind}
 
 -- a set of the plan is the same in all masks and in the plan's own
 pub in-own : (sets : ℕ) (masks : List ℕ) (s p : ℕ) → s < sets → inMasks (take sets masks) s p ≡ inMasks masks s p

@@ -1,18 +1,18 @@
 -- Ground 14 by the ends of a move's fields, and candidates by their fields. Assumes nothing.
-use mathlib.Core.Path.{_≡_, refl, sym, ap, _∙_, subst}
+use mathlib.Core.Path.{_≡_, refl, sym, _∙_, subst}
 use mathlib.Core.Bool.{Bool, true, false, _&&_, true≢false, false≢true}
 use mathlib.Core.List.{List}
 use mathlib.Core.Logic.{_≢_}
 use Prim.Native.Nat.{ℕ, zero, suc, _≤_, _<_}
 use native.Mathlib.Omega.{arith}
 use native.Mathlib.Decide.{decLt}
-use lib.Dec.{eqb, ltb}
+use lib.Dec.{ltb}
 use lib.ListN.{take}
 use borrow.Author.Tests.{ltb-true, eqb-true, lt-ltb, le-ltb, eq-eqb}
 use Rattle.esol.specs.declared.Move.{Move}
 use Rattle.esol.specs.Formula.{Plan}
 use Rattle.esol.specs.Configuration.{inMasks}
-use Rattle.esol.specs.Moves.{MoveKind, moveKind, fieldsKnown, known, fits, legal, kindWeight, ofKinds}
+use Rattle.esol.specs.Moves.{moveKind, fieldsKnown, known, fits, legal, kindWeight, ofKinds}
 use Rattle.esol.proofs.Lists.{and-left, and-right, and-true}
 use Rattle.calls.specs.ImproveCall.{Candidate}
 use Rattle.candidates.specs.Candidates.{tEnd, qEnd, Fields, SaysKnown, Suits, Says}

@@ -3,3 +3,4 @@ pub mod Order
 pub mod Stepping
 pub mod Fitting
 pub mod Listing
+pub mod Listed

@@ -1,7 +1,7 @@
 -- The list of candidates: what is in it, its order, and the walk through it. Assumes nothing.
 use mathlib.Core.Path.{_≡_, refl, sym, ap, ap₂, _∙_, subst}
 use mathlib.Core.Logic.{_⊎_, inl, inr, _↔_}
-use mathlib.Core.Bool.{Bool, true, false, cond, _&&_, true≢false, false≢true}
+use mathlib.Core.Bool.{Bool, true, false, cond, true≢false}
 use mathlib.Core.List.{List, [], _∷_, _++_, List·Memᴰ, List·Memᴰ·head, List·Memᴰ·tail, List·Memᴰ·cases-cons, List·Memᴰ·not-nil, Memᴰ·append-left, Memᴰ·append-right}
 use Prim.Native.Nat.{ℕ, zero, suc, _+_, _*_, _≤_, _<_}
 use native.Mathlib.Omega.{arith}
@@ -14,7 +14,7 @@ use Rattle.esol.specs.Penalty.{eachPort}
 use Rattle.esol.specs.Moves.{known, fits, legal, ofKinds}
 use Rattle.esol.proofs.Lists.{and-left, and-right, and-true}
 use Rattle.calls.specs.ImproveCall.{Candidate}
-use Rattle.candidates.specs.Candidates.{fieldsAre, allMoves, kept, candidates, Earlier, Rising, Once, place, tEnd, qEnd, Fields, Sized, Follows, NoneLater, outset, Walked}
+use Rattle.candidates.specs.Candidates.{fieldsAre, allMoves, kept, candidates, Rising, Once, place, tEnd, qEnd, Fields, Sized, Begins, Follows, outset, Walked}
 use Rattle.candidates.proofs.Known.{known-fields}
 use Rattle.candidates.proofs.Order.{Low, fields-low, place-same, place-earlier}
 
@@ -187,12 +187,12 @@ rise-order a b (m ∷ ms) L r = (
   rise-order (suc (place m)) b ms (λ n d. L n (List·Memᴰ·tail d)) (r .1),
 )
 
-candidate-fields : (P : Plan) (k : Sets) (m : Move) → legal P k m ≡ true → Fields (P .ports) (P .sets) m
+pub candidate-fields : (P : Plan) (k : Sets) (m : Move) → legal P k m ≡ true → Fields (P .ports) (P .sets) m
 unfolding legal
 candidate-fields P k m h = known-fields P m (and-left (known P m) (fits k m) h)
 
 module _ (P : Plan) (Z : Sized (P .ports) (P .sets)) where
-  candidate-low : (k : Sets) (m : Move) → legal P k m ≡ true → Low m
+  pub candidate-low : (k : Sets) (m : Move) → legal P k m ≡ true → Low m
   candidate-low k m h = fields-low (P .ports) (P .sets) m Z (candidate-fields P k m h)
 
   -- No move is in the list twice.
@@ -233,7 +233,7 @@ module _ (P : Plan) (Z : Sized (P .ports) (P .sets)) where
   raise b [] h L r = h
   raise b (m ∷ ms) h L r = (L m (List·Memᴰ·head refl), r .1)
 
-  past-outset : (n : Move) → 1 ≤ n .kind → 1 ≤ place n
+  pub past-outset : (n : Move) → 1 ≤ n .kind → 1 ≤ place n
   unfolding place
   past-outset n h = omega arith
 
@@ -268,3 +268,27 @@ module _ (P : Plan) (Z : Sized (P .ports) (P .sets)) where
 
   pub walked-candidates : (kinds : ℕ) (own : List ℕ) (ms : List Move) → Walked P kinds own outset ms → ms ≡ candidates P kinds (inMasks own)
   walked-candidates kinds own ms w = walked-same kinds own outset ms (candidates P kinds (inMasks own)) w (candidates-walked kinds own)
+
+  -- how far the candidates go
+  pub candidate-high : (k : Sets) (m : Move) → legal P k m ≡ true → place m < 6291456
+  unfolding place
+  candidate-high k m h =
+      let F = candidate-fields P k m h in
+      omega (arith, candidate-low k m h, F .kind-high)
+
+  -- the search can go on from a candidate
+  pub candidate-begins : (k : Sets) (m : Move) → legal P k m ≡ true → Begins (P .ports) (P .sets) m
+  unfolding tEnd qEnd
+  candidate-begins k m h =
+      let F = candidate-fields P k m h in
+      record {
+        position = record {
+          sized = Z;
+          kind-high = omega (arith, F .kind-high);
+          s-below = F .s-below;
+          t-below = end-over (eqb (m .kind) 3) (m .t) (m .s) (P .sets) (F .s-below) (F .t-below);
+          p-below = F .p-below;
+          q-below = end-over (eqb (m .kind) 4) (m .q) (m .p) (P .ports) (F .p-below) (F .q-below);
+        };
+        not-past = omega (arith, F .kind-high);
+      }

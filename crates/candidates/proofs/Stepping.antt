@@ -1,19 +1,14 @@
 -- The steps of the odometer, and what a walk by them has passed. Assumes nothing.
-use mathlib.Core.Path.{_≡_, refl, sym, ap, _∙_, subst}
-use mathlib.Core.Logic.{_⊎_, inl, inr}
-use mathlib.Core.Bool.{Bool, true, false, true≢false}
+use mathlib.Core.Path.{_≡_, sym, ap, _∙_, subst}
+use mathlib.Core.Bool.{true, false, true≢false}
 use mathlib.Core.List.{List}
 use Prim.Native.Nat.{ℕ, suc, _+_, _*_, _/_, _%_, _≤_, _<_}
 use native.Mathlib.Omega.{arith}
 use native.Mathlib.Decide.{decLt, ℕ-discrete}
 use lib.Dec.{eqb}
-use lib.ListN.{length, take}
 use Rattle.esol.specs.declared.Move.{Move}
-use Rattle.esol.specs.Formula.{Plan}
 use Rattle.esol.specs.Moves.{ofKinds, moveKind, kindWeight}
-use Rattle.calls.specs.ImproveCall.{Candidate}
-use Rattle.candidates.specs.declared.Next.{Next}
-use Rattle.candidates.specs.Candidates.{fieldsAre, place, tEnd, qEnd, Fields, Sized, Position, Begins, BeginsOver, SizedOver, Suits, Follows, NoneLater, NextOr, GivesNext, Steps}
+use Rattle.candidates.specs.Candidates.{fieldsAre, place, tEnd, qEnd, Fields, Position, Begins, BeginsOver, SizedOver, Suits, NextOr, GivesNext, Steps}
 use Rattle.candidates.proofs.Known.{suits-candidate, candidate-suits}
 use Rattle.candidates.proofs.Order.{Low, end-low, fields-low, position-low, place-same}
 

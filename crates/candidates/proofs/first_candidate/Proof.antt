@@ -1,6 +1,8 @@
 use denote.Ref.{now}
+use mathlib.Core.Path.{subst}
 use native.Mathlib.Omega.{arith}
-use Rattle.candidates.specs.Candidates.{outset}
+use Rattle.esol.specs.declared.Move.{Move}
+use Rattle.candidates.specs.Candidates.{outset, GivesNext}
 use Rattle.candidates.proofs.Stepping.{zeros-begin}
 use borrow.Author.Needs.{needs}
 use Rattle.candidates.proofs.first_candidate.Statement.{statement}
@@ -20,7 +22,7 @@ next-candidate-requires c κs =
 returns : tie.Need-returns
 unfolding outset
 returns c =
-    rw (← c .before .at-fields .ensures) (c .next-candidate .ensures)
+    subst (λ (x : Move). GivesNext (c .before .before .before .args .ports) (c .before .before .before .args .sets) (c .before .before .before .args .kinds) (now (c .before .before .before .args .masks)) x (c .next-candidate .result)) (c .before .at-fields .ensures) (c .next-candidate .ensures)
 
 pub first-candidate-spec : {M : Type 1} → statement M
 first-candidate-spec = tie.close (tie.spec at-fields-requires next-candidate-requires returns)

@@ -1,6 +1,5 @@
-use denote.Ref.{now}
 use native.Mathlib.Omega.{arith}
-use Rattle.candidates.specs.Candidates.{Says, Fields}
+use Rattle.candidates.specs.Candidates.{Says}
 use Rattle.candidates.proofs.Known.{says-fields}
 use borrow.Author.Needs.{needs}
 use Rattle.candidates.proofs.has_fields.Statement.{statement}

@@ -1,4 +1,3 @@
-use denote.Ref.{now}
 use borrow.Author.Needs.{needs}
 use Rattle.candidates.proofs.Known.{says-known}
 use borrow.Author.Needs.{needs}

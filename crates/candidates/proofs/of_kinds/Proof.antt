@@ -1,5 +1,3 @@
-use denote.Ref.{now}
-use mathlib.Core.Path.{refl}
 use native.Mathlib.Nat.{div-one}
 use Rattle.esol.specs.Moves.{moveKind, kindWeight}
 use Rattle.candidates.proofs.Known.{other-weight}

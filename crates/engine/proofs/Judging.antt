@@ -1,0 +1,81 @@
+-- Grounds 14 and 15 as the code tries them, and masks copied. Assumes nothing.
+use mathlib.Core.Path.{_≡_, refl, sym, ap, ap₂, _∙_}
+use mathlib.Core.Bool.{Bool, true, false, cond, not, _&&_}
+use mathlib.Core.List.{List, [], _∷_, _++_, append-assoc}
+use Prim.Native.Nat.{ℕ, zero, suc, _+_, _≤_, _<_}
+use native.Mathlib.Numerals.{add-one}
+use native.Mathlib.Omega.{arith}
+use lib.ListN.{length, getD, set, take, drop, length-append, length-drop}
+use lib.Seq.{drop-cons, take-suc, take-at, set-at, length-take-le}
+use Rattle.esol.specs.declared.Move.{Move}
+use Rattle.esol.specs.Formula.{none, Plan}
+use Rattle.esol.specs.Configuration.{inMasks}
+use Rattle.esol.specs.Moves.{refusal, moveGrounds, known, fits, legal}
+use Rattle.plan.specs.Decode.{Decoded}
+use Rattle.calls.specs.TrialCall.{ScratchAfter}
+use Rattle.candidates.specs.Candidates.{Fields, SaysKnown, KnownOver}
+use Rattle.candidates.proofs.Known.{known-fields}
+use Rattle.engine.specs.Judged.{MoveNumber, MoveReady}
+
+-- a copied entry
+pub copy-next : (xs ys : List ℕ) (s : ℕ) → s < length xs → s < length ys → set (take s xs ++ drop s ys) s (getD xs s 0) ≡ take (s + 1) xs ++ drop (s + 1) ys
+copy-next xs ys s l m =
+    ap (λ (zs : List ℕ). set (take s xs ++ zs) s (getD xs s 0)) (drop-cons ys s 0 m)
+    ∙ set-at (take s xs) (getD ys s 0) (drop (suc s) ys) (getD xs s 0) s (length-take-le s xs (omega arith))
+    ∙ sym (append-assoc (take s xs) (getD xs s 0 ∷ []) (drop (suc s) ys))
+    ∙ ap₂ (λ (zs : List ℕ) (j : ℕ). zs ++ drop j ys) (sym (take-suc xs s 0 l)) (sym (add-one s))
+    ∙ ap (λ (j : ℕ). take j xs ++ drop (s + 1) ys) (sym (add-one s))
+
+module _ (ports sets u n : ℕ) (eu : u ≡ ports) (en : n ≡ sets) (m : Move) (masks : List ℕ) where
+  -- 14 and 15 by the two tests
+  number-by : (P : Plan) (a b : Bool) → known P m ≡ a → fits (inMasks (take sets masks)) m ≡ b
+      → refusal (moveGrounds P (inMasks (take sets masks)) m) ≡ cond (not a) 14 (cond (not (a && b)) 15 0)
+  unfolding refusal moveGrounds legal
+  number-by P a b h k = ap₂ (λ (x y : Bool). cond (not x) 14 (cond (not (x && y)) 15 0)) h k
+
+  module _ (x : Bool) (says : SaysKnown u n m x) where
+    known-is : (P : Plan) → P .ports ≡ ports → P .sets ≡ sets → known P m ≡ x
+    unfolding SaysKnown
+    known-is P p q = sym (says P (p ∙ sym eu) (q ∙ sym en))
+
+    pub number-unknown : x ≡ false → MoveNumber ports sets m masks 14
+    unfolding MoveNumber
+    number-unknown h P p q = sym (number-by P false (fits (inMasks (take sets masks)) m) (known-is P p q ∙ h) refl)
+
+    pub number-known : (y : Bool) → x ≡ true → y ≡ fits (inMasks (take n masks)) m → y ≡ false → MoveNumber ports sets m masks 15
+    unfolding MoveNumber
+    number-known y h f g P p q =
+        sym (number-by P true false (known-is P p q ∙ h) (ap (λ (j : ℕ). fits (inMasks (take j masks)) m) (sym en) ∙ sym f ∙ g))
+
+    pub number-legal : (y : Bool) → x ≡ true → y ≡ fits (inMasks (take n masks)) m → y ≡ true → MoveNumber ports sets m masks 0
+    unfolding MoveNumber
+    number-legal y h f g P p q =
+        sym (number-by P true true (known-is P p q ∙ h) (ap (λ (j : ℕ). fits (inMasks (take j masks)) m) (sym en) ∙ sym f ∙ g))
+
+    -- what the second test asks
+    pub known-over : MoveReady ports sets masks → x ≡ true → KnownOver u n m masks
+    unfolding SaysKnown
+    known-over r h = record {
+      fields = known-fields record { ports = u; sets = n; formula = none } m (sym (says record { ports = u; sets = n; formula = none } refl refl) ∙ h);
+      ports-high = omega (arith, r .ports64);
+      masks-enough = omega (arith, r .own-masks);
+    }
+
+-- a part that is copied leaves the length
+pub copied-length : (xs ys zs : List ℕ) (s : ℕ) → zs ≡ take s xs ++ drop s ys → s ≤ length xs → s ≤ length ys → length zs ≡ length ys
+copied-length xs ys zs s h l m =
+    ap length h ∙ length-append (take s xs) (drop s ys)
+    ∙ (let e : length (take s xs) + length (drop s ys) ≡ length ys = omega (arith, length-take-le s xs l, length-drop s ys) in e)
+
+pub copied-next : (xs ys zs : List ℕ) (s v : ℕ) → zs ≡ take s xs ++ drop s ys → v ≡ getD xs s 0 → s < length xs → s < length ys
+    → set zs s v ≡ take (s + 1) xs ++ drop (s + 1) ys
+copied-next xs ys zs s v h e l m = ap₂ (λ (ws : List ℕ) (w : ℕ). set ws s w) h e ∙ copy-next xs ys s l m
+
+-- the first masks of a copy are those of the original
+pub copied-part : (xs ys zs : List ℕ) (s j : ℕ) → j ≡ s → zs ≡ take s xs ++ drop s ys → s ≤ length xs → take j zs ≡ take j xs
+copied-part xs ys zs s j e h l =
+    ap₂ take e h ∙ take-at (take s xs) (drop s ys) s (length-take-le s xs l) ∙ ap (λ (i : ℕ). take i xs) (sym e)
+
+-- scratch that is not written
+pub scratch-kept : (d : Decoded) (number : ℕ) (xs : List ℕ) → ScratchAfter d number xs xs
+scratch-kept d number xs = record { same-length = refl; past = refl; refused = λ _. refl }

@@ -1,0 +1,5 @@
+pub mod Choosing
+pub mod Trying
+pub mod Copying
+pub mod Searching
+pub mod Answering

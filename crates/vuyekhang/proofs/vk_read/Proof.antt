@@ -1,0 +1,24 @@
+use Rattle.vuyekhang.proofs.Parts.{read-gives}
+use borrow.Author.Needs.{needs}
+use Rattle.vuyekhang.proofs.vk_read.Statement.{statement}
+use Rattle.vuyekhang.proofs.vk_read.Tie as tie
+use Rattle.vuyekhang.proofs.vk_read.Reads as reads
+use Rattle.vuyekhang.proofs.vk_read.Lts as lts
+use Rattle.reader.proofs.read.Reads as read-reads
+use Rattle.vuyekhang.proofs.read_fields.Reads as read-fields-reads
+
+read-requires : tie.Need-read-requires
+read-requires c κs = search needs
+
+read-fields-requires : tie.Need-read-fields-requires
+read-fields-requires c κs = search needs
+
+same-length : tie.Need-same-length
+same-length c = search needs
+
+returns : tie.Need-returns
+returns c =
+    read-gives _ _ _ _ (c .before .before .before .read .ensures) (c .read-fields .ensures)
+
+pub vk-read-spec : {M : Type 1} → statement M
+vk-read-spec = tie.close (tie.spec read-requires read-fields-requires same-length returns)

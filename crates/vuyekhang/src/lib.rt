@@ -1,0 +1,136 @@
+// The C boundary: every call of the engine as an exported function over slices and numbers. include/vuyekhang.h declares them
+// for C. None has a `requires`, so no caller can break one; each contract gives every field by the answer definitions of the
+// call that it hands on to, and every table that it may write.
+use load::Loaded;
+use load::load;
+use plan::check;
+use reader::Answer;
+use reader::read;
+ghost use mathlib.Core.Path.{_≡_};
+ghost use Prim.Native.Nat.{ℕ, _≤_};
+ghost use lib.ListN.{length};
+ghost use Rattle.plan.specs.Decode.{decode};
+ghost use Rattle.reader.specs.Read.{reads};
+ghost use Rattle.load.specs.Load.{loads};
+ghost use Rattle.load.specs.Fill.{boundAt};
+ghost use Rattle.vuyekhang.specs.Boundary.{ReadFields, ReadGives, LoadFields, LoadGives, PartGives};
+
+// vk_read_answer: 0 or the ground's number, node count, cell total.
+#[repr(C)]
+pub struct ReadAnswer {
+    pub number: u32,
+    pub nodes: u32,
+    pub cells: u32,
+}
+
+// vk_load_answer: 0 or the ground's number, the root's penalty, cell total.
+#[repr(C)]
+pub struct LoadAnswer {
+    pub number: u32,
+    pub root: u32,
+    pub cells: u32,
+}
+
+// vk_part: a part of the caller's cell table. A slice cannot be handed back to C, so the part is said by place and length.
+#[repr(C)]
+pub struct Part {
+    pub first: usize,
+    pub count: usize,
+}
+
+fn read_fields(a: Answer) -> ReadAnswer
+    ensures { λ r. ⌜ ReadFields a r ⌝ }
+{
+    match a {
+        Answer::Accepted { nodes, cells } => ReadAnswer {
+            number: 0,
+            nodes,
+            cells,
+        },
+        Answer::Refused(number) => ReadAnswer {
+            number: number as u32,
+            nodes: 0,
+            cells: 0,
+        },
+    }
+}
+
+// Reads a plan text and writes its plan table.
+#[no_mangle]
+pub extern "C" fn vk_read(u: u64, text: &[u8], table: &mut [u8]) -> ReadAnswer
+    ensures { λ r. ⌜ ReadGives (reads u (now (text .entry)) (now (table .entry))) r (now (table .exit)) ⌝ }
+{
+    let a = read(u, text, table);
+    read_fields(a)
+}
+
+fn load_fields(a: Loaded) -> LoadAnswer
+    ensures { λ r. ⌜ LoadFields a r ⌝ }
+{
+    match a {
+        Loaded::Accepted { root, cells } => LoadAnswer {
+            number: 0,
+            root,
+            cells,
+        },
+        Loaded::Refused(number) => LoadAnswer {
+            number: number as u32,
+            root: 0,
+            cells: 0,
+        },
+    }
+}
+
+// Checks the tables and fills every cell.
+#[no_mangle]
+pub extern "C" fn vk_load(table: &[u8], masks: &[u64], cells: &mut [u32]) -> LoadAnswer
+    ensures { λ r. ⌜ LoadGives (loads (decode (now (table .entry))) (now (masks .entry)) (now (cells .entry))) r (now (cells .exit)) ⌝ }
+{
+    let a = load(table, masks, cells);
+    load_fields(a)
+}
+
+fn wide_cell(x: u32) -> usize
+    ensures { λ r. ⌜ r ≡ x ⌝ }
+{
+    x as usize
+}
+
+// Where the cells of node i begin; where the last node's end, if there is no node i.
+fn bound_of(firsts: &[u32], i: usize, nodes: usize, total: usize) -> usize
+    requires { ⌜ nodes ≤ length (now firsts) ⌝ }
+    ensures { λ r. ⌜ r ≡ boundAt (now (firsts .entry)) i nodes total ⌝ }
+{
+    if i < nodes {
+        return wide_cell(firsts[i]);
+    }
+    total
+}
+
+// A node's cells, as a part of the caller's cell table: {0, 0} where 11, 12 or a node past the count applies.
+#[no_mangle]
+pub extern "C" fn vk_node_cells(table: &[u8], cells: &[u32], node: usize) -> Part
+    ensures { λ r. ⌜ PartGives (decode (now (table .entry))) (now (cells .entry)) node r ⌝ }
+{
+    let mut firsts = [0u32; 512];
+    let mut ends = [0u16; 512];
+    let mut uses = [0u64; 512];
+    let info = check(table, &mut firsts, &mut ends, &mut uses);
+    if !info.ok {
+        return Part { first: 0, count: 0 };
+    }
+    let nodes = info.nodes;
+    let total = info.cells;
+    if cells.len() < total {
+        return Part { first: 0, count: 0 };
+    }
+    if nodes <= node {
+        return Part { first: 0, count: 0 };
+    }
+    let from = bound_of(&firsts, node, nodes, total);
+    let to = bound_of(&firsts, node + 1, nodes, total);
+    Part {
+        first: from,
+        count: to - from,
+    }
+}

@@ -1,0 +1,66 @@
+/* Vuyekhang: a planning engine for the ports of a cabinet, proved in Rattle. Version 0.1: read, load and a node's cells.
+ *
+ * Link target/staticlib/libvuyekhang.a, which `rt staticlib vuyekhang` writes (x86-64, Linux). Each function is proved to meet its
+ * contract in crates/vuyekhang/src/lib.rt for every value of its arguments; none keeps anything between two calls. A caller
+ * owes what C asks of pointers: each points to so many elements as its length says (also where that is 0: not null), and a
+ * table that is written is no part of another argument's table.
+ *
+ * An answer's number is 0 where the call is accepted, else the ground for refusal, with all other fields 0. A refused call
+ * writes nothing. Nothing past a plan's own bytes, masks or cells is ever read or written.
+ *
+ * Grounds: 1 text over 4,096 bytes; 2 a byte of no token, space or line end; 3 outside the grammar; 4 more than 64 of `(`, `~` and
+ * quantifiers around one token; 5 set undeclared, declared twice or a seventeenth, variable unbound or bound again within its
+ * reach; 6 constant above 64; 7 a fourth enclosing quantifier; 8 core over 512 nodes; 9 more than 1,048,576 cells; 10 u outside
+ * 1 to 64; 11 plan table breaks a rule or is cut short; 12 cell, mask or output table too short; 13 a mask with a port of u or
+ * more.
+ *
+ * To come in version 0.2: vk_move, vk_trial and vk_improve. */
+#ifndef VUYEKHANG_H
+#define VUYEKHANG_H
+
+#include <stddef.h>
+#include <stdint.h>
+
+#define VK_VERSION "0.1"
+
+#ifdef __cplusplus
+extern "C" {
+#endif
+
+/* Every plan table fits this many bytes: 9 and 8 for each of at most 512 nodes. */
+#define VK_MOST_TABLE 4105
+
+/* Number, node count, cell total. */
+typedef struct {
+    uint32_t number, nodes, cells;
+} vk_read_answer;
+
+/* Reads a plan text over u ports and writes its plan table, 9 + 8 * nodes bytes. Tries ground 10, then 1 to 9, each over the whole
+ * text, then 12 (the table is shorter than the plan's). A text may nest so deep that it takes 4 MB of stack. */
+vk_read_answer vk_read(uint64_t u, const uint8_t *text, size_t text_len, uint8_t *table, size_t table_len);
+
+/* Number, the root's penalty (0 exactly when the plan is true), cell total. */
+typedef struct {
+    uint32_t number, root, cells;
+} vk_load_answer;
+
+/* Checks a plan table and the masks (bit p of mask s set: port p is in set s), and writes every cell of the plan: its penalty.
+ * Tries 11, then 12 (fewer masks than sets, or fewer cells than the plan's total), then 13. */
+vk_load_answer vk_load(const uint8_t *table, size_t table_len, const uint64_t *masks, size_t masks_len, uint32_t *cells,
+                       size_t cells_len);
+
+/* A part of the caller's cell table: cells[first] to cells[first + count - 1]. */
+typedef struct {
+    size_t first, count;
+} vk_part;
+
+/* Where a node's cells stand in the caller's cell table, in rising order of their tuples, the outermost variable counting most.
+ * Writes nothing and is never refused: {0, 0} where the table is broken (11), the cell table is shorter than the plan's total (12),
+ * or there is no such node. */
+vk_part vk_node_cells(const uint8_t *table, size_t table_len, const uint32_t *cells, size_t cells_len, size_t node);
+
+#ifdef __cplusplus
+}
+#endif
+
+#endif
