@@ -69,7 +69,7 @@ module _ (P : Plan) (m : Move) (own : List ℕ) (masks-length shortest : ℕ) (l
       go false true q = absurd (omega arith)
       go false false q = refl
 
-two-lengths : (P : Plan) (x y : ℕ) → ltb (min x y) (ownCells P) ≡ someOf (λ l. ltb l (ownCells P)) (x ∷ y ∷ [])
+pub two-lengths : (P : Plan) (x y : ℕ) → ltb (min x y) (ownCells P) ≡ someOf (λ l. ltb l (ownCells P)) (x ∷ y ∷ [])
 unfolding someOf
 two-lengths P x y = shortest-of-two x y (ownCells P)
 
