@@ -34,7 +34,7 @@ records-append (tree n c r) s i p =
 
 pub shown : (f : Fields) (n : Node) (parent end : ℕ) → Shows f n → fieldBytes f parent end ≡ recordOf n parent end
 unfolding fieldBytes recordOf recordBytes
-shown f n parent end s = λ i. s .kind-is i ∷ s .relation-is i ∷ s .a-is i ∷ s .b-is i ∷ (wordBytes parent ++ wordBytes end)
+shown f n parent end s = λ i. recordBytes (s .kind-is i) (s .relation-is i) (s .a-is i) (s .b-is i) parent end
 
 fewer : (i m n x : ℕ) → recordLength * n ≤ x → m ≤ n → recordLength * m ≤ x
 unfolding recordLength

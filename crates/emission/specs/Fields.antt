@@ -1,14 +1,14 @@
 -- A node's own bytes, from the record of the text's tree that it comes from.
 use mathlib.Core.Path.{_≡_}
 use mathlib.Core.Bool.{Bool, not}
-use mathlib.Core.List.{List, [], _∷_, _++_}
+use mathlib.Core.List.{List, [], _∷_}
 use Prim.Native.Nat.{ℕ, zero, suc, _<_}
 use Rattle.esol.specs.Formula.{Relation, relationNumber, Literal, Node, lit, kindNumber}
 use Rattle.syntax.specs.Tree.{Quantifier}
 use Rattle.syntax.specs.Stored.{quantifierOperator}
 use Rattle.core.specs.Core.{quantifierNode, relationAt, memberAt, literalAt}
 use Rattle.core.specs.Grounds.{ReadAs}
-use Rattle.plan.specs.Bytes.{wordBytes, relationByte, aByte, bByte}
+use Rattle.plan.specs.Bytes.{relationByte, aByte, bByte, recordBytes}
 use Rattle.emission.specs.declared.Bound.{Bound}
 use Rattle.emission.specs.declared.Fields.{Fields}
 
@@ -19,9 +19,9 @@ pub record Shows (r : Fields) (n : Node) : Type 0 where
   pub a-is : r .a ≡ aByte n
   pub b-is : r .b ≡ bByte n
 
--- "8 bytes a node: kind, relation, a, b, 16-bit parent, 16-bit end"
+-- The record of a node with these own bytes.
 unfoldable pub fieldBytes : Fields → ℕ → ℕ → List ℕ
-fieldBytes f parent end = f .kind ∷ f .relation ∷ f .a ∷ f .b ∷ (wordBytes parent ++ wordBytes end)
+fieldBytes f parent end = recordBytes (f .kind) (f .relation) (f .a) (f .b) parent end
 
 -- The letters bound around a place, the innermost first.
 unfoldable pub letters : ℕ → ℕ → ℕ → ℕ → List ℕ

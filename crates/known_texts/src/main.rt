@@ -65,15 +65,24 @@ fn say_read(u: u64, text: &[u8], table: &mut [u8]) {
     }
 }
 
+// Room for the largest table.
+fn blank_table() -> [u8; 4105] {
+    [0; 4105]
+}
+
+fn spaces() -> [u8; 8192] {
+    [32; 8192]
+}
+
 // Reads a text and prints the answer.
 fn say(u: u64, text: &[u8]) {
-    let mut table = [0u8; 4105];
+    let mut table = blank_table();
     say_read(u, text, &mut table);
 }
 
 // Reads a text, loads its table and prints load's answer: `penalty P cells C` or `refused N`.
 fn run(u: u64, text: &[u8], masks: &[u64], cells: &mut [u32]) {
-    let mut table = [0u8; 4105];
+    let mut table = blank_table();
     say_read(u, text, &mut table);
     let answer = load(&table, masks, cells);
     match answer {
@@ -84,7 +93,7 @@ fn run(u: u64, text: &[u8], masks: &[u64], cells: &mut [u32]) {
 
 // A text of four parts, the second and the fourth of so many bytes, laid from pieces; read over one port.
 fn say_long(first: &[u8], piece: &[u8], length: usize, middle: &[u8], last: &[u8], more: usize) {
-    let mut text = [32u8; 8192];
+    let mut text = spaces();
     if 1000 < first.len() {
         return;
     }
@@ -140,14 +149,18 @@ fn starred() {
     run(64, b"[S] #S != 2", &two, &mut cells);
 }
 
-// Ports, bytes, grammar, names, constants, quantifiers and cells.
-fn short_texts() {
+// u at its boundaries.
+fn ports() {
     say(0, b"[S] ?x x:S");
     say(1, b"[S] ?x x:S");
     say(64, b"[S] ?x x:S");
     say(65, b"[S] ?x x:S");
     say(257, b"[S] ?x x:S");
     say(4294967299, b"[S] ?x x:S");
+}
+
+// Bytes of no token, and texts outside the grammar.
+fn bytes_and_grammar() {
     say(1, b"[S]#S<1 - $");
     say(1, b"[S]#S<1 - ");
     say(1, b"[S]\t#S<1");
@@ -156,11 +169,19 @@ fn short_texts() {
     say(1, b"[S]");
     say(1, b"[S]\n#S\n<1\n");
     say(1, b"[S] #S < = 1");
+}
+
+// Constants, and two arrows.
+fn constants() {
     say(1, b"[S] #S <= 64");
     say(1, b"[S] #S <= 65");
     say(1, b"[S] #S <= 064");
     say(1, b"[S] #S <= 99999999999999999999999999999999999999999");
     say(1, b"[S] #S<1->#S<2->#S<3");
+}
+
+// Names of variables and sets.
+fn names() {
     say(1, b"[S] @x @x x:S");
     say(1, b"[S] @x x:S & x:S");
     say(1, b"[S] @x x:S & @x x:S");
@@ -168,22 +189,34 @@ fn short_texts() {
     say(1, b"[SS] #S<1");
     say(1, b"[ABCDEFGHIJKLMNOP] #A<1");
     say(1, b"[ABCDEFGHIJKLMNOPQ] #A<1");
+}
+
+// The fourth quantifier, and too many cells.
+fn quantifiers() {
     say(1, b"[S] @x@y@zx<z");
     say(1, b"[S] @x@y@z?wx<w");
     say(64, b"[S] @x @y @z (x:S & y:S)");
     say(64, b"[S] @x @y @z (x:S & y:S & z:S)");
 }
 
-// Lengths, nestings and nodes at their limits.
-fn long_texts() {
+// Texts of 4,096 and 4,097 bytes.
+fn lengths() {
     say_long(b"[S] #S<1", b" ", 4088, b"", b"", 0);
     say_long(b"[S] #S<1", b" ", 4089, b"", b"", 0);
+}
+
+// 64 and 65 of `~` and `(`, and thousands.
+fn nestings() {
     say_long(b"[S] ", b"~", 64, b"#S<1", b"", 0);
     say_long(b"[S] ", b"~", 65, b"#S<1", b"", 0);
     say_long(b"[S] ", b"(", 64, b"#S<1", b")", 64);
     say_long(b"[S] ", b"(", 65, b"#S<1", b")", 65);
     say_long(b"[S]", b"(", 2044, b"#S<1", b")", 2044);
     say_long(b"[S]", b"(", 4088, b"#S<1", b"", 0);
+}
+
+// 512 and 513 nodes, and `<->` nested 64 deep.
+fn many_nodes() {
     say_long(b"[S] #S<1", b"&#S<1", 2545, b"", b"", 0);
     say_long(b"[S] #S<1", b"&#S<1", 2550, b"", b"", 0);
     say_long(b"[S] ", b"(", 64, b"#S<1", b"<->#S<1)", 512);
@@ -241,8 +274,14 @@ fn large_plans() {
 
 fn main() {
     starred();
-    short_texts();
-    long_texts();
+    ports();
+    bytes_and_grammar();
+    constants();
+    names();
+    quantifiers();
+    lengths();
+    nestings();
+    many_nodes();
     tables();
     large_plans();
 }

@@ -14,7 +14,7 @@ use Rattle.esol.specs.Moves.{refusal}
 use Rattle.tokens.specs.Tokens.{pick}
 use Rattle.grammar.specs.Parser.{Result, parsed}
 use Rattle.core.specs.Core.{planOf}
-use Rattle.plan.specs.Bytes.{wordBytes, header, encoding}
+use Rattle.plan.specs.Bytes.{setsField, wordBytes, header, encoding}
 use Rattle.plan.specs.Decode.{decode}
 use Rattle.reader.specs.declared.Answer.{Answer}
 use Rattle.reader.specs.declared.Answer.the-variants.{Accepted, Refused}
@@ -27,7 +27,7 @@ use Rattle.load.specs.Load.{loads}
 use Rattle.root_line.specs.declared.Line.{Line}
 use Rattle.root_line.specs.declared.Line.the-variants.{Penalty, Refusal}
 use Rattle.root_line.specs.Loading.{loadLine}
-use Rattle.root_line.specs.Line.{setsOf, readLine, textLine}
+use Rattle.root_line.specs.Line.{readLine, textLine}
 use Rattle.root_line.specs.Contract.{LinesPlan, LinesText}
 
 -- a text that is too long is refused by its length, whatever follows
@@ -49,25 +49,25 @@ same-start u t B = go (decLe (length t) 4097)
         let long : length (take 4097 t) ≡ 4097 = length-take-le 4097 t (omega arith) in
         too-long u (take 4097 t) B (omega arith) ∙ sym (too-long u t B (omega arith))
 
-header-sets : (u : ℕ) (P : Plan) (rest : List ℕ) → setsOf (encoding P ++ rest) ≡ P .sets
-unfolding setsOf encoding header wordBytes
+header-sets : (u : ℕ) (P : Plan) (rest : List ℕ) → setsField (encoding P ++ rest) ≡ P .sets
+unfolding setsField encoding header wordBytes
 header-sets u P rest = refl
 
 -- a table that reading left has at most 16 sets
-pub read-sets : (u : ℕ) (s B O : List ℕ) (x : Answer) (nodes total : ℕ) → (x, O) ≡ reads u s B → x ≡ Accepted nodes total → setsOf O ≤ 16
+pub read-sets : (u : ℕ) (s B O : List ℕ) (x : Answer) (nodes total : ℕ) → (x, O) ≡ reads u s B → x ≡ Accepted nodes total → setsField O ≤ 16
 unfolding readNumber admittedPlan planOf
 read-sets u s B O x nodes total e y =
     let z : readNumber (reads u s B .0) ≡ 0 = ap (λ (q : Answer × List ℕ). readNumber (q .0)) (sym e) ∙ ap readNumber y in
     let A = accepted-admitted u s B z in
     let P = admittedPlan A in
     let bytes : O ≡ encoding P ++ drop (tableLength P) B = ap (λ (q : Answer × List ℕ). q .1) (e ∙ admitted-read u s B A) in
-    let n : setsOf O ≡ length (A .sets) = ap setsOf bytes ∙ header-sets u P (drop (tableLength P) B) in
+    let n : setsField O ≡ length (A .sets) = ap setsField bytes ∙ header-sets u P (drop (tableLength P) B) in
     omega (arith, few-sets (A .sets) (A .tree) (A .names))
 
-module _ (count : ℕ) (ms table cells : List ℕ) (n : ℕ) (N : n ≡ setsOf table) (few : setsOf table ≤ 16) where
+module _ (count : ℕ) (ms table cells : List ℕ) (n : ℕ) (N : n ≡ setsField table) (few : setsField table ≤ 16) where
   pub plan-other : (count ≡ n → ⊥) → LinesPlan count ms table cells (Refusal 0)
   unfolding LinesPlan
-  plan-other f vs c m = sym (ap (λ (b : Bool). pick b (loadLine (loads (decode table) vs cells .0)) (Refusal 0)) (ne-eqb (length vs) (setsOf table) (λ e. f (omega arith))))
+  plan-other f vs c m = sym (ap (λ (b : Bool). pick b (loadLine (loads (decode table) vs cells .0)) (Refusal 0)) (ne-eqb (length vs) (setsField table) (λ e. f (omega arith))))
 
   pub plan-loaded : (x : Loaded) (O : List ℕ) (r : Line) → count ≡ n → (x, O) ≡ loads (decode table) (take (n - 0) (drop 0 ms)) cells → r ≡ loadLine x
       → LinesPlan count ms table cells r
@@ -77,7 +77,7 @@ module _ (count : ℕ) (ms table cells : List ℕ) (n : ℕ) (N : n ≡ setsOf t
       let k : n - 0 ≡ min 16 count = omega arith in
       let own : take (n - 0) (drop 0 ms) ≡ vs = ap (λ (i : ℕ). take i ms) k ∙ m ∙ take-all 16 vs (omega arith) in
       R ∙ ap (λ (q : Loaded × List ℕ). loadLine (q .0)) (L ∙ ap (λ (l : List ℕ). loads (decode table) l cells) own)
-      ∙ sym (ap (λ (b : Bool). pick b (loadLine (loads (decode table) vs cells .0)) (Refusal 0)) (eq-eqb (length vs) (setsOf table) (long ∙ N)))
+      ∙ sym (ap (λ (b : Bool). pick b (loadLine (loads (decode table) vs cells .0)) (Refusal 0)) (eq-eqb (length vs) (setsField table) (long ∙ N)))
 
 module _ (u count : ℕ) (ms s table cells O : List ℕ) (x : Answer) (E : (x, O) ≡ reads u s table) where
   read-of : (t : List ℕ) → s ≡ take 4097 t → (x, O) ≡ reads u t table

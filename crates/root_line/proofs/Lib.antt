@@ -2,3 +2,4 @@
 pub mod Answers
 pub mod Finishing
 pub mod Pieces
+pub mod Known

@@ -5,6 +5,7 @@ use Prim.Native.Nat.{ℕ, _≤_, min}
 use lib.Dec.{eqb}
 use lib.ListN.{length, take}
 use Rattle.tokens.specs.Tokens.{pick}
+use Rattle.plan.specs.Bytes.{headerLength, setsField}
 use Rattle.plan.specs.Decode.{decode}
 use Rattle.load.specs.Load.{loads}
 use Rattle.input.specs.declared.Scan.{Scan}
@@ -12,22 +13,22 @@ use Rattle.input.specs.Scans.{Scanned}
 use Rattle.root_line.specs.declared.Line.{Line}
 use Rattle.root_line.specs.declared.Line.the-variants.{Refusal}
 use Rattle.root_line.specs.Loading.{loadLine}
-use Rattle.root_line.specs.Line.{setsOf, textLine, inputLine}
+use Rattle.root_line.specs.Line.{textLine, inputLine}
 
 -- The lent tables.
 pub record Tables (ms table : List ℕ) : Type 0 where
   pub masks-room : 16 ≤ length ms
-  pub table-room : 7 ≤ length table
+  pub table-room : headerLength ≤ length table
 
 pub record PlanTables (ms table : List ℕ) : Type 0 where
   pub masks-room : 16 ≤ length ms
-  pub table-room : 7 ≤ length table
-  pub few-sets : setsOf table ≤ 16
+  pub table-room : headerLength ≤ length table
+  pub few-sets : setsField table ≤ 16
 
 -- The first 16 of the masks are at hand, and they are counted as far as 17.
 unfoldable pub LinesPlan : ℕ → List ℕ → List ℕ → List ℕ → Line → Type 0
 LinesPlan count ms table cells r = (vs : List ℕ) → count ≡ min 17 (length vs) → take (min 16 count) ms ≡ take 16 vs
-    → r ≡ pick (eqb (length vs) (setsOf table)) (loadLine (loads (decode table) vs cells .0)) (Refusal 0)
+    → r ≡ pick (eqb (length vs) (setsField table)) (loadLine (loads (decode table) vs cells .0)) (Refusal 0)
 
 -- The first 16 of the masks and the first 4,097 bytes of the text are at hand, and the masks are counted as far as 17.
 unfoldable pub LinesText : ℕ → ℕ → List ℕ → List ℕ → List ℕ → List ℕ → Line → Type 0
@@ -37,7 +38,7 @@ LinesText u count ms s table cells r = (vs t : List ℕ) → count ≡ min 17 (l
 pub record SomeInput (s : Scan) (ms tx table : List ℕ) : Type 0 where
   pub masks-room : 16 ≤ length ms
   pub text-room : 4097 ≤ length tx
-  pub table-room : 7 ≤ length table
+  pub table-room : headerLength ≤ length table
   pub input : List ℕ
   pub scanned : Scanned input s ms tx
 

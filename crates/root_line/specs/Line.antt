@@ -2,8 +2,9 @@
 use mathlib.Core.List.{List}
 use Prim.Native.Nat.{ℕ}
 use lib.Dec.{eqb}
-use lib.ListN.{length, getD}
+use lib.ListN.{length}
 use Rattle.tokens.specs.Tokens.{pick}
+use Rattle.plan.specs.Bytes.{setsField}
 use Rattle.plan.specs.Decode.{decode}
 use Rattle.reader.specs.declared.Answer.{Answer}
 use Rattle.reader.specs.declared.Answer.the-variants.{Accepted, Refused}
@@ -27,16 +28,12 @@ unfoldable pub lineTotal : Line → ℕ
 lineTotal (Penalty root total) = total
 lineTotal (Refusal number) = 0
 
--- The number of sets in a plan table's header.
-unfoldable pub setsOf : List ℕ → ℕ
-setsOf table = getD table 6 0
-
 -- "N is 0 [..], after the reading's own refusals, if the masks aren't one a set": the line for reading's answer and the table
 -- that reading left, with the masks and the cells.
 unfoldable pub readLine : Answer → List ℕ → List ℕ → List ℕ → Line
 readLine (Refused number) table ms cells = Refusal number
 readLine (Accepted nodes total) table ms cells =
-    pick (eqb (length ms) (setsOf table)) (loadLine (loads (decode table) ms cells .0)) (Refusal 0)
+    pick (eqb (length ms) (setsField table)) (loadLine (loads (decode table) ms cells .0)) (Refusal 0)
 
 unfoldable pub textLine : ℕ → List ℕ → List ℕ → List ℕ → List ℕ → Line
 textLine u ms s table cells = readLine (reads u s table .0) (reads u s table .1) ms cells

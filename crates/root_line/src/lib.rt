@@ -3,14 +3,11 @@ use input::Scan;
 use input::close;
 use load::Loaded;
 use load::load;
-use plan::wide;
+use plan::sets_of;
 use reader::Answer;
 use reader::read;
 ghost use mathlib.Core.Path.{_≡_};
-ghost use Prim.Native.Nat.{ℕ, _≤_, _<_};
-ghost use lib.ListN.{length};
 ghost use Rattle.root_line.specs.Loading.{loadLine};
-ghost use Rattle.root_line.specs.Line.{setsOf};
 ghost use Rattle.root_line.specs.Contract.{Tables, PlanTables, LinesPlan, LinesText, SomeInput, Finishes};
 
 pub enum Line {
@@ -28,13 +25,6 @@ fn load_line(answer: Loaded) -> Line
         },
         Loaded::Refused(n) => Line::Refusal(n),
     }
-}
-
-fn sets_of(table: &[u8]) -> usize
-    requires { ⌜ 7 ≤ length (now table) ⌝ }
-    ensures { λ r. ⌜ r ≡ setsOf (now (table .entry)) ⌝ }
-{
-    wide(table[6])
 }
 
 // Loads a plan that was read, if the masks, of which there are `count`, are one a set.

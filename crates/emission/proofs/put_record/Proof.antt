@@ -1,7 +1,7 @@
 use mathlib.Core.Path.{_∙_}
 use native.Mathlib.Omega.{arith}
 use lib.ListN.{length-set}
-use Rattle.plan.specs.Bytes.{recordLength}
+use Rattle.plan.specs.Bytes.{recordLength, recordBytes}
 use Rattle.emission.specs.Fields.{fieldBytes}
 use Rattle.emission.proofs.Writing.{record-written}
 use borrow.Author.Needs.{needs}
@@ -79,7 +79,7 @@ same-length c =
     c .before .before .put-word2 .kept .0 ∙ (c .before .before .before .before .before .before .put-word .kept .0 ∙ simp length-set)
 
 returns : tie.Need-returns
-unfolding recordLength fieldBytes
+unfolding recordLength fieldBytes recordBytes
 returns c =
     record-written _ _ _ _ _ _ _ _ _ _ (c .before .before .before .before .before .before .put-word .ensures) (c .before .before .put-word2 .ensures)
 

@@ -1,3 +1,4 @@
+use Rattle.plan.specs.Bytes.{headerLength}
 use native.Mathlib.Omega.{arith}
 use borrow.Author.Needs.{needs}
 use borrow.Author.Needs.{needs}
@@ -35,6 +36,7 @@ slice-aggregate-finish-4 : tie.Need-slice-aggregate-finish-4
 slice-aggregate-finish-4 c = search needs
 
 finish-requires : tie.Need-finish-requires
+unfolding headerLength
 finish-requires c κs =
     record { masks-room = omega (arith, c .before .before .before .before .before .before .before .pass-input .kept .0); text-room = omega (arith, c .before .before .before .before .before .before .before .pass-input .kept .1 .0); table-room = omega arith; input = c .before .before .before .before .before .before .before .pass-input .ensures .input; scanned = c .before .before .before .before .before .before .before .pass-input .ensures .scanned }
 

@@ -6,7 +6,7 @@ use Rattle.root_line.proofs.plan_line.Reads as reads
 use Rattle.root_line.proofs.plan_line.Lts as lts
 use Rattle.load.proofs.load.Reads as load-reads
 use Rattle.root_line.proofs.load_line.Reads as load-line-reads
-use Rattle.root_line.proofs.sets_of.Reads as sets-of-reads
+use Rattle.plan.proofs.sets_of.Reads as sets-of-reads
 
 sets-of-requires : tie.Need-sets-of-requires
 sets-of-requires c κs = search needs
