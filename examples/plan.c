@@ -1,4 +1,4 @@
-/* Reads plan A of paper 01, loads it and prints its numbers and the cells of one node.
+/* Reads plan A of paper 01, loads it, prints its numbers and the cells of one node, and mends the plan by one move.
  *
  * Built and run by .ci/run, which holds what it prints to examples/plan.stdout. */
 #include <stdio.h>
@@ -8,6 +8,11 @@
 
 static const char text[] = "[STI] @x (x:I <-> x:S & x:T) & #I <= 1";
 
+static void print(const char *call, vk_move_answer a, const uint64_t *mask)
+{
+    printf("%s: number %u, before %u, after %u, changed %u; T is %u\n", call, a.number, a.before, a.after, a.changed, (unsigned)*mask);
+}
+
 int main(void)
 {
     uint8_t table[VK_MOST_TABLE];
@@ -15,7 +20,7 @@ int main(void)
     printf("read: number %u, nodes %u, cells %u\n", plan.number, plan.nodes, plan.cells);
 
     /* S holds ports 0 and 1, T holds 0 to 2, I holds 0. Port 1 is in S and T and not in I: the plan misses by 1. */
-    const uint64_t masks[] = {3, 7, 1};
+    uint64_t masks[] = {3, 7, 1};
     uint32_t cells[34];
     vk_load_answer loaded = vk_load(table, sizeof table, masks, 3, cells, 34);
     printf("load: number %u, root %u, cells %u\n", loaded.number, loaded.root, loaded.cells);
@@ -29,5 +34,21 @@ int main(void)
 
     vk_load_answer refused = vk_load(table, sizeof table, masks, 3, cells, 33);
     printf("load into 33 cells: number %u, root %u, cells %u\n", refused.number, refused.root, refused.cells);
+
+    /* Dropping port 1 from T makes the plan true: tried first, then made. A second time it is illegal. */
+    vk_move_record drop = {.kind = VK_DROP, .s = 1, .p = 1};
+    uint32_t scratch[34];
+    print("trial", vk_trial(table, sizeof table, masks, 3, cells, 34, scratch, 34, drop), &masks[1]);
+    print("move", vk_move(table, sizeof table, masks, 3, cells, 34, drop), &masks[1]);
+    print("move again", vk_move(table, sizeof table, masks, 3, cells, 34, drop), &masks[1]);
+
+    /* The root is 0, so that no move is better; with port 1 back in T a drop is, from S or from T. */
+    vk_improve_answer none = vk_improve(table, sizeof table, masks, 3, cells, 34, scratch, 34, 15);
+    printf("improve: number %u, found %u, before %u, after %u\n", none.number, none.found, none.before, none.after);
+    vk_move_record add = {.kind = VK_ADD, .s = 1, .p = 1};
+    print("move back", vk_move(table, sizeof table, masks, 3, cells, 34, add), &masks[1]);
+    vk_improve_answer best = vk_improve(table, sizeof table, masks, 3, cells, 34, scratch, 34, 2);
+    printf("improve by drops: number %u, found %u, kind %u, port %u, before %u, after %u\n", best.number, best.found, best.move.kind,
+           best.move.p, best.before, best.after);
     return 0;
 }

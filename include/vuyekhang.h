@@ -1,4 +1,5 @@
-/* Vuyekhang: a planning engine for the ports of a cabinet, proved in Rattle. Version 0.1: read, load and a node's cells.
+/* Vuyekhang: a planning engine for the ports of a cabinet, proved in Rattle. Version 0.2: read, load, a node's cells, move,
+ * trial and improve.
  *
  * Link target/staticlib/libvuyekhang.a, which `rt staticlib vuyekhang` writes (x86-64, Linux). Each function is proved to meet its
  * contract in crates/vuyekhang/src/lib.rt for every value of its arguments; none keeps anything between two calls. A caller
@@ -11,17 +12,15 @@
  * Grounds: 1 text over 4,096 bytes; 2 a byte of no token, space or line end; 3 outside the grammar; 4 more than 64 of `(`, `~` and
  * quantifiers around one token; 5 set undeclared, declared twice or a seventeenth, variable unbound or bound again within its
  * reach; 6 constant above 64; 7 a fourth enclosing quantifier; 8 core over 512 nodes; 9 more than 1,048,576 cells; 10 u outside
- * 1 to 64; 11 plan table breaks a rule or is cut short; 12 cell, mask or output table too short; 13 a mask with a port of u or
- * more.
- *
- * To come in version 0.2: vk_move, vk_trial and vk_improve. */
+ * 1 to 64; 11 plan table breaks a rule or is cut short; 12 cell, scratch, mask or output table too short; 13 a mask with a port of
+ * u or more; 14 unknown kind, set, port or kinds sum, or an unused field not 0; 15 illegal move. */
 #ifndef VUYEKHANG_H
 #define VUYEKHANG_H
 
 #include <stddef.h>
 #include <stdint.h>
 
-#define VK_VERSION "0.1"
+#define VK_VERSION "0.2"
 
 #ifdef __cplusplus
 extern "C" {
@@ -58,6 +57,47 @@ typedef struct {
  * Writes nothing and is never refused: {0, 0} where the table is broken (11), the cell table is shorter than the plan's total (12),
  * or there is no such node. */
 vk_part vk_node_cells(const uint8_t *table, size_t table_len, const uint32_t *cells, size_t cells_len, size_t node);
+
+/* A move: kind 1 adds port p to set s, 2 drops it, 3 moves it from set s to set t, 4 puts port q in place of p in set s. A field
+ * that its kind does not use is 0. */
+typedef struct {
+    uint32_t kind, s, t, p, q;
+} vk_move_record;
+
+#define VK_ADD 1
+#define VK_DROP 2
+#define VK_TRANSFER 3
+#define VK_SWAP 4
+
+/* Number, root before, root after, how many cells differ from before. */
+typedef struct {
+    uint32_t number, before, after, changed;
+} vk_move_answer;
+
+/* Makes a move: writes its masks and the touched cells in place. Tries 11, then 12 (fewer masks than sets, or fewer cells than the
+ * plan's total), then 13, 14 and 15. The cells are taken as they are: after a vk_load and nothing but these calls each is its
+ * penalty. */
+vk_move_answer vk_move(const uint8_t *table, size_t table_len, uint64_t *masks, size_t masks_len, uint32_t *cells,
+                       size_t cells_len, vk_move_record move);
+
+/* What vk_move would answer, with masks and cells kept. Scratch has as many cells as the plan or more (else 12); what an accepted
+ * call leaves in so many of them is not said. */
+vk_move_answer vk_trial(const uint8_t *table, size_t table_len, const uint64_t *masks, size_t masks_len, const uint32_t *cells,
+                        size_t cells_len, uint32_t *scratch, size_t scratch_len, vk_move_record move);
+
+/* Number; found 1 and the move that was made with its three numbers; or found 0: no better move, before and after both the root,
+ * changed 0, the move all 0. */
+typedef struct {
+    uint32_t number, found;
+    vk_move_record move;
+    uint32_t before, after, changed;
+} vk_improve_answer;
+
+/* Makes a legal move of some kinds that leaves the least root, if that is smaller than now; which of equally good ones is not said.
+ * Kinds is a sum of 1 add, 2 drop, 4 transfer, 8 swap. Tries 11 to 13 as vk_trial does, then 14 (kinds 0 or above 15). Scratch as
+ * for vk_trial. */
+vk_improve_answer vk_improve(const uint8_t *table, size_t table_len, uint64_t *masks, size_t masks_len, uint32_t *cells,
+                             size_t cells_len, uint32_t *scratch, size_t scratch_len, uint32_t kinds);
 
 #ifdef __cplusplus
 }

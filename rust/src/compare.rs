@@ -74,7 +74,7 @@ impl Damage {
 }
 
 /// A table that is lent from the middle of a larger one, so that a word written outside of it is seen.
-struct Lent<T> {
+pub struct Lent<T> {
     all: Vec<T>,
     before: Vec<T>,
 }
@@ -82,18 +82,18 @@ struct Lent<T> {
 const GUARDS: usize = 4;
 
 impl<T: Copy + PartialEq + std::fmt::Debug> Lent<T> {
-    fn of(own: &[T], guard: T) -> Self {
+    pub fn of(own: &[T], guard: T) -> Self {
         let all = [&[guard; GUARDS][..], own, &[guard; GUARDS]].concat();
         Lent { before: all.clone(), all }
     }
 
-    fn part(&mut self) -> &mut [T] {
+    pub fn part(&mut self) -> &mut [T] {
         let end = self.all.len() - GUARDS;
         &mut self.all[GUARDS..end]
     }
 
     /// What was lent holds `own`, then what it held before; nothing around it has changed.
-    fn holds(&self, what: &str, own: &[T]) -> Compared<()> {
+    pub fn holds(&self, what: &str, own: &[T]) -> Compared<()> {
         same_table(what, &self.all, &[&self.before[..GUARDS], own, &self.before[GUARDS + own.len()..]].concat())
     }
 }

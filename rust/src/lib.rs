@@ -4,7 +4,6 @@
 //! one, and that a table that is written is lent to nothing else; Rust's references say both.
 pub mod compare;
 pub mod lists;
-#[cfg(feature = "moves")]
 pub mod moves;
 pub mod random;
 pub mod second;

@@ -1,5 +1,5 @@
-//! vk_move, vk_trial and vk_improve behind safe functions, in the shapes that issue 6 fixes. Switched on by the feature `moves`
-//! once the archive has them; from then on the driver of lists runs the engine and no longer the second evaluator.
+//! vk_move, vk_trial and vk_improve behind safe functions, and the engine as the driver of lists calls it.
+use crate::compare::Lent;
 use crate::lists::{Calls, Improved};
 use crate::second::moves::{Move, Numbers};
 
@@ -88,8 +88,28 @@ pub fn improve(table: &[u8], masks: &mut [u64], cells: &mut [u32], scratch: &mut
     unsafe { vk_improve(t, table.len(), ms, masks.len(), cs, cells.len(), sc, scratch.len(), kinds) }
 }
 
-/// The engine in a list of calls. "The answer is the number with all other fields 0": anything else ends the run.
+/// The engine in a list of calls. Each table is lent as a copy between guard words: a word written outside of it, or to a table
+/// that the call only reads, ends the run. So does a refusal with a field that is not 0.
 pub struct Engine;
+
+fn written<T: Copy + PartialEq + std::fmt::Debug, A>(own: &mut [T], guard: T, call: impl FnOnce(&mut [T]) -> A) -> A {
+    let mut lent = Lent::of(own, guard);
+    let answer = call(lent.part());
+    own.copy_from_slice(lent.part());
+    lent.holds("what stands around a table", own).expect("a call writes its table alone");
+    answer
+}
+
+fn only_read<T: Copy + PartialEq + std::fmt::Debug, A>(own: &[T], guard: T, call: impl FnOnce(&[T]) -> A) -> A {
+    let mut lent = Lent::of(own, guard);
+    let answer = call(lent.part());
+    lent.holds("a table that is only read", &[]).expect("a call keeps what it reads");
+    answer
+}
+
+const BYTE: u8 = 0xA5;
+const MASK: u64 = u64::MAX;
+const CELL: u32 = 0xDEAD_BEEF;
 
 fn record(m: &Move) -> MoveRecord {
     MoveRecord { kind: m.kind, s: m.s, t: m.t, p: m.p, q: m.q }
@@ -105,30 +125,29 @@ fn numbers(a: MoveAnswer) -> Result<Numbers, u32> {
 }
 
 fn improved(a: ImproveAnswer) -> Result<Improved, u32> {
-    let values = numbers(MoveAnswer { number: a.number, before: a.before, after: a.after, changed: a.changed })?;
     let chosen = Move { kind: a.chosen.kind, s: a.chosen.s, t: a.chosen.t, p: a.chosen.p, q: a.chosen.q };
-    if a.found == 1 {
-        return Ok(Improved::Made(chosen, values));
+    if a.found != 1 {
+        assert_eq!((a.found, chosen, a.changed), (0, Move::default(), 0), "no move, with fields");
+        assert_eq!(a.before, a.after, "no move, with two roots");
     }
-    assert_eq!((a.found, chosen, values.changed), (0, Move::default(), 0), "no better move, with fields");
-    assert_eq!(values.before, values.after, "no better move, with two roots");
-    Ok(Improved::NoBetter(values.before))
+    let values = numbers(MoveAnswer { number: a.number, before: a.before, after: a.after, changed: a.changed })?;
+    Ok(if a.found == 1 { Improved::Made(chosen, values) } else { Improved::NoBetter(values.before) })
 }
 
 impl Calls for Engine {
     fn make_move(&self, table: &[u8], masks: &mut [u64], cells: &mut [u32], m: &Move) -> Result<Numbers, u32> {
-        numbers(make_move(table, masks, cells, record(m)))
+        numbers(only_read(table, BYTE, |t| written(masks, MASK, |ms| written(cells, CELL, |cs| make_move(t, ms, cs, record(m))))))
     }
 
     fn trial(&self, table: &[u8], masks: &[u64], cells: &[u32], scratch: &mut [u32], m: &Move) -> Result<Numbers, u32> {
-        numbers(trial(table, masks, cells, scratch, record(m)))
+        let mut over = |t: &[u8], ms: &[u64], cs: &[u32]| written(scratch, CELL, |sc| trial(t, ms, cs, sc, record(m)));
+        numbers(only_read(table, BYTE, |t| only_read(masks, MASK, |ms| only_read(cells, CELL, |cs| over(t, ms, cs)))))
     }
 
     fn improve(&self, table: &[u8], masks: &mut [u64], cells: &mut [u32], scratch: &mut [u32], kinds: u32) -> Result<Improved, u32> {
-        let a = improve(table, masks, cells, scratch, kinds);
-        if a.number != 0 {
-            assert_eq!((a.found, a.chosen), (0, record(&Move::default())), "a refusal by {} has fields", a.number);
-        }
+        let mut over = |t: &[u8], ms: &mut [u64], cs: &mut [u32]| written(scratch, CELL, |sc| improve(t, ms, cs, sc, kinds));
+        let a = only_read(table, BYTE, |t| written(masks, MASK, |ms| written(cells, CELL, |cs| over(t, ms, cs))));
+        assert!(a.number == 0 || a.found == 0, "a refusal by {} with a move", a.number);
         improved(a)
     }
 }

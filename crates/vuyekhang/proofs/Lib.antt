@@ -1,2 +1,3 @@
 -- Laws of the boundary.
 pub mod Parts
+pub mod Handing

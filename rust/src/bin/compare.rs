@@ -1,17 +1,20 @@
 //! compare [ROUNDS [SEED]]: compares the proved engine with the second evaluator over random texts, tables and cells.
 //! compare --damage [ROUNDS [SEED]]: changes one word after every call, and fails unless each change is reported.
 //! compare --short [TOKENS]: reads some beginnings of texts, each with every choice of at most so many tokens behind it, with both.
-//! compare --lists [CALLS [SEED]]: lists of calls. Without the feature `moves` the second evaluator stands on both sides.
+//! compare --lists [CALLS [SEED]]: compares lists of calls, every answer, mask and cell after every call.
+//! compare --lists-damage [LISTS [SEED]]: changes one bit after one call of each list, and fails unless each change is reported.
 use std::process::ExitCode;
 
 use vuyekhang::compare::{missed, one_round, short_texts, Counts, Damage, Target};
-use vuyekhang::lists;
+use vuyekhang::lists::{self, Hit};
+use vuyekhang::moves::Engine;
 use vuyekhang::random::Random;
 use vuyekhang::with_stack;
 
 const QUICK_ROUNDS: u64 = 20_000;
 const QUICK_TOKENS: u64 = 3;
 const QUICK_CALLS: u64 = 20_000;
+const QUICK_LISTS: u64 = 500;
 const QUICK_DAMAGES: u64 = 1_000;
 
 fn main() -> ExitCode {
@@ -23,6 +26,7 @@ fn main() -> ExitCode {
         "--damage" => (damage_unseen, QUICK_DAMAGES),
         "--short" => (short_fail, QUICK_TOKENS),
         "--lists" => (lists_fail, QUICK_CALLS),
+        "--lists-damage" => (list_damage_unseen, QUICK_LISTS),
         _ => panic!("unknown mode {mode}"),
     };
     let amount = numbers.first().copied().unwrap_or(quick);
@@ -87,22 +91,24 @@ fn short_fail(tokens: u64, _seed: u64) -> bool {
     result.is_err()
 }
 
-#[cfg(feature = "moves")]
-const CALLS: vuyekhang::moves::Engine = vuyekhang::moves::Engine;
-#[cfg(feature = "moves")]
-const SIDE: &str = "the engine beside the second evaluator";
-#[cfg(not(feature = "moves"))]
-const CALLS: lists::Second = lists::Second;
-#[cfg(not(feature = "moves"))]
-const SIDE: &str = "the second evaluator on both sides";
-
 fn lists_fail(calls: u64, seed: u64) -> bool {
     let mut counts = Counts::default();
-    if let Err(difference) = lists::run(&CALLS, calls, seed, &mut counts) {
+    if let Err(difference) = lists::run(&Engine, calls, seed, &mut counts) {
         println!("difference: {difference}");
         return true;
     }
     print(&counts);
-    println!("{calls} calls in lists, {SIDE}: no difference");
+    println!("{calls} calls in lists: no difference");
     too_seldom(&lists::missed(&counts))
+}
+
+/// Fails unless every list in which a bit was changed after a call ends in a difference, and few lists leave nothing to change.
+fn list_damage_unseen(amount: u64, seed: u64) -> bool {
+    [Hit::Cell, Hit::Mask, Hit::Scratch, Hit::Answer].into_iter().any(|hit| {
+        let all: Vec<(bool, bool)> = (0..amount).map(|list| lists::damaged_list(&Engine, hit, seed, list)).collect();
+        let damaged = all.iter().filter(|(damaged, _)| *damaged).count() as u64;
+        let reported = all.iter().filter(|(_, reported)| *reported).count() as u64;
+        println!("{hit:?}: {damaged} of {amount} lists damaged, {reported} reported");
+        all.iter().any(|(damaged, reported)| damaged != reported) || damaged * 10 < amount * 9
+    })
 }

@@ -1,0 +1,14 @@
+use mathlib.Core.Path.{refl}
+use Rattle.vuyekhang.specs.Moving.{moveOf}
+use Rattle.vuyekhang.proofs.record_of.Statement.{statement}
+use Rattle.vuyekhang.proofs.record_of.Tie as tie
+use Rattle.vuyekhang.proofs.record_of.Reads as reads
+use Rattle.vuyekhang.proofs.record_of.Lts as lts
+
+returns : tie.Need-returns
+unfolding moveOf
+returns c =
+    refl
+
+pub record-of-spec : {M : Type 1} → statement M
+record-of-spec = tie.close (tie.spec returns)
