@@ -63,16 +63,21 @@ struct Desk {
 
 const MOST_CELLS: usize = 600;
 
-/// A small plan with its tables as a load leaves them, or with cells that hold anything; a few guard words behind each.
+fn deepest(plan: &Plan) -> usize {
+    (0..plan.nodes.len()).map(|i| plan.depth(i)).max().unwrap_or(0)
+}
+
+/// A small plan of any depth, with its tables as a load leaves them, or with cells that hold anything; some words behind each.
 fn desk(r: &mut Random) -> Desk {
+    let least = r.below(5).saturating_sub(1);
     loop {
         let made = text(r);
         let bytes = made.bytes(r);
         let Ok(accepted) = second_read(made.u, &bytes, usize::MAX) else { continue };
-        if accepted.cells > MOST_CELLS {
+        let plan = accepted.plan;
+        if accepted.cells > MOST_CELLS || deepest(&plan) < least {
             continue;
         }
-        let plan = accepted.plan;
         let mut masks = random_masks(r, plan.u, plan.n);
         let mut cells = cells_of(&plan, &masks);
         let foreign = r.chance(30);
@@ -266,8 +271,7 @@ fn one_list(calls: &dyn Calls, length: u64, seed: u64, list: u64, counts: &mut C
     let mut d = desk(r);
     let from = if d.foreign { "foreign cells" } else { "a load" };
     counts.met(format!("lists from {from}"));
-    let deepest = (0..d.plan.nodes.len()).map(|i| d.plan.depth(i)).max().unwrap_or(0);
-    counts.met(format!("lists of depth {deepest}"));
+    counts.met(format!("lists of depth {}", deepest(&d.plan)));
     for call in 0..length {
         let before = d.clone();
         one_call(calls, &mut d, r, counts).map_err(|e| {
@@ -394,7 +398,7 @@ pub fn missed(counts: &Counts) -> Vec<String> {
     wanted.extend(["made", "no better move", "refused 12", "refused 14"].map(|o| format!("improve: {o}")));
     wanted.extend(["scratch too short", "calls from a load", "calls from foreign cells"].map(str::to_string));
     let mut wanted: Vec<(String, u64)> = wanted.into_iter().map(|class| (class, 100)).collect();
-    wanted.extend((0..=3).map(|depth| (format!("lists of depth {depth}"), 3)));
+    wanted.extend((0..=3).map(|depth| (format!("lists of depth {depth}"), 5)));
     wanted.push((format!("lists of {LONG} calls"), 1));
     wanted.extend(["move", "trial"].map(|call| (format!("{call} over damaged tables: accepted"), 20)));
     let met = |class: &str| counts.0.iter().filter(|(c, _)| c.starts_with(class)).map(|(_, n)| n).sum::<u64>();

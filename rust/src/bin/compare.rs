@@ -14,7 +14,7 @@ use vuyekhang::with_stack;
 const QUICK_ROUNDS: u64 = 20_000;
 const QUICK_TOKENS: u64 = 3;
 const QUICK_CALLS: u64 = 20_000;
-const QUICK_LISTS: u64 = 500;
+const QUICK_LISTS: u64 = 150;
 const QUICK_DAMAGES: u64 = 1_000;
 
 fn main() -> ExitCode {
