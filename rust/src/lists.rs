@@ -61,18 +61,32 @@ struct Desk {
     over: &'static str,
 }
 
+/// The most cells of a plan, and of the large plans of some short lists, in which improve takes no part: the second evaluator
+/// would try its many moves for too long.
 const MOST_CELLS: usize = 600;
+const MOST_LARGE: usize = 20_000;
 
-/// A small plan with its tables as a load leaves them, or with cells that hold anything; a few guard words behind each.
-fn desk(r: &mut Random) -> Desk {
+impl Desk {
+    fn large(&self) -> bool {
+        self.plan.cells() > MOST_CELLS
+    }
+}
+
+fn deepest(plan: &Plan) -> usize {
+    (0..plan.nodes.len()).map(|i| plan.depth(i)).max().unwrap_or(0)
+}
+
+/// A plan of any depth with so many cells, its tables as a load leaves them, or with cells that hold anything; some words behind.
+fn desk(r: &mut Random, sizes: std::ops::RangeInclusive<usize>) -> Desk {
+    let least = r.below(5).saturating_sub(1);
     loop {
         let made = text(r);
         let bytes = made.bytes(r);
         let Ok(accepted) = second_read(made.u, &bytes, usize::MAX) else { continue };
-        if accepted.cells > MOST_CELLS {
+        let plan = accepted.plan;
+        if !sizes.contains(&accepted.cells) || deepest(&plan) < least {
             continue;
         }
-        let plan = accepted.plan;
         let mut masks = random_masks(r, plan.u, plan.n);
         let mut cells = cells_of(&plan, &masks);
         let foreign = r.chance(30);
@@ -104,7 +118,7 @@ fn any_move(d: &Desk, r: &mut Random) -> Move {
 /// Scratch is another table at every call, holds anything, and is at times too short.
 fn lend_scratch(d: &mut Desk, r: &mut Random) {
     // Damage may leave a table of very many cells: scratch is then too short.
-    let total = d.plan.cells().min(2 * MOST_CELLS);
+    let total = d.plan.cells().min(MOST_LARGE);
     let length = if r.chance(10) { r.below(total) } else { total + r.below(3) };
     d.scratch = (0..length).map(|_| r.word() as u32).collect();
 }
@@ -225,8 +239,8 @@ fn one_damaged(calls: &dyn Calls, d: &Desk, r: &mut Random, counts: &mut Counts)
     let told = |e: String, b: &Desk| format!("{e}\n  damaged table {:?}, masks {}, cells {}, scratch {}", b.table, b.masks.len(), b.cells.len(), b.scratch.len());
     match r.below(3) {
         0 => one_move(calls, &mut b, &m, counts),
-        1 => one_trial(calls, &mut b, &m, counts),
-        _ => one_improve(calls, &mut b, any_kinds(r), counts),
+        2 if !d.large() => one_improve(calls, &mut b, any_kinds(r), counts),
+        _ => one_trial(calls, &mut b, &m, counts),
     }
     .map_err(|e| told(e, &b))
 }
@@ -237,21 +251,26 @@ fn one_call(calls: &dyn Calls, d: &mut Desk, r: &mut Random, counts: &mut Counts
         0..=4 => one_move(calls, d, &any_move(d, r), counts),
         5..=6 => one_trial(calls, d, &any_move(d, r), counts),
         7..=8 => one_damaged(calls, d, r, counts),
+        _ if d.large() => one_trial(calls, d, &any_move(d, r), counts),
         _ => one_improve(calls, d, any_kinds(r), counts),
     }
 }
 
-/// Most lists are short, so that many plans are met; some are long.
+/// Most lists are short, so that many plans are met; some are long, and some are over large plans.
 const SHORT: u64 = 100;
 const LONG: u64 = 5_000;
-const SHORT_BEFORE_LONG: u64 = 50;
+const OVER_LARGE: u64 = 20;
 
 /// Runs at least so many calls, each list over the tables of one plan.
 pub fn run(calls: &dyn Calls, amount: u64, seed: u64, counts: &mut Counts) -> Compared<()> {
     let mut done = 0;
     let mut list = 0u64;
     while done < amount {
-        let length = if list % (SHORT_BEFORE_LONG + 1) == SHORT_BEFORE_LONG { LONG } else { SHORT };
+        let length = match list % 60 {
+            59 => LONG,
+            n if n % 6 == 5 => OVER_LARGE,
+            _ => SHORT,
+        };
         one_list(calls, length, seed, list, counts)?;
         counts.met(format!("lists of {length} calls"));
         done += length;
@@ -263,19 +282,20 @@ pub fn run(calls: &dyn Calls, amount: u64, seed: u64, counts: &mut Counts) -> Co
 /// One list of so many calls, with its own numbers from the seed.
 fn one_list(calls: &dyn Calls, length: u64, seed: u64, list: u64, counts: &mut Counts) -> Compared<()> {
     let r = &mut Random::new(seed.wrapping_mul(1_000_003).wrapping_add(list));
-    let mut d = desk(r);
+    let sizes = if length == OVER_LARGE { MOST_CELLS + 1..=MOST_LARGE } else { 1..=MOST_CELLS };
+    let mut d = desk(r, sizes);
     let from = if d.foreign { "foreign cells" } else { "a load" };
     counts.met(format!("lists from {from}"));
-    let deepest = (0..d.plan.nodes.len()).map(|i| d.plan.depth(i)).max().unwrap_or(0);
-    counts.met(format!("lists of depth {deepest}"));
+    counts.met(format!("lists of depth {}", deepest(&d.plan)));
     for call in 0..length {
         let before = d.clone();
-        one_call(calls, &mut d, r, counts).map_err(|e| {
+        let result = one_call(calls, &mut d, r, counts).and_then(|()| same_table("plan table", &d.table, &before.table));
+        result.map_err(|e| {
             let tables = format!("masks {:?}, cells {:?}, table {:?}", before.masks, before.cells, before.table);
             format!("list {list}, call {call}, seed {seed}: {e}\n  {}\n  before the call: {tables}", before.text)
         })?;
-        same_table("plan table", &d.table, &before.table)?;
         counts.met(format!("calls from {from}"));
+        counts.met(if d.large() { "calls over large plans" } else { "calls over small plans" });
     }
     Ok(())
 }
@@ -392,9 +412,9 @@ pub fn missed(counts: &Counts) -> Vec<String> {
     wanted.extend(["move", "trial", "improve"].iter().flat_map(|call| refusals(call)));
     wanted.extend(["accepted", "refused 12", "refused 14", "refused 15"].map(|o| format!("trial: {o}")));
     wanted.extend(["made", "no better move", "refused 12", "refused 14"].map(|o| format!("improve: {o}")));
-    wanted.extend(["scratch too short", "calls from a load", "calls from foreign cells"].map(str::to_string));
+    wanted.extend(["scratch too short", "calls from a load", "calls from foreign cells", "calls over large plans"].map(str::to_string));
     let mut wanted: Vec<(String, u64)> = wanted.into_iter().map(|class| (class, 100)).collect();
-    wanted.extend((0..=3).map(|depth| (format!("lists of depth {depth}"), 3)));
+    wanted.extend((0..=3).map(|depth| (format!("lists of depth {depth}"), 5)));
     wanted.push((format!("lists of {LONG} calls"), 1));
     wanted.extend(["move", "trial"].map(|call| (format!("{call} over damaged tables: accepted"), 20)));
     let met = |class: &str| counts.0.iter().filter(|(c, _)| c.starts_with(class)).map(|(_, n)| n).sum::<u64>();

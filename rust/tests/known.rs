@@ -1,4 +1,6 @@
 //! The known plans of paper 01, through the second evaluator alone and through the engine.
+use vuyekhang::lists::{Calls, Improved};
+use vuyekhang::moves::Engine;
 use vuyekhang::second::moves::{make_move, pairs, touched, Move, Numbers};
 use vuyekhang::second::penalty::{cells, text_true, tuples};
 use vuyekhang::second::table::{decode, encode};
@@ -61,6 +63,46 @@ fn plan_b() {
     assert_eq!(answer, Ok(Numbers { before: 1, after: 0, changed: 8 }));
     assert_eq!(masks, [3, 5, 1]);
     assert_eq!(own, cells(&plan, &masks));
+}
+
+#[test]
+fn plan_b_by_the_engine() {
+    let plan = accepted(3, PLAN_A).plan;
+    let table = encode(&plan);
+    let mut masks = [3, 7, 1];
+    let mut own = cells(&plan, &masks);
+    let mut scratch = vec![9; own.len()];
+    let drop = Move { kind: 2, s: 1, t: 0, p: 1, q: 0 };
+    let numbers = Numbers { before: 1, after: 0, changed: 8 };
+    assert_eq!(Engine.trial(&table, &masks, &own, &mut scratch, &drop), Ok(numbers));
+    assert_eq!(Engine.trial(&table, &masks, &own, &mut scratch[1..], &drop), Err(12));
+    assert_eq!(Engine.make_move(&table, &mut masks, &mut own, &drop), Ok(numbers));
+    assert_eq!((masks, &own), ([3, 5, 1], &cells(&plan, &masks)));
+    assert_eq!(Engine.make_move(&table, &mut masks, &mut own, &drop), Err(15));
+    assert_eq!(Engine.improve(&table, &mut masks, &mut own, &mut scratch, 15), Ok(Improved::NoBetter(0)));
+    assert_eq!(Engine.improve(&table, &mut masks, &mut own, &mut scratch, 16), Err(14));
+}
+
+/// Kinds, sets and ports that would be known if they were cut to a byte or to 16 bits.
+#[test]
+fn wide_fields_are_not_cut() {
+    let plan = accepted(3, PLAN_A).plan;
+    let table = encode(&plan);
+    let mut masks = [3, 7, 1];
+    let mut own = cells(&plan, &masks);
+    let drop = Move { kind: 2, s: 1, t: 0, p: 1, q: 0 };
+    for more in [1 << 8, 1 << 16, 1 << 31] {
+        for wide in [
+            Move { kind: drop.kind + more, ..drop },
+            Move { s: drop.s + more, ..drop },
+            Move { t: more, ..drop },
+            Move { p: drop.p + more, ..drop },
+            Move { q: more, ..drop },
+        ] {
+            assert_eq!(Engine.make_move(&table, &mut masks, &mut own, &wide), Err(14));
+        }
+        assert_eq!(Engine.improve(&table, &mut masks, &mut own.clone(), &mut own, more + 2), Err(14));
+    }
 }
 
 #[test]

@@ -186,15 +186,15 @@ fn move_of(m: MoveRecord) -> Move
     }
 }
 
-fn record_of(m: Move) -> MoveRecord
-    ensures { λ r. ⌜ moveOf r ≡ m ⌝ }
+fn record_of(chosen: Move) -> MoveRecord
+    ensures { λ r. ⌜ moveOf r ≡ chosen ⌝ }
 {
     MoveRecord {
-        kind: m.kind,
-        s: m.s,
-        t: m.t,
-        p: m.p,
-        q: m.q,
+        kind: chosen.kind,
+        s: chosen.s,
+        t: chosen.t,
+        p: chosen.p,
+        q: chosen.q,
     }
 }
 

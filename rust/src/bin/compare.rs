@@ -14,7 +14,7 @@ use vuyekhang::with_stack;
 const QUICK_ROUNDS: u64 = 20_000;
 const QUICK_TOKENS: u64 = 3;
 const QUICK_CALLS: u64 = 20_000;
-const QUICK_LISTS: u64 = 500;
+const QUICK_LISTS: u64 = 150;
 const QUICK_DAMAGES: u64 = 1_000;
 
 fn main() -> ExitCode {
@@ -38,7 +38,7 @@ fn main() -> ExitCode {
 
 fn print(counts: &Counts) {
     for (class, count) in &counts.0 {
-        println!("{class:30} {count:9}");
+        println!("{class:44} {count:9}");
     }
 }
 
@@ -98,7 +98,7 @@ fn lists_fail(calls: u64, seed: u64) -> bool {
         return true;
     }
     print(&counts);
-    println!("{calls} calls in lists: no difference");
+    println!("{} calls in lists: no difference", counts.of("calls from a load") + counts.of("calls from foreign cells"));
     too_seldom(&lists::missed(&counts))
 }
 
