@@ -236,7 +236,9 @@ fn one_damaged(calls: &dyn Calls, d: &Desk, r: &mut Random, counts: &mut Counts)
     let m = any_move(d, r);
     let mut b = damaged(d, r);
     lend_scratch(&mut b, r);
-    let told = |e: String, b: &Desk| format!("{e}\n  damaged table {:?}, masks {}, cells {}, scratch {}", b.table, b.masks.len(), b.cells.len(), b.scratch.len());
+    let told = |e: String, b: &Desk| {
+        format!("{e}\n  damaged table {:?}, masks {}, cells {}, scratch {}", b.table, b.masks.len(), b.cells.len(), b.scratch.len())
+    };
     match r.below(3) {
         0 => one_move(calls, &mut b, &m, counts),
         2 if !d.large() => one_improve(calls, &mut b, any_kinds(r), counts),
