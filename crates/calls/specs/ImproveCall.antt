@@ -26,6 +26,12 @@ improvedNumber (Refused number) = number
 unfoldable pub noMove : Move
 noMove = record { kind = 0; s = 0; t = 0; p = 0; q = 0 }
 
+-- Found is 1 exactly where improve made a move.
+unfoldable pub improvedFound : Improved → ℕ
+improvedFound (Made chosen before after changed) = 1
+improvedFound (NoBetter root) = 0
+improvedFound (Refused number) = 0
+
 unfoldable pub improvedMove : Improved → Move
 improvedMove (Made chosen before after changed) = chosen
 improvedMove (NoBetter root) = noMove

@@ -10,6 +10,9 @@ use lib.ListN.{length, take, drop, length-append, length-drop}
 use lib.Seq.{take-all, length-take-le, drop-drop}
 use Rattle.load.proofs.Filling.{lent, back, lent-is, back-is}
 use Rattle.calls.specs.Lists.{Call, Answer, moveAnswered, trialAnswered, improveAnswered, State, Step, Run, ended, called}
+use Rattle.plan.specs.Decode.{decode}
+use Rattle.lists.specs.Scratch.{ScratchRun, kept}
+use Rattle.lists.proofs.Scratch.{scratch-snoc, scratch-length}
 use Rattle.lists.specs.Encoding.{Says, Unknown, SayAll, tenNumbers, movedNumbers, improvedNumbers, answerNumbers, allNumbers}
 use Rattle.lists.specs.Working.{OneWorked, NoneWorked, OneAfter, Worked, Stopped, atEnd, notWhole, noRoom, unknownTag, NextFits}
 
@@ -59,9 +62,10 @@ lent-all : (at : ℕ) (xs : List ℕ) → lent at xs ≡ drop at xs
 lent-all at xs = take-all (length xs - at) (drop at xs) (omega (arith, length-drop at xs))
 
 -- before the first call
-pub none-yet : (bytes : List ℕ) (n : ℕ) (calls masks cells answers : List ℕ) → Worked bytes n calls masks cells answers 0 masks cells answers
+pub none-yet : (bytes calls masks cells scratch answers : List ℕ)
+    → Worked bytes calls masks cells scratch answers 0 masks cells scratch answers
 unfolding SayAll allNumbers
-none-yet bytes n calls masks cells answers = record {
+none-yet bytes calls masks cells scratch answers = record {
   said = [];
   answered = [];
   whole = omega arith;
@@ -69,11 +73,12 @@ none-yet bytes n calls masks cells answers = record {
   worked = refl;
   says = tt;
   run = ended;
+  scratch-run = kept;
   answers-are = refl;
 }
 
-module _ (bytes : List ℕ) (n : ℕ) (calls masks cells answers : List ℕ) (count : ℕ) (masks′ cells′ answers′ : List ℕ)
-    (w : Worked bytes n calls masks cells answers count masks′ cells′ answers′) where
+module _ (bytes calls masks cells scratch answers : List ℕ) (count : ℕ) (masks′ cells′ scratch′ answers′ : List ℕ)
+    (w : Worked bytes calls masks cells scratch answers count masks′ cells′ scratch′ answers′) where
   told-length : length (allNumbers (w .answered)) ≡ 10 * count
   told-length =
       length-all (w .answered) ∙ ap (λ (j : ℕ). 10 * j) (run-lengths bytes _ _ (w .said) (w .answered) (w .run) ∙ w .worked)
@@ -82,6 +87,9 @@ module _ (bytes : List ℕ) (n : ℕ) (calls masks cells answers : List ℕ) (co
   answers-length =
       ap length (w .answers-are) ∙ length-append (allNumbers (w .answered)) (drop (10 * count) answers)
       ∙ omega (arith, told-length, length-drop (10 * count) answers, w .room)
+
+  pub as-long : length scratch′ ≡ length scratch
+  as-long = scratch-length (decode bytes) scratch scratch′ (w .said) (w .answered) (w .scratch-run)
 
   -- the part of the answers that is lent, and the answers when it is given back
   part-is : lent (10 * count) answers′ ≡ drop (10 * count) answers
@@ -92,10 +100,10 @@ module _ (bytes : List ℕ) (n : ℕ) (calls masks cells answers : List ℕ) (co
       ap (λ (xs : List ℕ). back (10 * count) xs ys) (w .answers-are)
       ∙ back-is (10 * count) (allNumbers (w .answered)) (drop (10 * count) answers) ys told-length
 
-  module _ (masks″ cells″ part : List ℕ) where
-    pub one-more : OneWorked bytes n (lent (7 * count) calls) masks′ cells′ (lent (10 * count) answers′) masks″ cells″ part
+  module _ (masks″ cells″ scratch″ part : List ℕ) where
+    pub one-more : OneWorked bytes (lent (7 * count) calls) masks′ cells′ scratch′ (lent (10 * count) answers′) masks″ cells″ scratch″ part
         → 7 * count + 7 ≤ length calls → 10 * count + 10 ≤ length answers
-        → Worked bytes n calls masks cells answers (count + 1) masks″ cells″ (back (10 * count) answers′ part)
+        → Worked bytes calls masks cells scratch answers (count + 1) masks″ cells″ scratch″ (back (10 * count) answers′ part)
     one-more o whole room =
         let next : 10 * count + 10 ≡ 10 * (count + 1) = omega arith in
         record {
@@ -104,9 +112,13 @@ module _ (bytes : List ℕ) (n : ℕ) (calls masks cells answers : List ℕ) (co
           whole = omega arith;
           room = omega arith;
           worked = length-append (w .said) (o .said ∷ []) ∙ ap (λ (j : ℕ). j + 1) (w .worked);
-          says = say-snoc n calls (w .said) (o .said) (w .says)
-              (subst (λ (ys : List ℕ). Says n ys (o .said)) (lent-all (7 * count) calls ∙ ap (λ (j : ℕ). drop (7 * j) calls) (sym (w .worked))) (o .says));
+          says = say-snoc (length scratch) calls (w .said) (o .said) (w .says)
+              (subst (λ (ys : List ℕ). Says (length scratch) ys (o .said))
+              (lent-all (7 * count) calls ∙ ap (λ (j : ℕ). drop (7 * j) calls) (sym (w .worked)))
+              (subst (λ (n : ℕ). Says n (lent (7 * count) calls) (o .said)) as-long (o .says)));
           run = run-snoc bytes _ _ _ (w .said) (w .answered) (o .said) (o .answered) (w .run) (o .step);
+          scratch-run =
+              scratch-snoc (decode bytes) scratch scratch′ scratch″ (w .said) (w .answered) (o .said) (o .answered) (w .scratch-run) (o .scratch-step);
           answers-are =
               given-back part
               ∙ ap (λ (ys : List ℕ). allNumbers (w .answered) ++ ys)
@@ -116,8 +128,8 @@ module _ (bytes : List ℕ) (n : ℕ) (calls masks cells answers : List ℕ) (co
               ∙ ap (λ (ys : List ℕ). ys ++ drop (10 * (count + 1)) answers) (sym (all-snoc (w .answered) (o .answered)));
         }
 
-    module _ (o : NoneWorked (lent (7 * count) calls) masks′ cells′ (lent (10 * count) answers′) masks″ cells″ part) where
-      pub none-more : Worked bytes n calls masks cells answers count masks″ cells″ (back (10 * count) answers′ part)
+    module _ (o : NoneWorked (lent (7 * count) calls) masks′ cells′ scratch′ (lent (10 * count) answers′) masks″ cells″ scratch″ part) where
+      pub none-more : Worked bytes calls masks cells scratch answers count masks″ cells″ scratch″ (back (10 * count) answers′ part)
       none-more = record {
         said = w .said;
         answered = w .answered;
@@ -129,6 +141,7 @@ module _ (bytes : List ℕ) (n : ℕ) (calls masks cells answers : List ℕ) (co
             (sym (o .cells-kept))
             (subst (λ (x : List ℕ). Run bytes record { masks = masks; cells = cells } (w .said) (w .answered) record { masks = x; cells = cells′ })
             (sym (o .masks-kept)) (w .run));
+        scratch-run = subst (ScratchRun (decode bytes) scratch (w .said) (w .answered)) (sym (o .scratch-kept)) (w .scratch-run);
         answers-are = given-back part ∙ ap (λ (ys : List ℕ). allNumbers (w .answered) ++ ys) (o .answer-kept ∙ part-is);
       }
 
@@ -136,17 +149,16 @@ module _ (bytes : List ℕ) (n : ℕ) (calls masks cells answers : List ℕ) (co
       stopped-there whole room = unknownTag whole room (subst Unknown (lent-all (7 * count) calls) (o .unknown))
 
 -- by the answer of the leaf
-pub after-true : (r : Bool) (bytes : List ℕ) (n : ℕ) (call masks cells answer masks′ cells′ answer′ : List ℕ) → r ≡ true
-    → OneAfter r bytes n call masks cells answer masks′ cells′ answer′ → OneWorked bytes n call masks cells answer masks′ cells′ answer′
-unfolding OneAfter
-after-true r bytes n call masks cells answer masks′ cells′ answer′ e h =
-    subst (λ (x : Bool). OneAfter x bytes n call masks cells answer masks′ cells′ answer′) e h
+module _ (r : Bool) (bytes call masks cells scratch answer masks′ cells′ scratch′ answer′ : List ℕ) where
+  pub after-true : r ≡ true → OneAfter r bytes call masks cells scratch answer masks′ cells′ scratch′ answer′
+      → OneWorked bytes call masks cells scratch answer masks′ cells′ scratch′ answer′
+  unfolding OneAfter
+  after-true e h = subst (λ (x : Bool). OneAfter x bytes call masks cells scratch answer masks′ cells′ scratch′ answer′) e h
 
-pub after-false : (r : Bool) (bytes : List ℕ) (n : ℕ) (call masks cells answer masks′ cells′ answer′ : List ℕ) → r ≡ false
-    → OneAfter r bytes n call masks cells answer masks′ cells′ answer′ → NoneWorked call masks cells answer masks′ cells′ answer′
-unfolding OneAfter
-after-false r bytes n call masks cells answer masks′ cells′ answer′ e h =
-    subst (λ (x : Bool). OneAfter x bytes n call masks cells answer masks′ cells′ answer′) e h
+  pub after-false : r ≡ false → OneAfter r bytes call masks cells scratch answer masks′ cells′ scratch′ answer′
+      → NoneWorked call masks cells scratch answer masks′ cells′ scratch′ answer′
+  unfolding OneAfter
+  after-false e h = subst (λ (x : Bool). OneAfter x bytes call masks cells scratch answer masks′ cells′ scratch′ answer′) e h
 
 pub fits-true : (r : Bool) (calls answers : List ℕ) (count : ℕ) → r ≡ true → NextFits r calls answers count
     → (7 * count + 7 ≤ length calls) × (10 * count + 10 ≤ length answers)
@@ -170,25 +182,26 @@ pub scratch-lent : (xs : List ℕ) (asked x lent : ℕ) → x ≡ asked → lent
 scratch-lent xs asked x lent e h =
     length-take-le (lent - 0) xs (omega arith) ∙ omega arith
 
--- What holds before each call: the calls so far were worked, and no table has another length than at the outset.
+-- What holds before each call: the calls so far were worked, and masks and cells are as long as at the outset.
 pub record Going (bytes calls masks cells scratch answers : List ℕ) (count : ℕ) (masks′ cells′ scratch′ answers′ : List ℕ) : Type 0 where
-  pub so-far : Worked bytes (length scratch) calls masks cells answers count masks′ cells′ answers′
+  pub so-far : Worked bytes calls masks cells scratch answers count masks′ cells′ scratch′ answers′
   pub masks-length : length masks′ ≡ length masks
   pub cells-length : length cells′ ≡ length cells
-  pub scratch-length : length scratch′ ≡ length scratch
 
 pub outset : (bytes calls masks cells scratch answers : List ℕ) → Going bytes calls masks cells scratch answers 0 masks cells scratch answers
 outset bytes calls masks cells scratch answers = record {
-  so-far = none-yet bytes (length scratch) calls masks cells answers;
+  so-far = none-yet bytes calls masks cells scratch answers;
   masks-length = refl;
   cells-length = refl;
-  scratch-length = refl;
 }
 
 module _ (bytes calls masks cells scratch answers : List ℕ) (count : ℕ) (masks′ cells′ scratch′ answers′ : List ℕ)
     (g : Going bytes calls masks cells scratch answers count masks′ cells′ scratch′ answers′) where
   pub same-answers : length answers′ ≡ length answers
-  same-answers = answers-length bytes (length scratch) calls masks cells answers count masks′ cells′ answers′ (g .so-far)
+  same-answers = answers-length bytes calls masks cells scratch answers count masks′ cells′ scratch′ answers′ (g .so-far)
+
+  pub same-scratch : length scratch′ ≡ length scratch
+  same-scratch = as-long bytes calls masks cells scratch answers count masks′ cells′ scratch′ answers′ (g .so-far)
 
   -- what was worked stands within both tables
   pub within : (7 * count ≤ length calls) × (10 * count ≤ length answers′)
@@ -202,44 +215,37 @@ module _ (bytes calls masks cells scratch answers : List ℕ) (count : ℕ) (mas
     rw (lent-all (10 * count) answers′) (rw (length-drop (10 * count) answers′) (omega arith)),
   )
 
-  -- scratch is as long before each call
-  as-long : (call masks″ cells″ answer answer″ : List ℕ) → OneWorked bytes (length scratch′) call masks′ cells′ answer masks″ cells″ answer″
-      → OneWorked bytes (length scratch) call masks′ cells′ answer masks″ cells″ answer″
-  as-long call masks″ cells″ answer answer″ o =
-      subst (λ (n : ℕ). OneWorked bytes n call masks′ cells′ answer masks″ cells″ answer″) (g .scratch-length) o
-
-  module _ (masks″ cells″ part : List ℕ) (r : Bool)
-      (o : OneAfter r bytes (length scratch′) (lent (7 * count) calls) masks′ cells′ (lent (10 * count) answers′) masks″ cells″ part)
+  module _ (masks″ cells″ scratch″ part : List ℕ) (r : Bool)
+      (o : OneAfter r bytes (lent (7 * count) calls) masks′ cells′ scratch′ (lent (10 * count) answers′) masks″ cells″ scratch″ part)
       (fits : (7 * count + 7 ≤ length calls) × (10 * count + 10 ≤ length answers′)) where
-    pub goes-on : (scratch″ : List ℕ) → r ≡ true → length masks″ ≡ length masks′ → length cells″ ≡ length cells′ → length scratch″ ≡ length scratch′
+    pub goes-on : r ≡ true → length masks″ ≡ length masks′ → length cells″ ≡ length cells′
         → Going bytes calls masks cells scratch answers (count + 1) masks″ cells″ scratch″ (back (10 * count) answers′ part)
-    goes-on scratch″ e lm lc ls = record {
+    goes-on e lm lc = record {
       so-far =
-          one-more bytes (length scratch) calls masks cells answers count masks′ cells′ answers′ (g .so-far) masks″ cells″ part
-          (as-long _ _ _ _ _ (after-true r bytes (length scratch′) (lent (7 * count) calls) masks′ cells′ (lent (10 * count) answers′) masks″ cells″ part e o))
+          one-more bytes calls masks cells scratch answers count masks′ cells′ scratch′ answers′ (g .so-far) masks″ cells″ scratch″ part
+          (after-true r bytes (lent (7 * count) calls) masks′ cells′ scratch′ (lent (10 * count) answers′) masks″ cells″ scratch″ part e o)
           (fits .0) (omega (arith, fits .1, same-answers));
       masks-length = lm ∙ g .masks-length;
       cells-length = lc ∙ g .cells-length;
-      scratch-length = ls ∙ g .scratch-length;
     }
 
     module _ (e : r ≡ false) where
-      nothing-done : NoneWorked (lent (7 * count) calls) masks′ cells′ (lent (10 * count) answers′) masks″ cells″ part
+      nothing-done : NoneWorked (lent (7 * count) calls) masks′ cells′ scratch′ (lent (10 * count) answers′) masks″ cells″ scratch″ part
       nothing-done =
-          after-false r bytes (length scratch′) (lent (7 * count) calls) masks′ cells′ (lent (10 * count) answers′) masks″ cells″ part e o
+          after-false r bytes (lent (7 * count) calls) masks′ cells′ scratch′ (lent (10 * count) answers′) masks″ cells″ scratch″ part e o
 
-      pub worked-there : Worked bytes (length scratch) calls masks cells answers count masks″ cells″ (back (10 * count) answers′ part)
+      pub worked-there : Worked bytes calls masks cells scratch answers count masks″ cells″ scratch″ (back (10 * count) answers′ part)
       worked-there =
-          none-more bytes (length scratch) calls masks cells answers count masks′ cells′ answers′ (g .so-far) masks″ cells″ part nothing-done
+          none-more bytes calls masks cells scratch answers count masks′ cells′ scratch′ answers′ (g .so-far) masks″ cells″ scratch″ part nothing-done
 
       pub unknown-there : Stopped calls (length answers) count
       unknown-there =
-          stopped-there bytes (length scratch) calls masks cells answers count masks′ cells′ answers′ (g .so-far) masks″ cells″ part nothing-done (fits .0)
-          (omega (arith, fits .1, same-answers))
+          stopped-there bytes calls masks cells scratch answers count masks′ cells′ scratch′ answers′ (g .so-far) masks″ cells″ scratch″ part nothing-done
+          (fits .0) (omega (arith, fits .1, same-answers))
 
       pub answers-there : length (back (10 * count) answers′ part) ≡ length answers
       answers-there =
-          answers-length bytes (length scratch) calls masks cells answers count masks″ cells″ (back (10 * count) answers′ part) worked-there
+          answers-length bytes calls masks cells scratch answers count masks″ cells″ scratch″ (back (10 * count) answers′ part) worked-there
 
   pub ends-there : (r : Bool) → r ≡ false → NextFits r calls answers′ count → Stopped calls (length answers) count
   ends-there r e h = subst (λ (n : ℕ). Stopped calls n count) same-answers (fits-false r calls answers′ count e h)

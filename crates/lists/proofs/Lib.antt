@@ -1,3 +1,4 @@
 pub mod Telling
+pub mod Scratch
 pub mod Extending
 pub mod Right

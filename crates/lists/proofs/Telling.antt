@@ -8,8 +8,8 @@ use Rattle.esol.specs.declared.Move.{Move}
 use Rattle.calls.specs.declared.Moved.{Moved}
 use Rattle.calls.specs.declared.Improved.{Improved}
 use Rattle.calls.specs.MoveCall.{movedNumber, movedBefore, movedAfter, movedChanged}
-use Rattle.calls.specs.ImproveCall.{noMove, improvedNumber, improvedMove, improvedBefore, improvedAfter, improvedChanged}
-use Rattle.lists.specs.Encoding.{improvedFound, tenNumbers, movedNumbers, improvedNumbers}
+use Rattle.calls.specs.ImproveCall.{noMove, improvedNumber, improvedFound, improvedMove, improvedBefore, improvedAfter, improvedChanged}
+use Rattle.lists.specs.Encoding.{tenNumbers, movedNumbers, improvedNumbers}
 
 -- ten stores leave the ten numbers and what stood behind them
 pub ten-set : (xs : List ℕ) (a b c d e f g h i j : ℕ) → 10 ≤ length xs

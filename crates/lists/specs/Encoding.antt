@@ -7,9 +7,8 @@ use lib.ListN.{length, getD, drop}
 use Rattle.esol.specs.declared.Move.{Move}
 use Rattle.calls.specs.declared.Moved.{Moved}
 use Rattle.calls.specs.declared.Improved.{Improved}
-use Rattle.calls.specs.declared.Improved.the-variants.{Made, NoBetter, Refused}
 use Rattle.calls.specs.MoveCall.{movedNumber, movedBefore, movedAfter, movedChanged}
-use Rattle.calls.specs.ImproveCall.{noMove, improvedNumber, improvedMove, improvedBefore, improvedAfter, improvedChanged}
+use Rattle.calls.specs.ImproveCall.{noMove, improvedNumber, improvedFound, improvedMove, improvedBefore, improvedAfter, improvedChanged}
 use Rattle.calls.specs.Lists.{Call, moveCall, trialCall, improveCall, Answer, moveAnswered, trialAnswered, improveAnswered}
 
 -- "a tag, five fields, and how much of the lent scratch this call gets"
@@ -45,12 +44,6 @@ pub record Unknown (call : List ℕ) : Type 0 where
 unfoldable pub SayAll : ℕ → List ℕ → List Call → Type 0
 SayAll scratch-length numbers [] = Unit {0}
 SayAll scratch-length numbers (call ∷ calls) = Says scratch-length numbers call × SayAll scratch-length (drop 7 numbers) calls
-
--- Found is 1 exactly where improve made a move.
-unfoldable pub improvedFound : Improved → ℕ
-improvedFound (Made chosen before after changed) = 1
-improvedFound (NoBetter root) = 0
-improvedFound (Refused number) = 0
 
 -- The ten numbers of an answer: number, found, the move's kind, s, t, p, q, before, after, changed.
 unfoldable pub tenNumbers : ℕ → ℕ → Move → ℕ → ℕ → ℕ → List ℕ

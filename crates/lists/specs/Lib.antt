@@ -1,2 +1,3 @@
 pub mod Encoding
+pub mod Scratch
 pub mod Working

@@ -4,39 +4,46 @@ use mathlib.Core.Bool.{Bool, true, false}
 use mathlib.Core.List.{List, _++_}
 use Prim.Native.Nat.{ℕ, _+_, _*_, _≤_, _<_}
 use lib.ListN.{length, drop}
+use Rattle.plan.specs.Decode.{decode}
 use Rattle.calls.specs.Lists.{Call, Answer, State, Step, Run}
+use Rattle.lists.specs.Scratch.{ScratchOne, ScratchRun}
 use Rattle.lists.specs.Encoding.{Says, Unknown, SayAll, answerNumbers, allNumbers}
 
 -- One call was worked: the numbers say a call, which answered what the ten numbers say and left the tables as its contract allows.
-pub record OneWorked (bytes : List ℕ) (scratch-length : ℕ) (call masks cells answer masks′ cells′ answer′ : List ℕ) : Type 0 where
+pub record OneWorked (bytes call masks cells scratch answer masks′ cells′ scratch′ answer′ : List ℕ) : Type 0 where
   pub said : Call
   pub answered : Answer
-  pub says : Says scratch-length call said
+  pub says : Says (length scratch) call said
   pub step : Step bytes record { masks = masks; cells = cells } said answered record { masks = masks′; cells = cells′ }
+  pub scratch-step : ScratchOne (decode bytes) said answered scratch scratch′
   pub answer-is : answer′ ≡ answerNumbers answered ++ drop 10 answer
 
 -- Nothing was written.
-pub record NoneWorked (call masks cells answer masks′ cells′ answer′ : List ℕ) : Type 0 where
+pub record NoneWorked (call masks cells scratch answer masks′ cells′ scratch′ answer′ : List ℕ) : Type 0 where
   pub unknown : Unknown call
   pub masks-kept : masks′ ≡ masks
   pub cells-kept : cells′ ≡ cells
+  pub scratch-kept : scratch′ ≡ scratch
   pub answer-kept : answer′ ≡ answer
 
 -- By whether it was worked.
-unfoldable pub OneAfter : Bool → List ℕ → ℕ → List ℕ → List ℕ → List ℕ → List ℕ → List ℕ → List ℕ → List ℕ → Type 0
-OneAfter true bytes n call masks cells answer masks′ cells′ answer′ = OneWorked bytes n call masks cells answer masks′ cells′ answer′
-OneAfter false bytes n call masks cells answer masks′ cells′ answer′ = NoneWorked call masks cells answer masks′ cells′ answer′
+unfoldable pub OneAfter : Bool → List ℕ → List ℕ → List ℕ → List ℕ → List ℕ → List ℕ → List ℕ → List ℕ → List ℕ → List ℕ → Type 0
+OneAfter true bytes call masks cells scratch answer masks′ cells′ scratch′ answer′ =
+    OneWorked bytes call masks cells scratch answer masks′ cells′ scratch′ answer′
+OneAfter false bytes call masks cells scratch answer masks′ cells′ scratch′ answer′ =
+    NoneWorked call masks cells scratch answer masks′ cells′ scratch′ answer′
 
 -- "Its contract gives, for every list, a run in the sense of the theorem whose calls are the list's and whose answers are the
--- table's": the first `count` calls, their answers, and what stood behind those as it was.
-pub record Worked (bytes : List ℕ) (scratch-length : ℕ) (calls masks cells answers : List ℕ) (count : ℕ) (masks′ cells′ answers′ : List ℕ) : Type 0 where
+-- table's": the first `count` calls, their answers, and what stood behind those as it was. Scratch goes from call to call.
+pub record Worked (bytes calls masks cells scratch answers : List ℕ) (count : ℕ) (masks′ cells′ scratch′ answers′ : List ℕ) : Type 0 where
   pub said : List Call
   pub answered : List Answer
   pub whole : 7 * count ≤ length calls
   pub room : 10 * count ≤ length answers
   pub worked : length said ≡ count
-  pub says : SayAll scratch-length calls said
+  pub says : SayAll (length scratch) calls said
   pub run : Run bytes record { masks = masks; cells = cells } said answered record { masks = masks′; cells = cells′ }
+  pub scratch-run : ScratchRun (decode bytes) scratch said answered scratch′
   pub answers-are : answers′ ≡ allNumbers answered ++ drop (10 * count) answers
 
 -- Why a list ends after some calls: it has no more; "fewer than 7 numbers left"; "fewer than 10 numbers left" for the answer; an

@@ -108,7 +108,7 @@ fn work_one(
     answer: &mut [u32],
 ) -> bool
     requires { ⌜ (7 ≤ length (now call)) × (10 ≤ length (now answer)) ⌝ }
-    ensures { λ r. ⌜ OneAfter r (now (table .entry)) (length (now (scratch .entry))) (now (call .entry)) (now (masks .entry)) (now (cells .entry)) (now (answer .entry)) (now (masks .exit)) (now (cells .exit)) (now (answer .exit)) ⌝ }
+    ensures { λ r. ⌜ OneAfter r (now (table .entry)) (now (call .entry)) (now (masks .entry)) (now (cells .entry)) (now (scratch .entry)) (now (answer .entry)) (now (masks .exit)) (now (cells .exit)) (now (scratch .exit)) (now (answer .exit)) ⌝ }
 {
     let tag = call[0];
     let m = move_of(call);
@@ -157,9 +157,8 @@ pub fn work(
     calls: &[u32],
     answers: &mut [u32],
 ) -> usize
-    ensures run { λ r. ⌜ Worked (now (table .entry)) (length (now (scratch .entry))) (now (calls .entry)) (now (masks .entry)) (now (cells .entry)) (now (answers .entry)) r (now (masks .exit)) (now (cells .exit)) (now (answers .exit)) ⌝ }
+    ensures run { λ r. ⌜ Worked (now (table .entry)) (now (calls .entry)) (now (masks .entry)) (now (cells .entry)) (now (scratch .entry)) (now (answers .entry)) r (now (masks .exit)) (now (cells .exit)) (now (scratch .exit)) (now (answers .exit)) ⌝ }
     ensures stopped { λ r. ⌜ Stopped (now (calls .entry)) (length (now (answers .entry))) r ⌝ }
-    ensures lent { λ r. ⌜ length (now (scratch .exit)) ≡ length (now (scratch .entry)) ⌝ }
 {
     let mut worked = 0;
     while next_fits(calls, &answers[..], worked) {

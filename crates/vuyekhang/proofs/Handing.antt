@@ -10,11 +10,11 @@ use Rattle.calls.specs.declared.Improved.{Improved}
 use Rattle.calls.specs.MoveCall.{movedNumber, moves}
 use Rattle.calls.specs.TrialCall.{trials, ScratchAfter}
 use Rattle.calls.specs.declared.Improved.the-variants.{Made, NoBetter, Refused}
-use Rattle.calls.specs.ImproveCall.{improvedNumber, improvedMove, noMove, improvedBefore, improvedAfter, improvedChanged, Improves}
+use Rattle.calls.specs.ImproveCall.{improvedNumber, improvedFound, improvedMove, noMove, improvedBefore, improvedAfter, improvedChanged, Improves}
 use Rattle.vuyekhang.specs.declared.MoveRecord.{MoveRecord}
 use Rattle.vuyekhang.specs.declared.MoveAnswer.{MoveAnswer}
 use Rattle.vuyekhang.specs.declared.ImproveAnswer.{ImproveAnswer}
-use Rattle.vuyekhang.specs.Moving.{moveOf, MoveFields, MoveGives, TrialGives, improvedFound, ImproveFields, ImproveGives}
+use Rattle.vuyekhang.specs.Moving.{moveOf, MoveFields, MoveGives, TrialGives, ImproveFields, ImproveGives}
 
 -- the C record's move, and the answer field by field
 pub move-gives : (d : Decoded) (n : MoveRecord) (m : Move) (masks cells masks′ cells′ : List ℕ) (a : Moved) (r : MoveAnswer) → m ≡ moveOf n

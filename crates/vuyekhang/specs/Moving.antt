@@ -8,10 +8,9 @@ use Rattle.esol.specs.declared.Move.{Move}
 use Rattle.plan.specs.Decode.{Decoded}
 use Rattle.calls.specs.declared.Moved.{Moved}
 use Rattle.calls.specs.declared.Improved.{Improved}
-use Rattle.calls.specs.declared.Improved.the-variants.{Made, NoBetter, Refused}
 use Rattle.calls.specs.MoveCall.{movedNumber, movedBefore, movedAfter, movedChanged}
 use Rattle.calls.specs.TrialCall.{ScratchAfter}
-use Rattle.calls.specs.ImproveCall.{improvedNumber, improvedMove, improvedBefore, improvedAfter, improvedChanged, Improves}
+use Rattle.calls.specs.ImproveCall.{improvedNumber, improvedFound, improvedMove, improvedBefore, improvedAfter, improvedChanged, Improves}
 use Rattle.vuyekhang.specs.declared.MoveRecord.{MoveRecord}
 use Rattle.vuyekhang.specs.declared.MoveAnswer.{MoveAnswer}
 use Rattle.vuyekhang.specs.declared.ImproveAnswer.{ImproveAnswer}
@@ -38,12 +37,6 @@ pub record MoveGives (given : Moved × List ℕ × List ℕ) (r : MoveAnswer) (m
 pub record TrialGives (d : Decoded) (given : Moved) (r : MoveAnswer) (scratch scratch′ : List ℕ) : Type 0 where
   pub fields : MoveFields given r
   pub scratch-is : ScratchAfter d (r .number) scratch scratch′
-
--- Whether improve made a move.
-unfoldable pub improvedFound : Improved → ℕ
-improvedFound (Made chosen before after changed) = 1
-improvedFound (NoBetter root) = 0
-improvedFound (Refused number) = 0
 
 pub record ImproveFields (a : Improved) (r : ImproveAnswer) : Type 0 where
   pub number-is : r .number ≡ improvedNumber a

@@ -1,6 +1,5 @@
 use mathlib.Core.Path.{refl}
-use Rattle.calls.specs.ImproveCall.{noMove, improvedNumber, improvedMove, improvedBefore, improvedAfter, improvedChanged}
-use Rattle.lists.specs.Encoding.{improvedFound}
+use Rattle.calls.specs.ImproveCall.{noMove, improvedNumber, improvedFound, improvedMove, improvedBefore, improvedAfter, improvedChanged}
 use Rattle.lists.proofs.Telling.{told-improved}
 use borrow.Author.Needs.{needs}
 use Rattle.lists.proofs.tell_improved.Statement.{statement}

@@ -3,7 +3,7 @@ use Prim.Native.Nat.{_-_, _*_}
 use native.Mathlib.Omega.{arith}
 use lib.ListN.{length}
 use borrow.Author.Tests.{not-true, not-false}
-use Rattle.lists.proofs.Extending.{Going, outset, within, one-ready, goes-on, worked-there, unknown-there, answers-there, ends-there, same-answers, fits-true}
+use Rattle.lists.proofs.Extending.{Going, outset, within, one-ready, goes-on, worked-there, unknown-there, answers-there, ends-there, same-answers, same-scratch, fits-true}
 use Rattle.lists.proofs.work.Statement.{statement}
 use Rattle.lists.proofs.work.Tie as tie
 use Rattle.lists.proofs.work.Reads as reads
@@ -79,15 +79,15 @@ same-length-2 c =
 
 same-length-3 : tie.Need-same-length-3 Inv-loop μ-loop
 same-length-3 c =
-    c .before .before .before .before .before .before .before .before .before .work-one .kept .1 .1 .1 .0 ∙ c .before .before .before .before .before .before .before .before .before .before .before .before .before .before .before .before .before .before .loop .inv .scratch-length
+    c .before .before .before .before .before .before .before .before .before .work-one .kept .1 .1 .1 .0 ∙ same-scratch _ _ _ _ _ _ _ _ _ _ _ (c .before .before .before .before .before .before .before .before .before .before .before .before .before .before .before .before .before .before .loop .inv)
 
 same-length-4 : tie.Need-same-length-4 Inv-loop μ-loop
 same-length-4 c =
-    answers-there _ _ _ _ _ _ _ _ _ _ _ (c .before .before .before .before .before .before .before .before .before .before .before .before .before .before .before .before .before .before .loop .inv) _ _ _ _ (c .before .before .before .before .before .before .before .before .before .work-one .ensures) (fits-true _ _ _ _ (c .before .before .before .before .before .before .before .before .before .before .before .before .before .before .before .if1 .taken) (c .before .before .before .before .before .before .before .before .before .before .before .before .before .before .before .before .next-fits .ensures)) (not-true _ (c .if2 .taken))
+    answers-there _ _ _ _ _ _ _ _ _ _ _ (c .before .before .before .before .before .before .before .before .before .before .before .before .before .before .before .before .before .before .loop .inv) _ _ _ _ _ (c .before .before .before .before .before .before .before .before .before .work-one .ensures) (fits-true _ _ _ _ (c .before .before .before .before .before .before .before .before .before .before .before .before .before .before .before .if1 .taken) (c .before .before .before .before .before .before .before .before .before .before .before .before .before .before .before .before .next-fits .ensures)) (not-true _ (c .if2 .taken))
 
 returns : tie.Need-returns Inv-loop μ-loop
 returns c =
-    (worked-there _ _ _ _ _ _ _ _ _ _ _ (c .before .before .before .before .before .before .before .before .before .before .before .before .before .before .before .before .before .before .loop .inv) _ _ _ _ (c .before .before .before .before .before .before .before .before .before .work-one .ensures) (fits-true _ _ _ _ (c .before .before .before .before .before .before .before .before .before .before .before .before .before .before .before .if1 .taken) (c .before .before .before .before .before .before .before .before .before .before .before .before .before .before .before .before .next-fits .ensures)) (not-true _ (c .if2 .taken)), (unknown-there _ _ _ _ _ _ _ _ _ _ _ (c .before .before .before .before .before .before .before .before .before .before .before .before .before .before .before .before .before .before .loop .inv) _ _ _ _ (c .before .before .before .before .before .before .before .before .before .work-one .ensures) (fits-true _ _ _ _ (c .before .before .before .before .before .before .before .before .before .before .before .before .before .before .before .if1 .taken) (c .before .before .before .before .before .before .before .before .before .before .before .before .before .before .before .before .next-fits .ensures)) (not-true _ (c .if2 .taken)), c .before .before .before .before .before .before .before .before .before .work-one .kept .1 .1 .1 .0 ∙ c .before .before .before .before .before .before .before .before .before .before .before .before .before .before .before .before .before .before .loop .inv .scratch-length))
+    (worked-there _ _ _ _ _ _ _ _ _ _ _ (c .before .before .before .before .before .before .before .before .before .before .before .before .before .before .before .before .before .before .loop .inv) _ _ _ _ _ (c .before .before .before .before .before .before .before .before .before .work-one .ensures) (fits-true _ _ _ _ (c .before .before .before .before .before .before .before .before .before .before .before .before .before .before .before .if1 .taken) (c .before .before .before .before .before .before .before .before .before .before .before .before .before .before .before .before .next-fits .ensures)) (not-true _ (c .if2 .taken)), unknown-there _ _ _ _ _ _ _ _ _ _ _ (c .before .before .before .before .before .before .before .before .before .before .before .before .before .before .before .before .before .before .loop .inv) _ _ _ _ _ (c .before .before .before .before .before .before .before .before .before .work-one .ensures) (fits-true _ _ _ _ (c .before .before .before .before .before .before .before .before .before .before .before .before .before .before .before .if1 .taken) (c .before .before .before .before .before .before .before .before .before .before .before .before .before .before .before .before .next-fits .ensures)) (not-true _ (c .if2 .taken)))
 
 add-worked : tie.Need-add-worked Inv-loop μ-loop
 add-worked c =
@@ -99,7 +99,7 @@ loop-less c =
 
 loop-again : tie.Need-loop-again Inv-loop μ-loop
 loop-again c =
-    goes-on _ _ _ _ _ _ _ _ _ _ _ (c .before .before .before .before .before .before .before .before .before .before .before .before .before .before .before .before .before .before .loop .inv) _ _ _ _ (c .before .before .before .before .before .before .before .before .before .work-one .ensures) (fits-true _ _ _ _ (c .before .before .before .before .before .before .before .before .before .before .before .before .before .before .before .if1 .taken) (c .before .before .before .before .before .before .before .before .before .before .before .before .before .before .before .before .next-fits .ensures)) _ (not-false _ (c .if2 .left)) (c .before .before .before .before .before .before .before .before .before .work-one .kept .1 .0) (c .before .before .before .before .before .before .before .before .before .work-one .kept .1 .1 .0) (c .before .before .before .before .before .before .before .before .before .work-one .kept .1 .1 .1 .0)
+    goes-on _ _ _ _ _ _ _ _ _ _ _ (c .before .before .before .before .before .before .before .before .before .before .before .before .before .before .before .before .before .before .loop .inv) _ _ _ _ _ (c .before .before .before .before .before .before .before .before .before .work-one .ensures) (fits-true _ _ _ _ (c .before .before .before .before .before .before .before .before .before .before .before .before .before .before .before .if1 .taken) (c .before .before .before .before .before .before .before .before .before .before .before .before .before .before .before .before .next-fits .ensures)) (not-false _ (c .if2 .left)) (c .before .before .before .before .before .before .before .before .before .work-one .kept .1 .0) (c .before .before .before .before .before .before .before .before .before .work-one .kept .1 .1 .0)
 
 same-length-5 : tie.Need-same-length-5 Inv-loop μ-loop
 same-length-5 c =
@@ -111,7 +111,7 @@ same-length-6 c =
 
 same-length-7 : tie.Need-same-length-7 Inv-loop μ-loop
 same-length-7 c =
-    c .before .before .before .loop .inv .scratch-length
+    same-scratch _ _ _ _ _ _ _ _ _ _ _ (c .before .before .before .loop .inv)
 
 same-length-8 : tie.Need-same-length-8 Inv-loop μ-loop
 same-length-8 c =
@@ -119,7 +119,7 @@ same-length-8 c =
 
 returns-2 : tie.Need-returns-2 Inv-loop μ-loop
 returns-2 c =
-    (c .before .before .before .loop .inv .so-far, (ends-there _ _ _ _ _ _ _ _ _ _ _ (c .before .before .before .loop .inv) _ (c .if1 .left) (c .before .next-fits .ensures), c .before .before .before .loop .inv .scratch-length))
+    (c .before .before .before .loop .inv .so-far, ends-there _ _ _ _ _ _ _ _ _ _ _ (c .before .before .before .loop .inv) _ (c .if1 .left) (c .before .next-fits .ensures))
 
 pub work-spec : {M : Type 1} → statement M
 work-spec =

@@ -5,7 +5,9 @@ use Rattle.esol.specs.declared.Move.{Move}
 use Rattle.calls.specs.Lists.{moveCall, trialCall, improveCall, moveAnswered, trialAnswered, improveAnswered, Step}
 use Rattle.lists.specs.Encoding.{tag, moveOf, kindsOf, cellsLent, Says, answerNumbers}
 use Rattle.lists.specs.Working.{OneAfter}
+use Rattle.lists.specs.Scratch.{lentTo, answerNumber}
 use Rattle.lists.proofs.Extending.{scratch-lent}
+use Rattle.lists.proofs.Scratch.{none-lent, front-lent}
 use borrow.Author.Needs.{needs}
 use Rattle.lists.proofs.work_one.Statement.{statement}
 use Rattle.lists.proofs.work_one.Tie as tie
@@ -53,7 +55,7 @@ same-length-3 c = search needs
 returns : tie.Need-returns
 unfolding OneAfter Says tag Step answerNumbers
 returns c =
-    record { said = moveCall (c .before .before .before .before .before .before .before .before .before .before .before .before .before .before .before .move-of .result); answered = moveAnswered (c .before .before .before .before .before .before .before .before .make-move .result); says = (c .before .before .before .before .before .before .before .before .before .before .before .if1 .taken, c .before .before .before .before .before .before .before .before .before .before .before .before .before .before .before .move-of .ensures); step = c .before .before .before .before .before .before .before .before .make-move .ensures; answer-is = c .before .before .tell-moved .ensures }
+    record { said = moveCall (c .before .before .before .before .before .before .before .before .before .before .before .before .before .before .before .move-of .result); answered = moveAnswered (c .before .before .before .before .before .before .before .before .make-move .result); says = (c .before .before .before .before .before .before .before .before .before .before .before .if1 .taken, c .before .before .before .before .before .before .before .before .before .before .before .before .before .before .before .move-of .ensures); step = c .before .before .before .before .before .before .before .before .make-move .ensures; scratch-step = none-lent _ _ _ _; answer-is = c .before .before .tell-moved .ensures }
 
 sub-trial : tie.Need-sub-trial
 sub-trial c = search needs
@@ -83,9 +85,9 @@ same-length-7 : tie.Need-same-length-7
 same-length-7 c = search needs
 
 returns-2 : tie.Need-returns-2
-unfolding OneAfter Says tag Step answerNumbers cellsLent
+unfolding OneAfter Says tag Step answerNumbers cellsLent lentTo answerNumber
 returns-2 c =
-    record { said = trialCall (c .before .before .before .before .before .before .before .before .before .before .before .before .before .before .before .move-of .result) (take (c .before .before .before .before .before .before .before .before .before .before .before .before .lesser .result - 0) (c .before .before .before .before .before .before .before .before .before .before .before .before .before .before .before .before .before .before .before .before .before .before .before .args .scratch .now)); answered = trialAnswered (c .before .before .before .before .before .before .trial .result); says = (c .before .before .before .before .before .before .before .before .before .before .if2 .taken, c .before .before .before .before .before .before .before .before .before .before .before .before .before .before .before .move-of .ensures, scratch-lent (c .before .before .before .before .before .before .before .before .before .before .before .before .before .before .before .before .before .before .before .before .before .before .before .args .scratch .now) _ (c .before .before .before .before .before .before .before .before .before .before .before .before .before .wide .result) (c .before .before .before .before .before .before .before .before .before .before .before .before .lesser .result) (c .before .before .before .before .before .before .before .before .before .before .before .before .before .wide .ensures) (c .before .before .before .before .before .before .before .before .before .before .before .before .lesser .ensures)); step = (c .before .before .before .before .before .before .trial .ensures .0, refl, refl); answer-is = c .before .before .tell-moved2 .ensures }
+    record { said = trialCall (c .before .before .before .before .before .before .before .before .before .before .before .before .before .before .before .move-of .result) (take (c .before .before .before .before .before .before .before .before .before .before .before .before .lesser .result - 0) (c .before .before .before .before .before .before .before .before .before .before .before .before .before .before .before .before .before .before .before .before .before .before .before .args .scratch .now)); answered = trialAnswered (c .before .before .before .before .before .before .trial .result); says = (c .before .before .before .before .before .before .before .before .before .before .if2 .taken, c .before .before .before .before .before .before .before .before .before .before .before .before .before .before .before .move-of .ensures, scratch-lent (c .before .before .before .before .before .before .before .before .before .before .before .before .before .before .before .before .before .before .before .before .before .before .before .args .scratch .now) _ (c .before .before .before .before .before .before .before .before .before .before .before .before .before .wide .result) (c .before .before .before .before .before .before .before .before .before .before .before .before .lesser .result) (c .before .before .before .before .before .before .before .before .before .before .before .before .before .wide .ensures) (c .before .before .before .before .before .before .before .before .before .before .before .before .lesser .ensures)); step = (c .before .before .before .before .before .before .trial .ensures .0, refl, refl); scratch-step = front-lent _ _ _ (c .before .before .before .before .before .before .before .before .before .before .before .before .lesser .result - 0) _ _ refl (c .before .before .before .before .before .before .trial .ensures .1); answer-is = c .before .before .tell-moved2 .ensures }
 
 sub-improve : tie.Need-sub-improve
 sub-improve c = search needs
@@ -115,14 +117,14 @@ same-length-11 : tie.Need-same-length-11
 same-length-11 c = search needs
 
 returns-3 : tie.Need-returns-3
-unfolding OneAfter Says tag Step answerNumbers cellsLent kindsOf moveOf
+unfolding OneAfter Says tag Step answerNumbers cellsLent lentTo answerNumber kindsOf moveOf
 returns-3 c =
-    record { said = improveCall (c .before .before .before .before .before .before .before .before .before .before .before .before .before .before .before .before .before .before .before .before .move-of .result .kind) (take (c .before .before .before .before .before .before .before .before .before .before .before .before .before .before .before .before .before .lesser .result - 0) (c .before .before .before .before .before .before .before .before .before .before .before .before .before .before .before .before .before .before .before .before .before .before .before .before .before .before .before .before .args .scratch .now)); answered = improveAnswered (c .before .before .before .before .before .before .before .before .before .before .improve .result); says = (c .before .before .before .before .before .before .before .before .before .before .before .before .before .before .if3 .taken, ap (λ (m : Move). m .kind) (c .before .before .before .before .before .before .before .before .before .before .before .before .before .before .before .before .before .before .before .before .move-of .ensures), scratch-lent (c .before .before .before .before .before .before .before .before .before .before .before .before .before .before .before .before .before .before .before .before .before .before .before .before .before .before .before .before .args .scratch .now) _ (c .before .before .before .before .before .before .before .before .before .before .before .before .before .before .before .before .before .before .wide .result) (c .before .before .before .before .before .before .before .before .before .before .before .before .before .before .before .before .before .lesser .result) (c .before .before .before .before .before .before .before .before .before .before .before .before .before .before .before .before .before .before .wide .ensures) (c .before .before .before .before .before .before .before .before .before .before .before .before .before .before .before .before .before .lesser .ensures)); step = c .before .before .before .before .before .before .before .before .before .before .improve .ensures .0; answer-is = c .before .before .tell-improved .ensures }
+    record { said = improveCall (c .before .before .before .before .before .before .before .before .before .before .before .before .before .before .before .before .before .before .before .before .move-of .result .kind) (take (c .before .before .before .before .before .before .before .before .before .before .before .before .before .before .before .before .before .lesser .result - 0) (c .before .before .before .before .before .before .before .before .before .before .before .before .before .before .before .before .before .before .before .before .before .before .before .before .before .before .before .before .args .scratch .now)); answered = improveAnswered (c .before .before .before .before .before .before .before .before .before .before .improve .result); says = (c .before .before .before .before .before .before .before .before .before .before .before .before .before .before .if3 .taken, ap (λ (m : Move). m .kind) (c .before .before .before .before .before .before .before .before .before .before .before .before .before .before .before .before .before .before .before .before .move-of .ensures), scratch-lent (c .before .before .before .before .before .before .before .before .before .before .before .before .before .before .before .before .before .before .before .before .before .before .before .before .before .before .before .before .args .scratch .now) _ (c .before .before .before .before .before .before .before .before .before .before .before .before .before .before .before .before .before .before .wide .result) (c .before .before .before .before .before .before .before .before .before .before .before .before .before .before .before .before .before .lesser .result) (c .before .before .before .before .before .before .before .before .before .before .before .before .before .before .before .before .before .before .wide .ensures) (c .before .before .before .before .before .before .before .before .before .before .before .before .before .before .before .before .before .lesser .ensures)); step = c .before .before .before .before .before .before .before .before .before .before .improve .ensures .0; scratch-step = front-lent _ _ _ (c .before .before .before .before .before .before .before .before .before .before .before .before .before .before .before .before .before .lesser .result - 0) _ _ refl (c .before .before .before .before .before .before .before .before .before .before .improve .ensures .1); answer-is = c .before .before .tell-improved .ensures }
 
 returns-4 : tie.Need-returns-4
 unfolding OneAfter tag
 returns-4 c =
-    record { unknown = record { no-move = c .before .before .if1 .left; no-trial = c .before .if2 .left; no-improve = c .if3 .left }; masks-kept = refl; cells-kept = refl; answer-kept = refl }
+    record { unknown = record { no-move = c .before .before .if1 .left; no-trial = c .before .if2 .left; no-improve = c .if3 .left }; masks-kept = refl; cells-kept = refl; scratch-kept = refl; answer-kept = refl }
 
 pub work-one-spec : {M : Type 1} → statement M
 work-one-spec =
