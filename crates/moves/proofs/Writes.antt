@@ -30,7 +30,7 @@ use Rattle.steps.proofs.Visits.{visit-next, port-visit, port-untouched}
 use Rattle.steps.proofs.Ports.{Reached, reached-first, reached-next, reached-all}
 use Rattle.steps.proofs.Outcomes.{trees-more, port-more}
 use Rattle.trial.specs.Walking.{Ready, CellGives, TreesReady, TreesGive, PortsReady, PortsSo}
-use Rattle.trial.proofs.Walking.{no-children, here, fits, touched-is, ports-here, trees-here, end-here, next-ready, port-ready, ports-begin, sums, skip-to}
+use Rattle.trial.proofs.Walking.{no-children, here, fits, touched-is, ports-here, trees-here, end-here, rest-few, none-left, next-ready, port-ready, ports-begin, sums, skip-to}
 use Rattle.moves.specs.Writing.{CellWrites, TreesWrite, PortsWrite}
 
 -- What is written at and below one cell.
@@ -271,6 +271,20 @@ module _ (u sets : ℕ) (c : Changed) (bytes firsts ends uses masks : List ℕ) 
             × TreesWrite u sets c bytes firsts ends uses masks cells i until d place digits word new
         later-moved add acc sum r x new cell joined rest = (trees-follow add acc sum r x cell joined (rest .0), trees-write-on new (rest .1))
 
+    -- a cell's outcome has gone into the sum or minimum so far, and its touched cells into the table
+    pub record Wrote (i d place digits word : ℕ) (add : Bool) (acc sum : Sum) (mid : List ℕ) : Type 0 where
+      pub found : After
+      pub gives : CellGives u sets c bytes firsts ends uses masks cells i d place digits word found
+      pub joined : Joined add acc found sum
+      pub writes : CellWrites u sets c bytes firsts ends uses masks cells i d place digits word mid
+      pub fit : CellsFit mid
+      pub long : length mid ≡ length cells
+
+    pub wrote-as : (i d place digits word : ℕ) (add : Bool) (acc sum sum′ : Sum) (mid mid′ : List ℕ) → mid′ ≡ mid → sum′ ≡ sum
+        → Wrote i d place digits word add acc sum mid → Wrote i d place digits word add acc sum′ mid′
+    wrote-as i d place digits word add acc sum sum′ mid mid′ m e w =
+        subst (λ (x : Sum). Wrote i d place digits word add acc x mid′) (sym e) (subst (λ (x : List ℕ). Wrote i d place digits word add acc sum x) (sym m) w)
+
     -- the ports of a quantifier: those below x have been written when x is read
     module _ (i until d row digits word used : ℕ) where
       abbrev PortsTo : ℕ → List ℕ → Type 0
@@ -375,3 +389,44 @@ module _ (u sets : ℕ) (c : Changed) (bytes firsts ends uses masks : List ℕ) 
 
       pub all-carried : (every add : Bool) (acc : Sum) (x : ℕ) (r : Sum) (new : List ℕ) → Carried every add acc x r new → u ≤ x → So add u acc r × PortsTo u new
       all-carried every add acc x r new at h = reached-all u c every (λ m. So add m acc r × PortsTo m new) x (at .reached) h
+
+  -- The walk over a forest's trees stands before node j, and the table is `mid`: what the trees from there on come to and write
+  -- there, all of them come to and write in the table at the outset.
+  pub record Ahead (cells : List ℕ) (i until d place digits word : ℕ) (add : Bool) (acc : Sum) (j : ℕ) (sum : Sum) (mid : List ℕ) : Type 0 where
+    pub late : i ≤ j
+    pub ready : TreesReady u sets c bytes firsts ends uses masks mid j until d place digits word sum
+    pub long : length mid ≡ length cells
+    pub so : (r : Sum) (new : List ℕ)
+        → TreesGive u sets c bytes firsts ends uses masks mid j until d place digits word add sum r
+        × TreesWrite u sets c bytes firsts ends uses masks mid j until d place digits word new
+        → TreesGive u sets c bytes firsts ends uses masks cells i until d place digits word add acc r
+        × TreesWrite u sets c bytes firsts ends uses masks cells i until d place digits word new
+
+  module _ (cells : List ℕ) (i until d place digits word : ℕ) (add : Bool) (acc : Sum) where
+    pub ahead-first : TreesReady u sets c bytes firsts ends uses masks cells i until d place digits word acc
+        → Ahead cells i until d place digits word add acc i acc cells
+    ahead-first r = record { late = omega arith; ready = r; long = refl; so = λ x new h. h }
+
+    pub ahead-next : (j next : ℕ) (sum sum′ : Sum) (mid mid′ : List ℕ) → Ahead cells i until d place digits word add acc j sum mid → j < until
+        → next ≡ getD ends j 0 → Wrote mid j d place digits word add sum sum′ mid′
+        → (j < next) × Ahead cells i until d place digits word add acc next sum′ mid′
+    ahead-next j next sum sum′ mid mid′ o l nx w =
+        let n = later-ready mid j until d place digits word next nx sum sum′ mid′ (o .ready) (rest-few (sum′ .changed) _ (w .joined .changed-is)) l (w .fit) (w .long) in (
+          n .0,
+          record {
+            late = omega (arith, o .late, n .0);
+            ready = n .1;
+            long = w .long ∙ o .long;
+            so = λ r new h.
+                o .so r new (later-moved mid j until d place digits word next nx mid′ (w .fit) (w .long) (w .writes) l add sum sum′ r (w .found) new (w .gives) (w .joined) h);
+          },
+        )
+
+    pub ahead-last : (j : ℕ) (sum : Sum) (mid : List ℕ) → Ahead cells i until d place digits word add acc j sum mid → until ≤ j
+        → TreesGive u sets c bytes firsts ends uses masks cells i until d place digits word add acc sum
+        × TreesWrite u sets c bytes firsts ends uses masks cells i until d place digits word mid
+    ahead-last j sum mid o h =
+        o .so sum mid (
+          none-left u sets c bytes firsts ends uses masks mid j until d place digits word add sum (o .ready) h,
+          none-written mid j until d place digits word h,
+        )

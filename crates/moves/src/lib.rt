@@ -11,6 +11,7 @@ use steps::cell_at;
 use steps::close;
 use steps::end_at;
 use steps::join;
+use steps::kept;
 use steps::kind_at;
 use steps::literal_at;
 use steps::uses_at;
@@ -58,11 +59,7 @@ fn cell_written(
     let old = cell_at(firsts, i, place, &cells[..]);
     let used = uses_at(uses, i);
     if !meet(used, word) {
-        return After {
-            old: old,
-            value: old,
-            changed: 0,
-        };
+        return kept(firsts, i, place, &cells[..]);
     }
     let kind = kind_at(table, i);
     if 5 <= kind {
@@ -149,45 +146,33 @@ fn trees_written(
     requires { ⌜ TreesReady ports sets c (now table) (now firsts) (now ends) (now uses) (now masks) (now cells) i until depth place digits word acc ⌝ }
     ensures { λ r. ⌜ TreesGive ports sets c (now (table .entry)) (now (firsts .entry)) (now (ends .entry)) (now (uses .entry)) (now (masks .entry)) (now (cells .entry)) i until depth place digits word add acc r × TreesWrite ports sets c (now (table .entry)) (now (firsts .entry)) (now (ends .entry)) (now (uses .entry)) (now (masks .entry)) (now (cells .entry)) i until depth place digits word (now (cells .exit)) ⌝ }
 {
-    if until <= i {
-        return acc;
+    let mut sum = acc;
+    let mut j = i;
+    while j < until {
+        if meet(uses_at(uses, j), word) {
+            let r = cell_written(
+                table,
+                firsts,
+                ends,
+                uses,
+                masks,
+                cells,
+                ports,
+                sets,
+                c,
+                j,
+                depth,
+                place,
+                digits,
+                word,
+            );
+            sum = join(add, sum, r);
+        } else {
+            sum = join(add, sum, kept(firsts, j, place, &cells[..]));
+        }
+        j = end_at(ends, j);
     }
-    let r = cell_written(
-        table,
-        firsts,
-        ends,
-        uses,
-        masks,
-        cells,
-        ports,
-        sets,
-        c,
-        i,
-        depth,
-        place,
-        digits,
-        word,
-    );
-    let next = end_at(ends, i);
-    trees_written(
-        table,
-        firsts,
-        ends,
-        uses,
-        masks,
-        cells,
-        ports,
-        sets,
-        c,
-        next,
-        until,
-        depth,
-        place,
-        digits,
-        word,
-        add,
-        join(add, acc, r),
-    )
+    sum
 }
 
 // The trees below a quantifier, written at each port that can be touched, or visited at all of them.

@@ -62,6 +62,19 @@ pub fn cell_at(firsts: &[u32], i: usize, place: usize, cells: &[u32]) -> u32
     cells[at]
 }
 
+// A cell that is not touched keeps its number, and so do all below it.
+pub fn kept(firsts: &[u32], i: usize, place: usize, cells: &[u32]) -> After
+    requires { ⌜ (i < length (now firsts)) × (getD (now firsts) i 0 + place < length (now cells)) ⌝ }
+    ensures { λ r. ⌜ (r .old ≡ getD (now (cells .entry)) (getD (now (firsts .entry)) i 0 + place) 0) × (r .value ≡ r .old) × (r .changed ≡ 0) ⌝ }
+{
+    let old = cell_at(firsts, i, place, cells);
+    After {
+        old: old,
+        value: old,
+        changed: 0,
+    }
+}
+
 pub fn end_at(ends: &[u16], i: usize) -> usize
     requires { ⌜ i < length (now ends) ⌝ }
     ensures { λ r. ⌜ r ≡ getD (now (ends .entry)) i 0 ⌝ }

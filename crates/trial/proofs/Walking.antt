@@ -346,6 +346,40 @@ module _ (u sets : ℕ) (c : Changed) (bytes firsts ends uses masks cells : List
           (rest ch s (siblingFirst u n f b d) e ready
           (rw (nx ∙ at) (visit-next u sets ch bytes firsts ends uses cells i n f s b d e place digits word v)) (omega (arith, nx, at, q)))
 
+    -- a cell's outcome has gone into the sum or minimum so far
+    pub record Stepped (add : Bool) (acc mid : Sum) : Type 0 where
+      pub found : After
+      pub gives : CellGives u sets c bytes firsts ends uses masks cells i d place digits word found
+      pub joined : Joined add acc found mid
+
+  -- The walk over a forest's trees stands before node j: what the trees from there on come to, all of them come to.
+  pub record Onward (i until d place digits word : ℕ) (add : Bool) (acc : Sum) (j : ℕ) (sum : Sum) : Type 0 where
+    pub late : i ≤ j
+    pub ready : TreesReady u sets c bytes firsts ends uses masks cells j until d place digits word sum
+    pub so : (r : Sum) → TreesGive u sets c bytes firsts ends uses masks cells j until d place digits word add sum r
+        → TreesGive u sets c bytes firsts ends uses masks cells i until d place digits word add acc r
+
+  module _ (i until d place digits word : ℕ) (add : Bool) (acc : Sum) where
+    pub onward-first : TreesReady u sets c bytes firsts ends uses masks cells i until d place digits word acc
+        → Onward i until d place digits word add acc i acc
+    onward-first r = record { late = omega arith; ready = r; so = λ x h. h }
+
+    pub onward-next : (j next : ℕ) (sum mid : Sum) → Onward i until d place digits word add acc j sum → j < until → next ≡ getD ends j 0
+        → Stepped j until d place digits word add sum mid → (j < next) × Onward i until d place digits word add acc next mid
+    onward-next j next sum mid o l nx st =
+        let n = next-ready j until d place digits word next nx sum mid (o .ready) (rest-few (mid .changed) _ (st .joined .changed-is)) l in (
+          n .0,
+          record {
+            late = omega (arith, o .late, n .0);
+            ready = n .1;
+            so = λ r h. o .so r (trees-give j until d place digits word next nx add sum mid r (st .found) l (st .gives) (st .joined) h);
+          },
+        )
+
+    pub onward-last : (j : ℕ) (sum : Sum) → Onward i until d place digits word add acc j sum → until ≤ j
+        → TreesGive u sets c bytes firsts ends uses masks cells i until d place digits word add acc sum
+    onward-last j sum o h = o .so sum (none-left j until d place digits word add sum (o .ready) h)
+
   -- the ports of a quantifier
   module _ (i until d row digits word used : ℕ) where
     abbrev Ports : Sum → Type 0

@@ -1,10 +1,11 @@
 use mathlib.Core.Path.{refl, sym, _∙_}
+use mathlib.Core.Logic.{⊎-elim}
 use Prim.Native.Nat.{ℕ, _+_, _-_, _*_, _<_}
 use native.Mathlib.Omega.{arith}
 use borrow.Author.Needs.{needs}
 use borrow.Author.Tests.{not-true, not-false}
-use Rattle.trial.proofs.Walking.{node-low, firsts-room, ends-room, uses-room, cell-room, record-room, place-low, times-fits, literal-ready, ports-ready, trees-ready, gives-untouched, gives-literal, gives-ports, gives-trees, none-left, some-left, rest-few, row-fits, digits-ready}
-use Rattle.moves.proofs.Writes.{room-kept, all-fit, untouched-moved, literal-moved, ports-moved, trees-moved, none-written, later-ready, later-moved, Carried, carried-ready, carried-start, carried-step, all-carried}
+use Rattle.trial.proofs.Walking.{node-low, firsts-room, ends-room, uses-room, cell-room, record-room, place-low, times-fits, literal-ready, ports-ready, trees-ready, gives-untouched, gives-literal, gives-ports, gives-trees, some-left, row-fits, digits-ready}
+use Rattle.moves.proofs.Writes.{room-kept, all-fit, untouched-moved, literal-moved, ports-moved, trees-moved, wrote-as, Ahead, ahead-first, ahead-next, ahead-last, Carried, carried-ready, carried-start, carried-step, all-carried}
 use borrow.Fn.Kinds.{In}
 use borrow.Fn.PlainCycle.{Measures, is, falls, and}
 use Rattle.moves.proofs.cell_written.Reads as cell-written
@@ -25,6 +26,7 @@ use Rattle.steps.proofs.cell_at.Reads as cell-at-reads
 use Rattle.steps.proofs.close.Reads as close-reads
 use Rattle.steps.proofs.end_at.Reads as end-at-reads
 use Rattle.steps.proofs.join.Reads as join-reads
+use Rattle.steps.proofs.kept.Reads as kept-reads
 use Rattle.steps.proofs.kind_at.Reads as kind-at-reads
 use Rattle.steps.proofs.literal_at.Reads as literal-at-reads
 use Rattle.steps.proofs.uses_at.Reads as uses-at-reads
@@ -83,7 +85,7 @@ trees-written-below t =
 
 -- what the callees of `cell-written` ask and give
 abbrev cell-written-claims : ℕ → cell-written-lts.Claims
-cell-written-claims t = (cell-at-reads.Asked, cell-at-reads.Learnt, uses-at-reads.Asked, uses-at-reads.Learnt, meet-reads.Asked, meet-reads.Learnt, kind-at-reads.Asked, kind-at-reads.Learnt, literal-at-reads.Asked, literal-at-reads.Learnt, put-cell-reads.Asked, put-cell-reads.Learnt, close-reads.Asked, close-reads.Learnt, adds-of-reads.Asked, adds-of-reads.Learnt, begin-reads.Asked, begin-reads.Learnt, end-at-reads.Asked, end-at-reads.Learnt, is-quantifier-reads.Asked, is-quantifier-reads.Learnt, ports-written-below t, ports-written.Post, trees-written-below t, trees-written.Post)
+cell-written-claims t = (cell-at-reads.Asked, cell-at-reads.Learnt, uses-at-reads.Asked, uses-at-reads.Learnt, meet-reads.Asked, meet-reads.Learnt, kept-reads.Asked, kept-reads.Learnt, kind-at-reads.Asked, kind-at-reads.Learnt, literal-at-reads.Asked, literal-at-reads.Learnt, put-cell-reads.Asked, put-cell-reads.Learnt, close-reads.Asked, close-reads.Learnt, adds-of-reads.Asked, adds-of-reads.Learnt, begin-reads.Asked, begin-reads.Learnt, end-at-reads.Asked, end-at-reads.Learnt, is-quantifier-reads.Asked, is-quantifier-reads.Learnt, ports-written-below t, ports-written.Post, trees-written-below t, trees-written.Post)
 
 -- what the callees of `ports-written` ask and give
 abbrev ports-written-claims : ℕ → ports-written-lts.Claims
@@ -91,7 +93,7 @@ ports-written-claims t = (every-port-reads.Asked, every-port-reads.Learnt, first
 
 -- what the callees of `trees-written` ask and give
 abbrev trees-written-claims : ℕ → trees-written-lts.Claims
-trees-written-claims t = (cell-written-below t, cell-written.Post, end-at-reads.Asked, end-at-reads.Learnt, join-reads.Asked, join-reads.Learnt, trees-written-below t, trees-written.Post)
+trees-written-claims t = (uses-at-reads.Asked, uses-at-reads.Learnt, meet-reads.Asked, meet-reads.Learnt, cell-written-below t, cell-written.Post, join-reads.Asked, join-reads.Learnt, kept-reads.Asked, kept-reads.Learnt, end-at-reads.Asked, end-at-reads.Learnt)
 
 cell-written-cell-at-requires : (t : ℕ) → cell-written-lts.Need-cell-at-requires (cell-written-claims t) (cell-written-at t) cell-written.Post
 cell-written-cell-at-requires t c κs =
@@ -105,13 +107,17 @@ cell-written-meet-requires : (t : ℕ) → cell-written-lts.Need-meet-requires (
 cell-written-meet-requires t c κs =
     search needs
 
+cell-written-kept-requires : (t : ℕ) → cell-written-lts.Need-kept-requires (cell-written-claims t) (cell-written-at t) cell-written.Post
+cell-written-kept-requires t c κs =
+    (firsts-room _ _ _ _ _ _ _ _ _ _ _ _ _ _ (c .before .before .before .before .before .before .before .before .before .before .before .before .pre .1), cell-room _ _ _ _ _ _ _ _ _ _ _ _ _ _ (c .before .before .before .before .before .before .before .before .before .before .before .before .pre .1))
+
 cell-written-same-length : (t : ℕ) → cell-written-lts.Need-same-length (cell-written-claims t) (cell-written-at t) cell-written.Post
 cell-written-same-length t c =
     search needs
 
 cell-written-returns : (t : ℕ) → cell-written-lts.Need-returns (cell-written-claims t) (cell-written-at t) cell-written.Post
 cell-written-returns t c =
-    untouched-moved _ _ _ _ _ _ _ _ _ _ _ _ _ _ _ (c .before .before .uses-at .ensures) (sym (c .before .meet .ensures) ∙ not-true _ (c .if1 .taken)) _ (gives-untouched _ _ _ _ _ _ _ _ _ _ _ _ _ _ _ _ (c .before .before .before .cell-at .ensures) (c .before .before .uses-at .ensures) _ (sym (c .before .meet .ensures) ∙ not-true _ (c .if1 .taken)) refl refl refl)
+    untouched-moved _ _ _ _ _ _ _ _ _ _ _ _ _ _ _ (c .before .before .before .before .uses-at .ensures) (sym (c .before .before .before .meet .ensures) ∙ not-true _ (c .before .before .if1 .taken)) _ (gives-untouched _ _ _ _ _ _ _ _ _ _ _ _ _ _ _ _ (c .kept .ensures .0) (c .before .before .before .before .uses-at .ensures) _ (sym (c .before .before .before .meet .ensures) ∙ not-true _ (c .before .before .if1 .taken)) refl (c .kept .ensures .1) (c .kept .ensures .2))
 
 cell-written-kind-at-requires : (t : ℕ) → cell-written-lts.Need-kind-at-requires (cell-written-claims t) (cell-written-at t) cell-written.Post
 cell-written-kind-at-requires t c κs =
@@ -265,33 +271,62 @@ ports-written-returns : (t : ℕ) → ports-written-lts.Need-returns (ports-writ
 ports-written-returns t c =
     all-carried _ _ _ _ _ _ _ _ _ _ _ _ _ _ _ _ _ _ _ _ _ _ (c .before .loop .inv) (c .loop-test .left)
 
-trees-written-returns : (t : ℕ) → trees-written-lts.Need-returns (trees-written-claims t) (trees-written-at t) trees-written.Post
-trees-written-returns t c =
-    (none-left _ _ _ _ _ _ _ _ _ _ _ _ _ _ _ _ _ (c .before .before .before .before .before .before .before .pre .1) (c .if1 .taken), none-written _ _ _ _ _ _ _ _ _ _ _ _ _ _ _ (c .if1 .taken))
+abbrev trees-written-Inv-loop : trees-written-lts.InvT-loop
+trees-written-Inv-loop table firsts ends uses masks cells₀ ports sets c i until depth place digits word add sum₀ j₀ cells sum j =
+    Ahead ports sets c table firsts ends uses masks cells₀ j₀ until depth place digits word add sum₀ j sum cells
 
-trees-written-cell-written-requires : (t : ℕ) → trees-written-lts.Need-cell-written-requires (trees-written-claims t) (trees-written-at t) trees-written.Post
+abbrev trees-written-μ-loop : trees-written-lts.MeasureT-loop
+trees-written-μ-loop table firsts ends uses masks cells₀ ports sets c i until depth place digits word add sum₀ j₀ cells sum j =
+    until - j
+
+trees-written-loop-holds : (t : ℕ) → trees-written-lts.Need-loop-holds (trees-written-claims t) (trees-written-at t) trees-written.Post trees-written-Inv-loop trees-written-μ-loop
+trees-written-loop-holds t c =
+    ahead-first _ _ _ _ _ _ _ _ _ _ _ _ _ _ _ _ _ (c .before .before .before .before .before .before .pre .1)
+
+trees-written-uses-at-requires : (t : ℕ) → trees-written-lts.Need-uses-at-requires (trees-written-claims t) (trees-written-at t) trees-written.Post trees-written-Inv-loop trees-written-μ-loop
+trees-written-uses-at-requires t c κs =
+    uses-room _ _ _ _ _ _ _ _ _ _ _ _ _ _ (some-left _ _ _ _ _ _ _ _ _ _ _ _ _ _ _ _ (c .before .loop .inv .ready) (c .loop-test .taken))
+
+trees-written-meet-requires : (t : ℕ) → trees-written-lts.Need-meet-requires (trees-written-claims t) (trees-written-at t) trees-written.Post trees-written-Inv-loop trees-written-μ-loop
+trees-written-meet-requires t c κs =
+    search needs
+
+trees-written-cell-written-requires : (t : ℕ) → trees-written-lts.Need-cell-written-requires (trees-written-claims t) (trees-written-at t) trees-written.Post trees-written-Inv-loop trees-written-μ-loop
 trees-written-cell-written-requires t c κs =
-    (omega (arith, c .before .before .before .before .before .before .before .before .pre .0), some-left _ _ _ _ _ _ _ _ _ _ _ _ _ _ _ _ (c .before .before .before .before .before .before .before .before .pre .1) (c .before .if1 .left))
+    (omega (arith, c .before .before .before .before .before .before .before .before .before .before .before .before .pre .0, c .before .before .before .before .before .loop .inv .late), some-left _ _ _ _ _ _ _ _ _ _ _ _ _ _ _ _ (c .before .before .before .before .before .loop .inv .ready) (c .before .before .before .before .loop-test .taken))
 
-trees-written-end-at-requires : (t : ℕ) → trees-written-lts.Need-end-at-requires (trees-written-claims t) (trees-written-at t) trees-written.Post
-trees-written-end-at-requires t c κs =
-    ends-room _ _ _ _ _ _ _ _ _ _ _ _ _ _ (some-left _ _ _ _ _ _ _ _ _ _ _ _ _ _ _ _ (c .before .before .before .before .before .before .before .before .before .before .before .pre .1) (c .before .before .before .before .if1 .left))
-
-trees-written-join-requires : (t : ℕ) → trees-written-lts.Need-join-requires (trees-written-claims t) (trees-written-at t) trees-written.Post
+trees-written-join-requires : (t : ℕ) → trees-written-lts.Need-join-requires (trees-written-claims t) (trees-written-at t) trees-written.Post trees-written-Inv-loop trees-written-μ-loop
 trees-written-join-requires t c κs =
     search needs
 
-trees-written-trees-written-requires : (t : ℕ) → trees-written-lts.Need-trees-written-requires (trees-written-claims t) (trees-written-at t) trees-written.Post
-trees-written-trees-written-requires t c κs =
-    (let n = later-ready _ _ _ _ _ _ _ _ _ _ _ _ _ _ _ _ (c .before .before .end-at .ensures) _ (c .join .result) (c .before .before .before .before .before .cell-written .last .1 .1 .1 .1 .1 .0) (c .before .before .before .before .before .before .before .before .before .before .before .before .before .before .pre .1) (rest-few _ _ (c .join .ensures .changed-is)) (c .before .before .before .before .before .before .before .if1 .left) (all-fit _ (λ j. c .before .before .before .slice-known2 .given j .fits)) (c .before .before .before .before .before .cell-written .kept .1 .1 .1 .1 .1 .0) in omega (arith, c .before .before .before .before .before .before .before .before .before .before .before .before .before .before .pre .0, n .0, node-low _ _ _ _ _ _ _ _ _ _ _ _ _ _ (some-left _ _ _ _ _ _ _ _ _ _ _ _ _ _ _ _ (c .before .before .before .before .before .before .before .before .before .before .before .before .before .before .pre .1) (c .before .before .before .before .before .before .before .if1 .left))), later-ready _ _ _ _ _ _ _ _ _ _ _ _ _ _ _ _ (c .before .before .end-at .ensures) _ (c .join .result) (c .before .before .before .before .before .cell-written .last .1 .1 .1 .1 .1 .0) (c .before .before .before .before .before .before .before .before .before .before .before .before .before .before .pre .1) (rest-few _ _ (c .join .ensures .changed-is)) (c .before .before .before .before .before .before .before .if1 .left) (all-fit _ (λ j. c .before .before .before .slice-known2 .given j .fits)) (c .before .before .before .before .before .cell-written .kept .1 .1 .1 .1 .1 .0) .1)
+trees-written-kept-requires : (t : ℕ) → trees-written-lts.Need-kept-requires (trees-written-claims t) (trees-written-at t) trees-written.Post trees-written-Inv-loop trees-written-μ-loop
+trees-written-kept-requires t c κs =
+    let r = some-left _ _ _ _ _ _ _ _ _ _ _ _ _ _ _ _ (c .before .before .before .before .before .loop .inv .ready) (c .before .before .before .before .loop-test .taken) in
+    (firsts-room _ _ _ _ _ _ _ _ _ _ _ _ _ _ r, cell-room _ _ _ _ _ _ _ _ _ _ _ _ _ _ r)
 
-trees-written-same-length : (t : ℕ) → trees-written-lts.Need-same-length (trees-written-claims t) (trees-written-at t) trees-written.Post
+trees-written-join-requires-2 : (t : ℕ) → trees-written-lts.Need-join-requires-2 (trees-written-claims t) (trees-written-at t) trees-written.Post trees-written-Inv-loop trees-written-μ-loop
+trees-written-join-requires-2 t c κs =
+    search needs
+
+trees-written-end-at-requires : (t : ℕ) → trees-written-lts.Need-end-at-requires (trees-written-claims t) (trees-written-at t) trees-written.Post trees-written-Inv-loop trees-written-μ-loop
+trees-written-end-at-requires t c κs =
+    ends-room _ _ _ _ _ _ _ _ _ _ _ _ _ _ (some-left _ _ _ _ _ _ _ _ _ _ _ _ _ _ _ _ (c .before .before .before .before .loop .inv .ready) (c .before .before .before .loop-test .taken))
+
+trees-written-loop-less : (t : ℕ) → trees-written-lts.Need-loop-less (trees-written-claims t) (trees-written-at t) trees-written.Post trees-written-Inv-loop trees-written-μ-loop
+trees-written-loop-less t c =
+    let n = ahead-next _ _ _ _ _ _ _ _ _ _ _ _ _ _ _ _ _ _ _ _ _ _ _ (c .before .before .before .before .before .loop .inv) (c .before .before .before .before .loop-test .taken) (c .end-at .ensures) (⊎-elim (λ w. wrote-as _ _ _ _ _ _ _ _ _ _ _ _ _ _ _ _ _ _ _ _ (w .6) (w .7) record { found = w .2 .result; gives = w .2 .ensures .0; joined = w .5 .ensures; writes = w .2 .ensures .1; fit = all-fit _ (λ j. w .4 .given j .fits); long = w .2 .kept .1 .1 .1 .1 .1 .0 }) (λ w. wrote-as _ _ _ _ _ _ _ _ _ _ _ _ _ _ _ _ _ _ _ _ (w .4) (w .5) (let g = untouched-moved _ _ _ _ _ _ _ _ _ _ _ _ _ _ _ (c .before .before .before .uses-at .ensures) (sym (c .before .before .meet .ensures) ∙ w .0 .left) _ (gives-untouched _ _ _ _ _ _ _ _ _ _ _ _ _ _ _ _ (w .2 .ensures .0) (c .before .before .before .uses-at .ensures) _ (sym (c .before .before .meet .ensures) ∙ w .0 .left) refl (w .2 .ensures .1) (w .2 .ensures .2)) in record { found = w .2 .result; gives = g .0; joined = w .3 .ensures; writes = g .1; fit = c .before .before .before .before .before .loop .inv .ready .ready .cells-fit; long = refl })) (c .before .if1 .came)) in omega (arith, n .0, c .before .before .before .before .loop-test .taken)
+
+trees-written-loop-again : (t : ℕ) → trees-written-lts.Need-loop-again (trees-written-claims t) (trees-written-at t) trees-written.Post trees-written-Inv-loop trees-written-μ-loop
+trees-written-loop-again t c =
+    ahead-next _ _ _ _ _ _ _ _ _ _ _ _ _ _ _ _ _ _ _ _ _ _ _ (c .before .before .before .before .before .loop .inv) (c .before .before .before .before .loop-test .taken) (c .end-at .ensures) (⊎-elim (λ w. wrote-as _ _ _ _ _ _ _ _ _ _ _ _ _ _ _ _ _ _ _ _ (w .6) (w .7) record { found = w .2 .result; gives = w .2 .ensures .0; joined = w .5 .ensures; writes = w .2 .ensures .1; fit = all-fit _ (λ j. w .4 .given j .fits); long = w .2 .kept .1 .1 .1 .1 .1 .0 }) (λ w. wrote-as _ _ _ _ _ _ _ _ _ _ _ _ _ _ _ _ _ _ _ _ (w .4) (w .5) (let g = untouched-moved _ _ _ _ _ _ _ _ _ _ _ _ _ _ _ (c .before .before .before .uses-at .ensures) (sym (c .before .before .meet .ensures) ∙ w .0 .left) _ (gives-untouched _ _ _ _ _ _ _ _ _ _ _ _ _ _ _ _ (w .2 .ensures .0) (c .before .before .before .uses-at .ensures) _ (sym (c .before .before .meet .ensures) ∙ w .0 .left) refl (w .2 .ensures .1) (w .2 .ensures .2)) in record { found = w .2 .result; gives = g .0; joined = w .3 .ensures; writes = g .1; fit = c .before .before .before .before .before .loop .inv .ready .ready .cells-fit; long = refl })) (c .before .if1 .came)) .1
+
+trees-written-same-length : (t : ℕ) → trees-written-lts.Need-same-length (trees-written-claims t) (trees-written-at t) trees-written.Post trees-written-Inv-loop trees-written-μ-loop
 trees-written-same-length t c =
-    c .before .before .trees-written .kept .1 .1 .1 .1 .1 .0 ∙ c .before .before .before .before .before .before .before .before .cell-written .kept .1 .1 .1 .1 .1 .0
+    c .before .loop .inv .long
 
-trees-written-returns-2 : (t : ℕ) → trees-written-lts.Need-returns-2 (trees-written-claims t) (trees-written-at t) trees-written.Post
-trees-written-returns-2 t c =
-    later-moved _ _ _ _ _ _ _ _ _ _ _ _ _ _ _ _ (c .before .before .before .before .before .end-at .ensures) _ (all-fit _ (λ j. c .before .before .before .before .before .before .slice-known2 .given j .fits)) (c .before .before .before .before .before .before .before .before .cell-written .kept .1 .1 .1 .1 .1 .0) (c .before .before .before .before .before .before .before .before .cell-written .ensures .1) (c .before .before .before .before .before .before .before .before .before .before .if1 .left) _ _ _ _ _ _ (c .before .before .before .before .before .before .before .before .cell-written .ensures .0) (c .before .before .before .join .ensures) (c .before .before .trees-written .ensures)
+trees-written-returns : (t : ℕ) → trees-written-lts.Need-returns (trees-written-claims t) (trees-written-at t) trees-written.Post trees-written-Inv-loop trees-written-μ-loop
+trees-written-returns t c =
+    ahead-last _ _ _ _ _ _ _ _ _ _ _ _ _ _ _ _ _ _ _ _ (c .before .loop .inv) (c .loop-test .left)
 
 pub +cell-written+ports-written+trees-written-spec : {M : Type 1} → statement M
 +cell-written+ports-written+trees-written-spec =
@@ -301,6 +336,7 @@ pub +cell-written+ports-written+trees-written-spec : {M : Type 1} → statement 
     (cell-written-cell-at-requires t)
     (cell-written-uses-at-requires t)
     (cell-written-meet-requires t)
+    (cell-written-kept-requires t)
     (cell-written-same-length t)
     (cell-written-returns t)
     (cell-written-kind-at-requires t)
@@ -347,10 +383,17 @@ pub +cell-written+ports-written+trees-written-spec : {M : Type 1} → statement 
     λ t. trees-written-lts.spec (trees-written-claims t)
     (trees-written-at t)
     trees-written.Post
-    (trees-written-returns t)
+    trees-written-Inv-loop
+    trees-written-μ-loop
+    (trees-written-loop-holds t)
+    (trees-written-uses-at-requires t)
+    (trees-written-meet-requires t)
     (trees-written-cell-written-requires t)
-    (trees-written-end-at-requires t)
     (trees-written-join-requires t)
-    (trees-written-trees-written-requires t)
+    (trees-written-kept-requires t)
+    (trees-written-join-requires-2 t)
+    (trees-written-end-at-requires t)
+    (trees-written-loop-less t)
+    (trees-written-loop-again t)
     (trees-written-same-length t)
-    (trees-written-returns-2 t)
+    (trees-written-returns t)

@@ -1,10 +1,11 @@
-use mathlib.Core.Path.{refl, sym, ap, _∙_}
+use mathlib.Core.Path.{refl, sym, ap, _∙_, subst}
+use mathlib.Core.Logic.{⊎-elim}
 use Prim.Native.Nat.{ℕ, _+_, _-_, _*_, _<_}
 use native.Mathlib.Omega.{arith}
 use denote.Ref.{now}
 use borrow.Author.Needs.{needs}
 use borrow.Author.Tests.{not-true, not-false}
-use Rattle.trial.proofs.Walking.{node-low, firsts-room, ends-room, uses-room, cell-room, record-room, place-low, times-fits, literal-ready, ports-ready, trees-ready, gives-untouched, gives-literal, gives-ports, gives-trees, none-left, some-left, rest-few, next-ready, trees-give, port-ready, ports-next, Passed, ports-start, ports-step, row-fits, digits-ready, finished}
+use Rattle.trial.proofs.Walking.{node-low, firsts-room, ends-room, uses-room, cell-room, record-room, place-low, times-fits, literal-ready, ports-ready, trees-ready, gives-untouched, gives-literal, gives-ports, gives-trees, some-left, Onward, onward-first, onward-next, onward-last, port-ready, ports-next, Passed, ports-start, ports-step, row-fits, digits-ready, finished}
 use Prim.Native.Nat.{ℕ, _<_}
 use borrow.Fn.Kinds.{In}
 use borrow.Fn.PlainCycle.{Measures, is, falls, and}
@@ -17,6 +18,8 @@ use Rattle.trial.proofs.+cell_after+ports_after+trees_after.Lts-ports_a
 use Rattle.trial.proofs.trees_after.Reads as trees-after
 use Rattle.trial.proofs.trees_after.Kinds as trees-after-kinds
 use Rattle.trial.proofs.+cell_after+ports_after+trees_after.Lts-trees_after as trees-after-lts
+use Rattle.steps.specs.declared.Sum.{Sum}
+use Rattle.steps.specs.Visit.{Joined}
 use Rattle.hits.proofs.meet.Reads as meet-reads
 use Rattle.hits.proofs.port_word.Reads as port-word-reads
 use Rattle.steps.proofs.adds_of.Reads as adds-of-reads
@@ -25,6 +28,7 @@ use Rattle.steps.proofs.cell_at.Reads as cell-at-reads
 use Rattle.steps.proofs.close.Reads as close-reads
 use Rattle.steps.proofs.end_at.Reads as end-at-reads
 use Rattle.steps.proofs.join.Reads as join-reads
+use Rattle.steps.proofs.kept.Reads as kept-reads
 use Rattle.steps.proofs.kind_at.Reads as kind-at-reads
 use Rattle.steps.proofs.literal_at.Reads as literal-at-reads
 use Rattle.steps.proofs.uses_at.Reads as uses-at-reads
@@ -71,7 +75,7 @@ trees-after-below t =
 
 -- what the callees of `cell-after` ask and give
 abbrev cell-after-claims : ℕ → cell-after-lts.Claims
-cell-after-claims t = (cell-at-reads.Asked, cell-at-reads.Learnt, uses-at-reads.Asked, uses-at-reads.Learnt, meet-reads.Asked, meet-reads.Learnt, kind-at-reads.Asked, kind-at-reads.Learnt, literal-at-reads.Asked, literal-at-reads.Learnt, close-reads.Asked, close-reads.Learnt, adds-of-reads.Asked, adds-of-reads.Learnt, begin-reads.Asked, begin-reads.Learnt, end-at-reads.Asked, end-at-reads.Learnt, is-quantifier-reads.Asked, is-quantifier-reads.Learnt, ports-after-below t, ports-after.Post, trees-after-below t, trees-after.Post)
+cell-after-claims t = (cell-at-reads.Asked, cell-at-reads.Learnt, uses-at-reads.Asked, uses-at-reads.Learnt, meet-reads.Asked, meet-reads.Learnt, kept-reads.Asked, kept-reads.Learnt, kind-at-reads.Asked, kind-at-reads.Learnt, literal-at-reads.Asked, literal-at-reads.Learnt, close-reads.Asked, close-reads.Learnt, adds-of-reads.Asked, adds-of-reads.Learnt, begin-reads.Asked, begin-reads.Learnt, end-at-reads.Asked, end-at-reads.Learnt, is-quantifier-reads.Asked, is-quantifier-reads.Learnt, ports-after-below t, ports-after.Post, trees-after-below t, trees-after.Post)
 
 -- what the callees of `ports-after` ask and give
 abbrev ports-after-claims : ℕ → ports-after-lts.Claims
@@ -79,7 +83,7 @@ ports-after-claims t = (every-port-reads.Asked, every-port-reads.Learnt, first-p
 
 -- what the callees of `trees-after` ask and give
 abbrev trees-after-claims : ℕ → trees-after-lts.Claims
-trees-after-claims t = (cell-after-below t, cell-after.Post, end-at-reads.Asked, end-at-reads.Learnt, join-reads.Asked, join-reads.Learnt, trees-after-below t, trees-after.Post)
+trees-after-claims t = (uses-at-reads.Asked, uses-at-reads.Learnt, meet-reads.Asked, meet-reads.Learnt, cell-after-below t, cell-after.Post, join-reads.Asked, join-reads.Learnt, kept-reads.Asked, kept-reads.Learnt, end-at-reads.Asked, end-at-reads.Learnt)
 
 cell-after-cell-at-requires : (t : ℕ) → cell-after-lts.Need-cell-at-requires (cell-after-claims t) (cell-after-at t) cell-after.Post
 cell-after-cell-at-requires t c κs =
@@ -93,9 +97,13 @@ cell-after-meet-requires : (t : ℕ) → cell-after-lts.Need-meet-requires (cell
 cell-after-meet-requires t c κs =
     search needs
 
+cell-after-kept-requires : (t : ℕ) → cell-after-lts.Need-kept-requires (cell-after-claims t) (cell-after-at t) cell-after.Post
+cell-after-kept-requires t c κs =
+    (firsts-room _ _ _ _ _ _ _ _ _ _ _ _ _ _ (c .before .before .before .before .before .before .before .before .before .before .pre .1), cell-room _ _ _ _ _ _ _ _ _ _ _ _ _ _ (c .before .before .before .before .before .before .before .before .before .before .pre .1))
+
 cell-after-returns : (t : ℕ) → cell-after-lts.Need-returns (cell-after-claims t) (cell-after-at t) cell-after.Post
 cell-after-returns t c =
-    gives-untouched _ _ _ _ _ _ _ _ _ _ _ _ _ _ _ _ (c .before .before .before .cell-at .ensures) (c .before .before .uses-at .ensures) _ (sym (c .before .meet .ensures) ∙ not-true _ (c .if1 .taken)) refl refl refl
+    gives-untouched _ _ _ _ _ _ _ _ _ _ _ _ _ _ _ _ (c .kept .ensures .0) (c .before .before .before .uses-at .ensures) _ (sym (c .before .before .meet .ensures) ∙ not-true _ (c .before .if1 .taken)) refl (c .kept .ensures .1) (c .kept .ensures .2)
 
 cell-after-kind-at-requires : (t : ℕ) → cell-after-lts.Need-kind-at-requires (cell-after-claims t) (cell-after-at t) cell-after.Post
 cell-after-kind-at-requires t c κs =
@@ -221,29 +229,58 @@ ports-after-returns : (t : ℕ) → ports-after-lts.Need-returns (ports-after-cl
 ports-after-returns t c =
     finished _ _ _ _ _ _ _ _ _ _ _ _ _ _ _ _ _ _ _ _ _ (c .before .loop .inv) (c .loop-test .left)
 
-trees-after-returns : (t : ℕ) → trees-after-lts.Need-returns (trees-after-claims t) (trees-after-at t) trees-after.Post
-trees-after-returns t c =
-    none-left _ _ _ _ _ _ _ _ _ _ _ _ _ _ _ _ _ (c .before .before .before .before .before .before .before .pre .1) (c .if1 .taken)
+abbrev trees-after-Inv-loop : trees-after-lts.InvT-loop
+trees-after-Inv-loop table firsts ends uses masks cells ports sets c i until depth place digits word add sum₀ j₀ sum j =
+    Onward ports sets c table firsts ends uses masks cells j₀ until depth place digits word add sum₀ j sum
 
-trees-after-cell-after-requires : (t : ℕ) → trees-after-lts.Need-cell-after-requires (trees-after-claims t) (trees-after-at t) trees-after.Post
+abbrev trees-after-μ-loop : trees-after-lts.MeasureT-loop
+trees-after-μ-loop table firsts ends uses masks cells ports sets c i until depth place digits word add sum₀ j₀ sum j =
+    until - j
+
+trees-after-loop-holds : (t : ℕ) → trees-after-lts.Need-loop-holds (trees-after-claims t) (trees-after-at t) trees-after.Post trees-after-Inv-loop trees-after-μ-loop
+trees-after-loop-holds t c =
+    onward-first _ _ _ _ _ _ _ _ _ _ _ _ _ _ _ _ _ (c .before .before .before .before .before .before .pre .1)
+
+trees-after-uses-at-requires : (t : ℕ) → trees-after-lts.Need-uses-at-requires (trees-after-claims t) (trees-after-at t) trees-after.Post trees-after-Inv-loop trees-after-μ-loop
+trees-after-uses-at-requires t c κs =
+    uses-room _ _ _ _ _ _ _ _ _ _ _ _ _ _ (some-left _ _ _ _ _ _ _ _ _ _ _ _ _ _ _ _ (c .before .loop .inv .ready) (c .loop-test .taken))
+
+trees-after-meet-requires : (t : ℕ) → trees-after-lts.Need-meet-requires (trees-after-claims t) (trees-after-at t) trees-after.Post trees-after-Inv-loop trees-after-μ-loop
+trees-after-meet-requires t c κs =
+    search needs
+
+trees-after-cell-after-requires : (t : ℕ) → trees-after-lts.Need-cell-after-requires (trees-after-claims t) (trees-after-at t) trees-after.Post trees-after-Inv-loop trees-after-μ-loop
 trees-after-cell-after-requires t c κs =
-    (omega (arith, c .before .before .before .before .before .before .before .pre .0), some-left _ _ _ _ _ _ _ _ _ _ _ _ _ _ _ _ (c .before .before .before .before .before .before .before .pre .1) (c .if1 .left))
+    (omega (arith, c .before .before .before .before .before .before .before .before .before .before .before .pre .0, c .before .before .before .before .loop .inv .late), some-left _ _ _ _ _ _ _ _ _ _ _ _ _ _ _ _ (c .before .before .before .before .loop .inv .ready) (c .before .before .before .loop-test .taken))
 
-trees-after-end-at-requires : (t : ℕ) → trees-after-lts.Need-end-at-requires (trees-after-claims t) (trees-after-at t) trees-after.Post
-trees-after-end-at-requires t c κs =
-    ends-room _ _ _ _ _ _ _ _ _ _ _ _ _ _ (some-left _ _ _ _ _ _ _ _ _ _ _ _ _ _ _ _ (c .before .before .before .before .before .before .before .before .pre .1) (c .before .if1 .left))
-
-trees-after-join-requires : (t : ℕ) → trees-after-lts.Need-join-requires (trees-after-claims t) (trees-after-at t) trees-after.Post
+trees-after-join-requires : (t : ℕ) → trees-after-lts.Need-join-requires (trees-after-claims t) (trees-after-at t) trees-after.Post trees-after-Inv-loop trees-after-μ-loop
 trees-after-join-requires t c κs =
     search needs
 
-trees-after-trees-after-requires : (t : ℕ) → trees-after-lts.Need-trees-after-requires (trees-after-claims t) (trees-after-at t) trees-after.Post
-trees-after-trees-after-requires t c κs =
-    (let n = next-ready _ _ _ _ _ _ _ _ _ _ _ _ _ _ _ _ (c .before .end-at .ensures) _ (c .join .result) (c .before .before .before .before .before .before .before .before .before .before .pre .1) (rest-few _ _ (c .join .ensures .changed-is)) (c .before .before .before .if1 .left) in omega (arith, c .before .before .before .before .before .before .before .before .before .before .pre .0, n .0, node-low _ _ _ _ _ _ _ _ _ _ _ _ _ _ (some-left _ _ _ _ _ _ _ _ _ _ _ _ _ _ _ _ (c .before .before .before .before .before .before .before .before .before .before .pre .1) (c .before .before .before .if1 .left))), next-ready _ _ _ _ _ _ _ _ _ _ _ _ _ _ _ _ (c .before .end-at .ensures) _ (c .join .result) (c .before .before .before .before .before .before .before .before .before .before .pre .1) (rest-few _ _ (c .join .ensures .changed-is)) (c .before .before .before .if1 .left) .1)
+trees-after-kept-requires : (t : ℕ) → trees-after-lts.Need-kept-requires (trees-after-claims t) (trees-after-at t) trees-after.Post trees-after-Inv-loop trees-after-μ-loop
+trees-after-kept-requires t c κs =
+    let r = some-left _ _ _ _ _ _ _ _ _ _ _ _ _ _ _ _ (c .before .before .before .before .loop .inv .ready) (c .before .before .before .loop-test .taken) in
+    (firsts-room _ _ _ _ _ _ _ _ _ _ _ _ _ _ r, cell-room _ _ _ _ _ _ _ _ _ _ _ _ _ _ r)
 
-trees-after-returns-2 : (t : ℕ) → trees-after-lts.Need-returns-2 (trees-after-claims t) (trees-after-at t) trees-after.Post
-trees-after-returns-2 t c =
-    trees-give _ _ _ _ _ _ _ _ _ _ _ _ _ _ _ _ (c .before .before .end-at .ensures) _ _ _ _ _ (c .before .before .before .before .if1 .left) (c .before .before .before .cell-after .ensures) (c .before .join .ensures) (c .trees-after .ensures)
+trees-after-join-requires-2 : (t : ℕ) → trees-after-lts.Need-join-requires-2 (trees-after-claims t) (trees-after-at t) trees-after.Post trees-after-Inv-loop trees-after-μ-loop
+trees-after-join-requires-2 t c κs =
+    search needs
+
+trees-after-end-at-requires : (t : ℕ) → trees-after-lts.Need-end-at-requires (trees-after-claims t) (trees-after-at t) trees-after.Post trees-after-Inv-loop trees-after-μ-loop
+trees-after-end-at-requires t c κs =
+    ends-room _ _ _ _ _ _ _ _ _ _ _ _ _ _ (some-left _ _ _ _ _ _ _ _ _ _ _ _ _ _ _ _ (c .before .before .before .before .loop .inv .ready) (c .before .before .before .loop-test .taken))
+
+trees-after-loop-less : (t : ℕ) → trees-after-lts.Need-loop-less (trees-after-claims t) (trees-after-at t) trees-after.Post trees-after-Inv-loop trees-after-μ-loop
+trees-after-loop-less t c =
+    let n = onward-next _ _ _ _ _ _ _ _ _ _ _ _ _ _ _ _ _ _ _ _ _ (c .before .before .before .before .before .loop .inv) (c .before .before .before .before .loop-test .taken) (c .end-at .ensures) (⊎-elim (λ w. record { found = w .1 .result; gives = w .1 .ensures; joined = subst (λ (x : Sum). Joined _ _ (w .1 .result) x) (sym (w .3)) (w .2 .ensures) }) (λ w. record { found = w .1 .result; gives = gives-untouched _ _ _ _ _ _ _ _ _ _ _ _ _ _ _ _ (w .1 .ensures .0) (c .before .before .before .uses-at .ensures) _ (sym (c .before .before .meet .ensures) ∙ w .0 .left) refl (w .1 .ensures .1) (w .1 .ensures .2); joined = subst (λ (x : Sum). Joined _ _ (w .1 .result) x) (sym (w .3)) (w .2 .ensures) }) (c .before .if1 .came)) in omega (arith, n .0, c .before .before .before .before .loop-test .taken)
+
+trees-after-loop-again : (t : ℕ) → trees-after-lts.Need-loop-again (trees-after-claims t) (trees-after-at t) trees-after.Post trees-after-Inv-loop trees-after-μ-loop
+trees-after-loop-again t c =
+    onward-next _ _ _ _ _ _ _ _ _ _ _ _ _ _ _ _ _ _ _ _ _ (c .before .before .before .before .before .loop .inv) (c .before .before .before .before .loop-test .taken) (c .end-at .ensures) (⊎-elim (λ w. record { found = w .1 .result; gives = w .1 .ensures; joined = subst (λ (x : Sum). Joined _ _ (w .1 .result) x) (sym (w .3)) (w .2 .ensures) }) (λ w. record { found = w .1 .result; gives = gives-untouched _ _ _ _ _ _ _ _ _ _ _ _ _ _ _ _ (w .1 .ensures .0) (c .before .before .before .uses-at .ensures) _ (sym (c .before .before .meet .ensures) ∙ w .0 .left) refl (w .1 .ensures .1) (w .1 .ensures .2); joined = subst (λ (x : Sum). Joined _ _ (w .1 .result) x) (sym (w .3)) (w .2 .ensures) }) (c .before .if1 .came)) .1
+
+trees-after-returns : (t : ℕ) → trees-after-lts.Need-returns (trees-after-claims t) (trees-after-at t) trees-after.Post trees-after-Inv-loop trees-after-μ-loop
+trees-after-returns t c =
+    onward-last _ _ _ _ _ _ _ _ _ _ _ _ _ _ _ _ _ _ _ (c .before .loop .inv) (c .loop-test .left)
 
 pub +cell-after+ports-after+trees-after-spec : {M : Type 1} → statement M
 +cell-after+ports-after+trees-after-spec =
@@ -253,6 +290,7 @@ pub +cell-after+ports-after+trees-after-spec : {M : Type 1} → statement M
     (cell-after-cell-at-requires t)
     (cell-after-uses-at-requires t)
     (cell-after-meet-requires t)
+    (cell-after-kept-requires t)
     (cell-after-returns t)
     (cell-after-kind-at-requires t)
     (cell-after-literal-at-requires t)
@@ -291,9 +329,16 @@ pub +cell-after+ports-after+trees-after-spec : {M : Type 1} → statement M
     λ t. trees-after-lts.spec (trees-after-claims t)
     (trees-after-at t)
     trees-after.Post
-    (trees-after-returns t)
+    trees-after-Inv-loop
+    trees-after-μ-loop
+    (trees-after-loop-holds t)
+    (trees-after-uses-at-requires t)
+    (trees-after-meet-requires t)
     (trees-after-cell-after-requires t)
-    (trees-after-end-at-requires t)
     (trees-after-join-requires t)
-    (trees-after-trees-after-requires t)
-    (trees-after-returns-2 t)
+    (trees-after-kept-requires t)
+    (trees-after-join-requires-2 t)
+    (trees-after-end-at-requires t)
+    (trees-after-loop-less t)
+    (trees-after-loop-again t)
+    (trees-after-returns t)
