@@ -24,12 +24,12 @@ use Rattle.walk.proofs.Frame.{renewals-agree, changes-agree, later-agrees, port
 use Rattle.steps.specs.declared.After.{After}
 use Rattle.steps.specs.declared.Sum.{Sum}
 use Rattle.steps.specs.Nodes.{recordAt}
-use Rattle.steps.specs.Visit.{Visit, CellsFit, Joined, TreesAfter, PortsVisit}
+use Rattle.steps.specs.Visit.{Visit, CellsFit, Joined, CellAfter, PortsVisit}
 use Rattle.steps.proofs.KindOf.{quantifier-of, joint-of, literal-of}
 use Rattle.steps.proofs.Visits.{visit-next, port-visit, port-untouched}
 use Rattle.steps.proofs.Ports.{Reached, reached-first, reached-next, reached-all}
-use Rattle.steps.proofs.Outcomes.{trees-more, port-more}
-use Rattle.trial.specs.Walking.{Ready, CellGives, TreesReady, TreesGive, PortsReady, PortsSo}
+use Rattle.steps.proofs.Outcomes.{trees-more, one-tree, port-more}
+use Rattle.trial.specs.Walking.{Ready, CellReady, CellGives, TreesReady, TreesGive, PortsReady, PortsSo}
 use Rattle.trial.proofs.Walking.{no-children, here, fits, touched-is, ports-here, trees-here, end-here, rest-few, none-left, next-ready, port-ready, ports-begin, sums, skip-to}
 use Rattle.moves.specs.Writing.{CellWrites, TreesWrite, PortsWrite}
 
@@ -60,6 +60,13 @@ module _ (u : ℕ) (k : Configuration) (ch : Change) (t : OldCells) where
       go : (f : Forest) → treeCount f ≡ 0 → xs ≡ written u k ch t f b d e xs
       go none z = refl
       go (tree n c s) z = absurd (omega arith)
+
+  -- one tree alone
+  one-written : (n : Node) (f s : Forest) (b d : ℕ) (e : Tuple) (xs : List ℕ) → treeCount (tree n f s) ≡ 1
+      → written u k ch t (tree n f none) b d e xs ≡ written u k ch t (tree n f s) b d e xs
+  unfolding treeCount
+  one-written n f none b d e xs o = refl
+  one-written n f (tree m g s) b d e xs o = absurd (omega arith)
 
 some-here : (i until : ℕ) → i < until → until ≡ i + nodeCount none → ⊥
 unfolding nodeCount
@@ -115,6 +122,19 @@ module _ (u sets : ℕ) (c : Changed) (bytes firsts ends uses masks : List ℕ) 
       nodes = v .nodes;
     }
 
+    pub cell-kept : (i d place digits word : ℕ) → CellReady u sets c bytes firsts ends uses masks old i d place digits word
+        → CellReady u sets c bytes firsts ends uses masks new i d place digits word
+    cell-kept i d place digits word r = record {
+      change = r .change;
+      node = r .node;
+      children = r .children;
+      siblings = r .siblings;
+      first = r .first;
+      tuple = r .tuple;
+      ready = ready-kept (r .change) (r .ready);
+      visit = visit-kept (r .change) i (tree (r .node) (r .children) (r .siblings)) (r .first) d (r .tuple) place digits word (r .visit);
+    }
+
     pub trees-kept : (i until d place digits word : ℕ) (acc : Sum)
         → TreesReady u sets c bytes firsts ends uses masks old i until d place digits word acc
         → TreesReady u sets c bytes firsts ends uses masks new i until d place digits word acc
@@ -128,6 +148,21 @@ module _ (u sets : ℕ) (c : Changed) (bytes firsts ends uses masks : List ℕ) 
       ends-at = r .ends-at;
       few = r .few;
     }
+
+  -- a cell's outcome has gone into the sum or minimum so far, and its touched cells into the table
+  pub record Wrote (cells : List ℕ) (i d place digits word : ℕ) (add : Bool) (acc sum : Sum) (mid : List ℕ) : Type 0 where
+    pub found : After
+    pub gives : CellGives u sets c bytes firsts ends uses masks cells i d place digits word found
+    pub joined : Joined add acc found sum
+    pub writes : CellWrites u sets c bytes firsts ends uses masks cells i d place digits word mid
+    pub fit : CellsFit mid
+    pub long : length mid ≡ length cells
+
+  pub wrote-as : (cells : List ℕ) (i d place digits word : ℕ) (add : Bool) (acc sum sum′ : Sum) (mid mid′ : List ℕ) → mid′ ≡ mid → sum′ ≡ sum
+      → Wrote cells i d place digits word add acc sum mid → Wrote cells i d place digits word add acc sum′ mid′
+  wrote-as cells i d place digits word add acc sum sum′ mid mid′ m e w =
+      subst (λ (x : Sum). Wrote cells i d place digits word add acc x mid′) (sym e)
+      (subst (λ (x : List ℕ). Wrote cells i d place digits word add acc sum x) (sym m) w)
 
   -- the later trees, after the first
   module _ (cells : List ℕ) where
@@ -188,17 +223,16 @@ module _ (u sets : ℕ) (c : Changed) (bytes firsts ends uses masks : List ℕ) 
 
           module _ (end : ℕ) (en : end ≡ getD ends i 0) where
             ports-writes : (leb 1 kind && leb kind 2) ≡ true
-                → PortsWrite u sets c bytes firsts ends uses masks cells (i + 1) end d (place * u) digits word used u mid → Writes new
+                → PortsWrite u sets c bytes firsts ends uses masks cells (i + 1) d (place * u) digits word used u mid → Writes new
             unfolding CellWrites PortsWrite
             ports-writes h so ch n f s b e ready v =
                 let q = quantifier-of n kind (kind-here ch n f s b e ready v) h in
-                let p = so ch f (b + u ^ d) e ready (ports-here u sets c bytes firsts ends uses masks cells i d place digits word ch n f s b e ready v used us q)
-                (end-here u sets c bytes firsts ends uses masks cells i d place digits word ch n f s b e ready v end en) in
+                let p = so ch f (b + u ^ d) e ready (ports-here u sets c bytes firsts ends uses masks cells i d place digits word ch n f s b e ready v used us q) in
                 stored ch n f s b e ready v (p ∙ sym (below-ports u n e (written u after ch (cellOf u cells) f (b + u ^ d) (childDepth n d)) cells (q .deeper)
                 ∙ ap (λ (x : ℕ). eachWritten u (λ z. written u after ch (cellOf u cells) f (b + u ^ d) x (z ∷ e)) cells) (q .deeper d)))
 
             pub ports-moved : (leb 1 kind && leb kind 2) ≡ true
-                → PortsWrite u sets c bytes firsts ends uses masks cells (i + 1) end d (place * u) digits word used u mid → Gives r × Writes new
+                → PortsWrite u sets c bytes firsts ends uses masks cells (i + 1) d (place * u) digits word used u mid → Gives r × Writes new
             ports-moved h so = (gives, ports-writes h so)
 
             trees-writes : kind < 5 → (leb 1 kind && leb kind 2) ≡ false
@@ -271,34 +305,20 @@ module _ (u sets : ℕ) (c : Changed) (bytes firsts ends uses masks : List ℕ) 
             × TreesWrite u sets c bytes firsts ends uses masks cells i until d place digits word new
         later-moved add acc sum r x new cell joined rest = (trees-follow add acc sum r x cell joined (rest .0), trees-write-on new (rest .1))
 
-    -- a cell's outcome has gone into the sum or minimum so far, and its touched cells into the table
-    pub record Wrote (i d place digits word : ℕ) (add : Bool) (acc sum : Sum) (mid : List ℕ) : Type 0 where
-      pub found : After
-      pub gives : CellGives u sets c bytes firsts ends uses masks cells i d place digits word found
-      pub joined : Joined add acc found sum
-      pub writes : CellWrites u sets c bytes firsts ends uses masks cells i d place digits word mid
-      pub fit : CellsFit mid
-      pub long : length mid ≡ length cells
-
-    pub wrote-as : (i d place digits word : ℕ) (add : Bool) (acc sum sum′ : Sum) (mid mid′ : List ℕ) → mid′ ≡ mid → sum′ ≡ sum
-        → Wrote i d place digits word add acc sum mid → Wrote i d place digits word add acc sum′ mid′
-    wrote-as i d place digits word add acc sum sum′ mid mid′ m e w =
-        subst (λ (x : Sum). Wrote i d place digits word add acc x mid′) (sym e) (subst (λ (x : List ℕ). Wrote i d place digits word add acc sum x) (sym m) w)
-
     -- the ports of a quantifier: those below x have been written when x is read
-    module _ (i until d row digits word used : ℕ) where
+    module _ (i d row digits word used : ℕ) where
       abbrev PortsTo : ℕ → List ℕ → Type 0
-      PortsTo m new = PortsWrite u sets c bytes firsts ends uses masks cells i until d row digits word used m new
+      PortsTo m new = PortsWrite u sets c bytes firsts ends uses masks cells i d row digits word used m new
 
       abbrev Ports : Sum → Type 0
-      Ports acc = PortsReady u sets c bytes firsts ends uses masks cells i until d row digits word used acc
+      Ports acc = PortsReady u sets c bytes firsts ends uses masks cells i d row digits word used acc
 
       abbrev So : Bool → ℕ → Sum → Sum → Type 0
-      So add m acc r = PortsSo u sets c bytes firsts ends uses masks cells i until d row digits word used add m acc r
+      So add m acc r = PortsSo u sets c bytes firsts ends uses masks cells i d row digits word used add m acc r
 
       no-port-written : PortsTo 0 cells
       unfolding PortsWrite eachWritten
-      no-port-written ch f b e ready v q = refl
+      no-port-written ch f b e ready v = refl
 
       module _ (x : ℕ) (low : x < u) (digits′ word′ : ℕ) (dg : digits′ ≡ digits + x * 256 ^ d) (wd : word′ ≡ portWord c word d x)
           (mid : List ℕ) (fit : CellsFit mid) (long : length mid ≡ length cells) (before : PortsTo x mid) where
@@ -313,30 +333,36 @@ module _ (u sets : ℕ) (c : Changed) (bytes firsts ends uses masks : List ℕ) 
           ready-port : Ready u sets c firsts ends uses masks mid ch
           ready-port = ready-kept cells mid fit long ch ready
 
-        ports-follow : (add : Bool) (acc sum r : Sum) → So add x acc sum
-            → TreesGive u sets c bytes firsts ends uses masks mid i until (d + 1) (row + x) digits′ word′ add sum r → So add (suc x) acc r
-        unfolding PortsSo TreesGive PortsWrite
-        ports-follow add acc sum r so one ch f b e ready v q =
-            let A = port-agrees u (ready .masks-settled .ports1) after ch f b d e x (v .tuple) low (cellOf u cells) cells mid (before ch f b e ready v q) in
-            let p : TreesAfter u after ch (cellOf u mid) add f b (suc d) (x ∷ e) sum r = rw (add-one d) at (one ch f b (x ∷ e) (ready-port ch f b e ready v) (visit-port ch f b e ready v) q) in
-            port-more u after ch (cellOf u cells) add f b d e x acc sum r (so ch f b e ready v q) record {
-              value-is = p .value-is ∙ ap (gathered add (sum .value)) (sym (renewals-agree u after ch cells mid f b (suc d) (x ∷ e) A));
-              changed-is = p .changed-is ∙ ap (λ (y : ℕ). (sum .changed + y) % modulus) (sym (changes-agree u after ch cells mid f b (suc d) (x ∷ e) A));
+        ports-follow : (add : Bool) (acc sum r : Sum) (found : After) → So add x acc sum
+            → CellGives u sets c bytes firsts ends uses masks mid i (d + 1) (row + x) digits′ word′ found → Joined add sum found r → So add (suc x) acc r
+        unfolding PortsSo CellGives PortsWrite treeCount
+        ports-follow add acc sum r found so gives joined ch none b e ready v = absurd (omega (arith, v .one))
+        ports-follow add acc sum r found so gives joined ch (tree n f s) b e ready v =
+            let A = port-agrees u (ready .masks-settled .ports1) after ch (tree n f s) b d e x (v .tuple) low (cellOf u cells) cells mid (before ch (tree n f s) b e ready v) in
+            let cell : CellAfter u after ch (cellOf u mid) n f b (suc d) (x ∷ e) found =
+            rw (add-one d) at (gives ch n f s b (x ∷ e) (ready-port ch (tree n f s) b e ready v) (visit-port ch (tree n f s) b e ready v)) in
+            let p = one-tree u after ch (cellOf u mid) add n f s b (suc d) (x ∷ e) sum r found (v .one) cell joined in
+            port-more u after ch (cellOf u cells) add (tree n f s) b d e x acc sum r (so ch (tree n f s) b e ready v) record {
+              value-is = p .value-is ∙ ap (gathered add (sum .value)) (sym (renewals-agree u after ch cells mid (tree n f s) b (suc d) (x ∷ e) A));
+              changed-is = p .changed-is ∙ ap (λ (y : ℕ). (sum .changed + y) % modulus) (sym (changes-agree u after ch cells mid (tree n f s) b (suc d) (x ∷ e) A));
             }
 
-        port-written : (new : List ℕ) → TreesWrite u sets c bytes firsts ends uses masks mid i until (d + 1) (row + x) digits′ word′ new → PortsTo (suc x) new
-        unfolding PortsWrite TreesWrite
-        port-written new one ch f b e ready v q =
-            let p : new ≡ written u after ch (cellOf u mid) f b (suc d) (x ∷ e) mid = rw (add-one d) at (one ch f b (x ∷ e) (ready-port ch f b e ready v) (visit-port ch f b e ready v) q) in
-            p ∙ sym (written-port u (ready .masks-settled .ports1) after ch f b d e x (v .tuple) low cells mid (before ch f b e ready v q))
+        port-written : (new : List ℕ) → CellWrites u sets c bytes firsts ends uses masks mid i (d + 1) (row + x) digits′ word′ new → PortsTo (suc x) new
+        unfolding PortsWrite CellWrites treeCount
+        port-written new one ch none b e ready v = absurd (omega (arith, v .one))
+        port-written new one ch (tree n f s) b e ready v =
+            let p : new ≡ written u after ch (cellOf u mid) (tree n f none) b (suc d) (x ∷ e) mid =
+            rw (add-one d) at (one ch n f s b (x ∷ e) (ready-port ch (tree n f s) b e ready v) (visit-port ch (tree n f s) b e ready v)) in
+            p ∙ one-written u after ch (cellOf u mid) n f s b (suc d) (x ∷ e) mid (v .one)
+            ∙ sym (written-port u (ready .masks-settled .ports1) after ch (tree n f s) b d e x (v .tuple) low cells mid (before ch (tree n f s) b e ready v))
 
       -- at the ports between two that are visited nothing is touched
       ports-passed : (new : List ℕ) → meets used (restWord word d) ≡ false → (m x : ℕ) → ((y : ℕ) → x ≤ y → y < x + m → (y ≢ c .p) × (y ≢ c .q)) → PortsTo x new → PortsTo (x + m) new
       unfolding PortsWrite eachWritten
-      ports-passed new h zero x apart so ch f b e ready v q =
-          so ch f b e ready v q ∙ ap (λ (y : ℕ). eachWritten y (λ z. written u after ch (cellOf u cells) f b (suc d) (z ∷ e)) cells) (sym (add-zero x))
-      ports-passed new h (suc m) x apart so ch f b e ready v q =
-          let before = ports-passed new h m x (λ y g l. apart y g (omega arith)) so ch f b e ready v q in
+      ports-passed new h zero x apart so ch f b e ready v =
+          so ch f b e ready v ∙ ap (λ (y : ℕ). eachWritten y (λ z. written u after ch (cellOf u cells) f b (suc d) (z ∷ e)) cells) (sym (add-zero x))
+      ports-passed new h (suc m) x apart so ch f b e ready v =
+          let before = ports-passed new h m x (λ y g l. apart y g (omega arith)) so ch f b e ready v in
           let a = apart (x + m) (omega arith) (omega arith) in
           before
           ∙ sym (written-untouched u after ch (cellOf u cells) f b (suc d) ((x + m) ∷ e) _
@@ -351,41 +377,45 @@ module _ (u sets : ℕ) (c : Changed) (bytes firsts ends uses masks : List ℕ) 
 
       pub carried-ready : (every add : Bool) (acc sum : Sum) (x digits′ word′ : ℕ) (mid : List ℕ) → Ports acc → Carried every add acc x sum mid → x < u
           → digits′ ≡ digits + x * 256 ^ d → word′ ≡ portWord c word d x
-          → TreesReady u sets c bytes firsts ends uses masks mid i until (d + 1) (row + x) digits′ word′ sum
+          → CellReady u sets c bytes firsts ends uses masks mid i (d + 1) (row + x) digits′ word′
       carried-ready every add acc sum x digits′ word′ mid ready at low dg wd =
-          trees-kept cells mid (at .fit) (at .long) i until (d + 1) (row + x) digits′ word′ sum
-          (port-ready u sets c bytes firsts ends uses masks cells i until d row digits word used add acc sum ready x digits′ word′ (at .reached .so .0) low dg wd)
+          cell-kept cells mid (at .fit) (at .long) i (d + 1) (row + x) digits′ word′
+          (port-ready u sets c bytes firsts ends uses masks cells i d row digits word used acc ready x digits′ word′ low dg wd)
+
+      -- the child's outcome at port x has gone into the sum or minimum so far, and its touched cells into the table
+      pub record PortWrote (add : Bool) (x word′ : ℕ) (sum r : Sum) (mid new : List ℕ) : Type 0 where
+        pub digits′ : ℕ
+        pub digits-are : digits′ ≡ digits + x * 256 ^ d
+        pub wrote : Wrote mid i (d + 1) (row + x) digits′ word′ add sum r new
 
       module _ (every add : Bool) (al : every ≡ (not add || meets used (restWord word d))) (acc : Sum) (ready : Ports acc) where
         pass-to : (r : Sum) (new : List ℕ) → every ≡ false → (x x′ : ℕ) → x ≤ x′ → ((y : ℕ) → x ≤ y → y < x′ → (y ≢ c .p) × (y ≢ c .q))
             → So add x acc r × PortsTo x new → So add x′ acc r × PortsTo x′ new
         pass-to r new h x x′ l apart both =
-            let s = sums u sets c bytes firsts ends uses masks cells i until d row digits word used every add al acc ready h in
+            let s = sums u sets c bytes firsts ends uses masks cells i d row digits word used every add al acc ready h in
             let w : x + (x′ - x) ≡ x′ = omega arith in (
-              skip-to u sets c bytes firsts ends uses masks cells i until d row digits word used every add al acc ready r h x x′ l apart (both .0),
+              skip-to u sets c bytes firsts ends uses masks cells i d row digits word used every add al acc ready r h x x′ l apart (both .0),
               subst (λ (m : ℕ). PortsTo m new) w (ports-passed new (s .1) (x′ - x) x (λ y g k. apart y g (omega arith)) (both .1)),
             )
 
         pub carried-start : (x : ℕ) → x ≡ cond every 0 (c .p) → Carried every add acc x acc cells
         carried-start x q = record {
           reached = reached-first u c (ready .ready .says .order) (ready .ready .says .below) every (λ m. So add m acc acc × PortsTo m cells) (pass-to acc cells) x q
-              (ports-begin u sets c bytes firsts ends uses masks cells i until d row digits word used add acc (ready .few), no-port-written);
+              (ports-begin u sets c bytes firsts ends uses masks cells i d row digits word used add acc (ready .few), no-port-written);
           fit = ready .ready .cells-fit;
           long = refl;
         }
 
-        pub carried-step : (x x′ : ℕ) (sum r : Sum) (mid new : List ℕ) → Carried every add acc x sum mid → x < u → (digits′ word′ : ℕ)
-            → digits′ ≡ digits + x * 256 ^ d → word′ ≡ portWord c word d x
-            → TreesGive u sets c bytes firsts ends uses masks mid i until (d + 1) (row + x) digits′ word′ add sum r
-            × TreesWrite u sets c bytes firsts ends uses masks mid i until (d + 1) (row + x) digits′ word′ new
-            → CellsFit new → length new ≡ length mid → x′ ≡ cond every (x + 1) (cond (ltb x (c .q)) (c .q) u)
+        pub carried-step : (x x′ word′ : ℕ) (sum r : Sum) (mid new : List ℕ) → Carried every add acc x sum mid → x < u → word′ ≡ portWord c word d x
+            → PortWrote add x word′ sum r mid new → x′ ≡ cond every (x + 1) (cond (ltb x (c .q)) (c .q) u)
             → (x < x′) × Carried every add acc x′ r new
-        carried-step x x′ sum r mid new at low digits′ word′ dg wd one fits′ long′ q =
+        carried-step x x′ word′ sum r mid new at low wd p q =
+            let w = p .wrote in
             let step = reached-next u c (ready .ready .says .order) (ready .ready .says .below) every (λ m. So add m acc r × PortsTo m new) (pass-to r new) x x′ (at .reached .late) low (
-              ports-follow x low digits′ word′ dg wd mid (at .fit) (at .long) (at .reached .so .1) add acc sum r (at .reached .so .0) (one .0),
-              port-written x low digits′ word′ dg wd mid (at .fit) (at .long) (at .reached .so .1) new (one .1),
+              ports-follow x low (p .digits′) word′ (p .digits-are) wd mid (at .fit) (at .long) (at .reached .so .1) add acc sum r (w .found) (at .reached .so .0) (w .gives) (w .joined),
+              port-written x low (p .digits′) word′ (p .digits-are) wd mid (at .fit) (at .long) (at .reached .so .1) new (w .writes),
             ) q in
-            (step .0, record { reached = step .1; fit = fits′; long = long′ ∙ at .long })
+            (step .0, record { reached = step .1; fit = w .fit; long = w .long ∙ at .long })
 
       pub all-carried : (every add : Bool) (acc : Sum) (x : ℕ) (r : Sum) (new : List ℕ) → Carried every add acc x r new → u ≤ x → So add u acc r × PortsTo u new
       all-carried every add acc x r new at h = reached-all u c every (λ m. So add m acc r × PortsTo m new) x (at .reached) h

@@ -29,11 +29,11 @@ TreesWrite u sets c bytes firsts ends uses masks old i until d place digits word
     → Visit u sets ch bytes firsts ends uses old i f b d e place digits word → until ≡ i + nodeCount f
     → new ≡ written u (configuration u (inMasks masks)) ch (cellOf u old) f b d e old
 
--- The same of the trees below a quantifier at depth d, at each port below m.
-unfoldable pub PortsWrite : ℕ → ℕ → Changed → List ℕ → List ℕ → List ℕ → List ℕ → List ℕ → List ℕ → ℕ → ℕ → ℕ → ℕ → ℕ → ℕ → ℕ → ℕ → List ℕ → Type 0
-PortsWrite u sets c bytes firsts ends uses masks old i until d row digits word used m new =
+-- The same of the tree below a quantifier at depth d, at each port below m.
+unfoldable pub PortsWrite : ℕ → ℕ → Changed → List ℕ → List ℕ → List ℕ → List ℕ → List ℕ → List ℕ → ℕ → ℕ → ℕ → ℕ → ℕ → ℕ → ℕ → List ℕ → Type 0
+PortsWrite u sets c bytes firsts ends uses masks old i d row digits word used m new =
     (ch : Change) (f : Forest) (b : ℕ) (e : Tuple) → Ready u sets c firsts ends uses masks old ch
-    → PortsVisit u sets ch bytes firsts ends uses old i f b d e row digits word used → until ≡ i + nodeCount f
+    → PortsVisit u sets ch bytes firsts ends uses old i f b d e row digits word used
     → new ≡ eachWritten m (λ x. written u (configuration u (inMasks masks)) ch (cellOf u old) f b (suc d) (x ∷ e)) old
 
 -- A whole plan: its own cells are the new ones, and the rest of the table is as it was.

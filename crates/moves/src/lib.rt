@@ -88,7 +88,6 @@ fn cell_written(
             sets,
             c,
             i + 1,
-            end,
             depth,
             place * ports,
             digits,
@@ -175,7 +174,7 @@ fn trees_written(
     sum
 }
 
-// The trees below a quantifier, written at each port that can be touched, or visited at all of them.
+// The tree below a quantifier, written at each port that can be touched, or visited at all of them: it has one child.
 fn ports_written(
     table: &[u8],
     firsts: &[u32],
@@ -187,7 +186,6 @@ fn ports_written(
     sets: usize,
     c: Changed,
     i: usize,
-    until: usize,
     depth: usize,
     row: usize,
     digits: u32,
@@ -196,32 +194,35 @@ fn ports_written(
     add: bool,
     acc: Sum,
 ) -> Sum
-    requires { ⌜ PortsReady ports sets c (now table) (now firsts) (now ends) (now uses) (now masks) (now cells) i until depth row digits word used acc ⌝ }
-    ensures { λ r. ⌜ PortsSo ports sets c (now (table .entry)) (now (firsts .entry)) (now (ends .entry)) (now (uses .entry)) (now (masks .entry)) (now (cells .entry)) i until depth row digits word used add ports acc r × PortsWrite ports sets c (now (table .entry)) (now (firsts .entry)) (now (ends .entry)) (now (uses .entry)) (now (masks .entry)) (now (cells .entry)) i until depth row digits word used ports (now (cells .exit)) ⌝ }
+    requires { ⌜ PortsReady ports sets c (now table) (now firsts) (now ends) (now uses) (now masks) (now cells) i depth row digits word used acc ⌝ }
+    ensures { λ r. ⌜ PortsSo ports sets c (now (table .entry)) (now (firsts .entry)) (now (ends .entry)) (now (uses .entry)) (now (masks .entry)) (now (cells .entry)) i depth row digits word used add ports acc r × PortsWrite ports sets c (now (table .entry)) (now (firsts .entry)) (now (ends .entry)) (now (uses .entry)) (now (masks .entry)) (now (cells .entry)) i depth row digits word used ports (now (cells .exit)) ⌝ }
 {
     let all = every_port(add, used, word, depth);
     let mut sum = acc;
     let mut x = first_port(all, c);
     while x < ports {
-        sum = trees_written(
-            table,
-            firsts,
-            ends,
-            uses,
-            masks,
-            cells,
-            ports,
-            sets,
-            c,
-            i,
-            until,
-            depth + 1,
-            row + x,
-            with_port(digits, depth, x),
-            port_word(c, word, depth, x),
-            add,
-            sum,
-        );
+        let here = port_word(c, word, depth, x);
+        if meet(uses_at(uses, i), here) {
+            let r = cell_written(
+                table,
+                firsts,
+                ends,
+                uses,
+                masks,
+                cells,
+                ports,
+                sets,
+                c,
+                i,
+                depth + 1,
+                row + x,
+                with_port(digits, depth, x),
+                here,
+            );
+            sum = join(add, sum, r);
+        } else {
+            sum = join(add, sum, kept(firsts, i, row + x, &cells[..]));
+        }
         x = next_port(all, c, x, ports);
     }
     sum

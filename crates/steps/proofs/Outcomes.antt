@@ -133,6 +133,14 @@ module _ (u : ℕ) (k : Configuration) (ch : Change) (t : OldCells) where
   unfolding renewals gathered changes modulus
   trees-none add b d e acc h = record { value-is = refl; changed-is = omega arith }
 
+  -- a forest of one tree
+  pub one-tree : (add : Bool) (n : Node) (c s : Forest) (b d : ℕ) (e : Tuple) (acc r : Sum) (x : After) → treeCount (tree n c s) ≡ 1
+      → CellAfter u k ch t n c b d e x → Joined add acc x r → TreesAfter u k ch t add (tree n c s) b d e acc r
+  unfolding treeCount modulus
+  one-tree add n c none b d e acc r x o cell join =
+      trees-more add n c none b d e acc r r x cell join (trees-none add (siblingFirst u n c b d) d e r (omega (arith, join .changed-is)))
+  one-tree add n c (tree m f s) b d e acc r x o cell join = absurd (omega arith)
+
   -- nothing of an untouched forest goes into a sum
   untouched-sum : (f : Forest) (b d : ℕ) (e : Tuple) (acc : ℕ) → forestHit ch f e ≡ false → acc < modulus → ((x : ℕ) (y : Tuple) → t x y < modulus)
       → gathered true acc (renewals u k ch t f b d e) ≡ acc

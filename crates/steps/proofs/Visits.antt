@@ -130,10 +130,10 @@ module _ (u sets : ℕ) (ch : Change) (bytes firsts ends uses cells : List ℕ) 
     }
 
     -- the children of a quantifier
-    pub visit-ports : childDepth n d ≡ suc d → nodeUses n ≡ 0 → d < 3
+    pub visit-ports : childDepth n d ≡ suc d → nodeUses n ≡ 0 → d < 3 → treeCount c ≡ 1
         → PortsVisit u sets ch bytes firsts ends uses cells (suc i) c (b + u ^ d) d e (place * u) digits word (getD uses i 0)
     unfolding Holds Fitting Every nodeCount cellCount
-    visit-ports q z l = record {
+    visit-ports q z l o = record {
       holds = subst (λ (x : ℕ). Holds u bytes firsts ends uses (suc i) c (b + u ^ d) x) q (v .holds .1);
       fitting = subst (λ (x : ℕ). Every (NodeFits sets) c x) q (v .fitting .1);
       tuple = v .tuple;
@@ -144,6 +144,7 @@ module _ (u sets : ℕ) (ch : Change) (bytes firsts ends uses cells : List ℕ) 
       nodes = omega (arith, v .nodes);
       depth = l;
       used-is = v .holds .0 .uses-are ∙ ap (λ (x : ℕ). bitOr x (forestUses c)) z ∙ or-zero-l (forestUses c);
+      one = o;
     }
 
     -- the test of a touched cell

@@ -12,6 +12,7 @@ use Rattle.esol.specs.Penalty.{literalPenalty, eachPort, sum}
 use Rattle.esol.specs.Cells.{placeOf, cellCount}
 use Rattle.esol.specs.Change.{Change, modulus, OldCells, Renewal, renewals, newCell}
 use Rattle.esol.proofs.Lists.{TupleOf}
+use Rattle.plan.specs.Rules.{treeCount}
 use Rattle.plan.specs.Index.{forestUses}
 use Rattle.hits.specs.Hits.{HitWord}
 use Rattle.walk.specs.Walk.{taken, gathered, changes}
@@ -95,7 +96,7 @@ unfoldable pub RecordAfresh : ℕ → ℕ → ℕ → List ℕ → ℕ → List 
 RecordAfresh u sets d bytes i masks digits r =
     Afresh u sets d (kindField (recordAt bytes i)) (relationField (recordAt bytes i)) (aField (recordAt bytes i)) (bField (recordAt bytes i)) masks digits r
 
--- The walk stands below a quantifier at depth d, before the trees of its children at each port: `row` is the place of the first.
+-- The walk stands below a quantifier at depth d, before the tree of its one child at each port: `row` is the place of the first.
 pub record PortsVisit (u sets : ℕ) (ch : Change) (bytes firsts ends uses cells : List ℕ) (i : ℕ) (f : Forest) (b d : ℕ) (e : Tuple) (row digits word used : ℕ) : Type 0 where
   pub holds : Holds u bytes firsts ends uses i f b (suc d)
   pub fitting : Fitting sets f (suc d)
@@ -107,6 +108,7 @@ pub record PortsVisit (u sets : ℕ) (ch : Change) (bytes firsts ends uses cells
   pub nodes : i + nodeCount f ≤ 512
   pub depth : d < 3
   pub used-is : used ≡ forestUses f
+  pub one : treeCount f ≡ 1
 
 -- The trees of a forest at each port of a quantifier gone into a sum or a minimum, for the ports below m.
 pub record PortsAfter (u : ℕ) (k : Configuration) (ch : Change) (t : OldCells) (add : Bool) (f : Forest) (b d : ℕ) (e : Tuple) (m : ℕ) (acc r : Sum) : Type 0 where

@@ -35,7 +35,7 @@ use Rattle.steps.proofs.KindOf.{adds-kind, Quantifier, Joint, quantifier-of, jo
 use Rattle.steps.proofs.Steps.{packed-lt}
 use Rattle.steps.proofs.Visits.{all-constants, node-here, fits-here, node-below, room-here, visit-next, visit-children, visit-ports, touched-here, port-visit, port-untouched}
 use Rattle.steps.proofs.Ports.{Reached, reached-first, reached-next, reached-all}
-use Rattle.steps.proofs.Outcomes.{begun-fits, untouched-after, literal-cell, inner-cell, trees-more, trees-none, port-more, port-skipped, ports-none}
+use Rattle.steps.proofs.Outcomes.{begun-fits, untouched-after, literal-cell, inner-cell, trees-more, trees-none, one-tree, port-more, port-skipped, ports-none}
 use Rattle.trial.specs.Walking.{Ready, CellReady, CellGives, TreesReady, TreesGive, PortsReady, PortsSo}
 
 width-low : (u d : ℕ) → u ≤ 64 → d ≤ 3 → u ^ d ≤ 262144
@@ -122,7 +122,7 @@ module _ (u sets : ℕ) (c : Changed) (bytes firsts ends uses masks cells : List
       unfolding Fitting Every
       ports-here used h q =
           let low : suc d ≤ 3 = first-tree f (suc d) sets (q .one (treeCount f) (fits .children)) (subst (λ (x : ℕ). Every (NodeFits sets) f x) (q .deeper d) (v .fitting .1)) in
-          rw (add-one i, h) (visit-ports u sets ch bytes firsts ends uses cells i n f s b d e place digits word v (q .deeper d) (q .no-uses) low)
+          rw (add-one i, h) (visit-ports u sets ch bytes firsts ends uses cells i n f s b d e place digits word v (q .deeper d) (q .no-uses) low (q .one (treeCount f) (fits .children)))
 
       pub trees-here : Joint n → Standing ch (i + 1) f (b + u ^ d) d e place digits word
       trees-here q = rw (add-one i) (visit-children u sets ch bytes firsts ends uses cells i n f s b d e place digits word v (q .level d))
@@ -185,7 +185,7 @@ module _ (u sets : ℕ) (c : Changed) (bytes firsts ends uses masks cells : List
 
       module _ (old used kind end : ℕ) (add : Bool) (start : Sum) (o : old ≡ getD cells (getD firsts i 0 + place) 0) (us : used ≡ getD uses i 0)
           (kd : kind ≡ kindField (recordAt bytes i)) (en : end ≡ getD ends i 0) (ad : add ≡ eqb (kind % 2) 1) (st : (start .value ≡ begun add old) × (start .changed ≡ 0)) where
-        pub ports-ready : (leb 1 kind && leb kind 2) ≡ true → PortsReady u sets c bytes firsts ends uses masks cells (i + 1) end d (place * u) digits word used start
+        pub ports-ready : (leb 1 kind && leb kind 2) ≡ true → PortsReady u sets c bytes firsts ends uses masks cells (i + 1) d (place * u) digits word used start
         ports-ready h = record {
           change = r .change;
           forest = r .children;
@@ -194,7 +194,6 @@ module _ (u sets : ℕ) (c : Changed) (bytes firsts ends uses masks cells : List
           ready = r .ready;
           visit = ports-here (r .change) (r .node) (r .children) (r .siblings) (r .first) (r .tuple) (r .ready) (r .visit) used us
               (quantifier-of (r .node) kind (kd ∙ node-ready .kind-is) h);
-          ends-at = end-here (r .change) (r .node) (r .children) (r .siblings) (r .first) (r .tuple) (r .ready) (r .visit) end en;
           few = zero-few (start .changed) (st .1);
           low = rw (st .0) (begun-fits add old (rw o (all-fit cells (r .ready .cells-fit) (getD firsts i 0 + place))));
         }
@@ -245,12 +244,12 @@ module _ (u sets : ℕ) (c : Changed) (bytes firsts ends uses masks cells : List
             (st : (start .value ≡ begun add old) × (start .changed ≡ 0))
             (cl : (r .old ≡ old) × (r .value ≡ sums .value) × (r .changed ≡ (indicator (not (eqb (sums .value) old)) + sums .changed) % 4294967296)) where
           pub gives-ports : (leb 1 kind && leb kind 2) ≡ true
-              → PortsSo u sets c bytes firsts ends uses masks cells (i + 1) end d (place * u) digits word used add u start sums
+              → PortsSo u sets c bytes firsts ends uses masks cells (i + 1) d (place * u) digits word used add u start sums
               → CellGives u sets c bytes firsts ends uses masks cells i d place digits word r
           unfolding CellGives PortsSo modulus
           gives-ports h so ch n f s b e ready v =
               let q = quantifier-of n kind (kd ∙ here ch n f s b e ready v .kind-is) h in
-              let p = so ch f (b + u ^ d) e ready (ports-here ch n f s b e ready v used us q) (end-here ch n f s b e ready v end en) in
+              let p = so ch f (b + u ^ d) e ready (ports-here ch n f s b e ready v used us q) in
               let ol = old-here ch n f s b e ready v old o in
               let an = ad ∙ adds-kind n kind (kd ∙ here ch n f s b e ready v .kind-is) few in
               inner-cell u after ch (cellOf u cells) (ready .masks-settled .ports1) (cells-low (ready .cells-fit)) n f b d e r sums (literals ch n f s b e ready v) (q .inner)
@@ -381,44 +380,60 @@ module _ (u sets : ℕ) (c : Changed) (bytes firsts ends uses masks cells : List
     onward-last j sum o h = o .so sum (none-left j until d place digits word add sum (o .ready) h)
 
   -- the ports of a quantifier
-  module _ (i until d row digits word used : ℕ) where
+  module _ (i d row digits word used : ℕ) where
     abbrev Ports : Sum → Type 0
-    Ports acc = PortsReady u sets c bytes firsts ends uses masks cells i until d row digits word used acc
+    Ports acc = PortsReady u sets c bytes firsts ends uses masks cells i d row digits word used acc
 
     abbrev So : Bool → ℕ → Sum → Sum → Type 0
-    So add m acc r = PortsSo u sets c bytes firsts ends uses masks cells i until d row digits word used add m acc r
+    So add m acc r = PortsSo u sets c bytes firsts ends uses masks cells i d row digits word used add m acc r
 
-    pub port-ready : (add : Bool) (acc mid : Sum) → Ports acc → (x digits′ word′ : ℕ) → So add x acc mid → x < u → digits′ ≡ digits + x * 256 ^ d → word′ ≡ portWord c word d x
-        → TreesReady u sets c bytes firsts ends uses masks cells i until (d + 1) (row + x) digits′ word′ mid
-    unfolding PortsSo
-    port-ready add acc mid r x digits′ word′ so l dg wd = record {
-      change = r .change;
-      forest = r .forest;
-      first = r .first;
-      tuple = x ∷ r .tuple;
-      ready = r .ready;
-      visit = rw (add-one d, dg, wd) (port-visit u sets (r .change) bytes firsts ends uses cells c (r .ready .says) i (r .forest) (r .first) d (r .tuple) row digits word used x (r .visit) l);
-      ends-at = r .ends-at;
-      few = rest-few (mid .changed) _ (so (r .change) (r .forest) (r .first) (r .tuple) (r .ready) (r .visit) (r .ends-at) .changed-is);
-    }
+    pub port-ready : (acc : Sum) → Ports acc → (x digits′ word′ : ℕ) → x < u → digits′ ≡ digits + x * 256 ^ d → word′ ≡ portWord c word d x
+        → CellReady u sets c bytes firsts ends uses masks cells i (d + 1) (row + x) digits′ word′
+    unfolding treeCount
+    port-ready acc r x digits′ word′ l dg wd = go (r .forest) (r .visit)
+      where
+        go : (f : Forest) → PortsVisit u sets (r .change) bytes firsts ends uses cells i f (r .first) d (r .tuple) row digits word used
+            → CellReady u sets c bytes firsts ends uses masks cells i (d + 1) (row + x) digits′ word′
+        go none v = absurd (omega (arith, v .one))
+        go (tree n f s) v = record {
+          change = r .change;
+          node = n;
+          children = f;
+          siblings = s;
+          first = r .first;
+          tuple = x ∷ r .tuple;
+          ready = r .ready;
+          visit = rw (add-one d, dg, wd) (port-visit u sets (r .change) bytes firsts ends uses cells c (r .ready .says) i (tree n f s) (r .first) d (r .tuple) row digits word used x v l);
+        }
 
     pub ports-begin : (add : Bool) (acc : Sum) → acc .changed < modulus → So add 0 acc acc
     unfolding PortsSo
-    ports-begin add acc low ch f b e ready v q = ports-none u after ch (cellOf u cells) add f b d e acc low
+    ports-begin add acc low ch f b e ready v = ports-none u after ch (cellOf u cells) add f b d e acc low
 
-    pub ports-next : (add : Bool) (x digits′ word′ : ℕ) (acc mid r : Sum) → x < u → digits′ ≡ digits + x * 256 ^ d → word′ ≡ portWord c word d x → So add x acc mid
-        → TreesGive u sets c bytes firsts ends uses masks cells i until (d + 1) (row + x) digits′ word′ add mid r → So add (suc x) acc r
-    unfolding PortsSo TreesGive
-    ports-next add x digits′ word′ acc mid r l dg wd so one ch f b e ready v q =
-        port-more u after ch (cellOf u cells) add f b d e x acc mid r (so ch f b e ready v q)
-        (rw (add-one d) at (one ch f b (x ∷ e) ready (rw (add-one d, dg, wd) (port-visit u sets ch bytes firsts ends uses cells c (ready .says) i f b d e row digits word used x v l)) q))
+    -- the child's outcome at port x has gone into the sum or minimum so far
+    pub record PortStepped (add : Bool) (x word′ : ℕ) (mid r : Sum) : Type 0 where
+      pub digits′ : ℕ
+      pub digits-are : digits′ ≡ digits + x * 256 ^ d
+      pub found : After
+      pub gives : CellGives u sets c bytes firsts ends uses masks cells i (d + 1) (row + x) digits′ word′ found
+      pub joined : Joined add mid found r
+
+    pub ports-next : (add : Bool) (x word′ : ℕ) (acc mid r : Sum) → x < u → word′ ≡ portWord c word d x → So add x acc mid
+        → PortStepped add x word′ mid r → So add (suc x) acc r
+    unfolding PortsSo CellGives treeCount
+    ports-next add x word′ acc mid r l wd so st ch none b e ready v = absurd (omega (arith, v .one))
+    ports-next add x word′ acc mid r l wd so st ch (tree n f s) b e ready v =
+        let cell : CellAfter u after ch (cellOf u cells) n f b (suc d) (x ∷ e) (st .found) =
+        rw (add-one d) at (st .gives ch n f s b (x ∷ e) ready (rw (add-one d, st .digits-are, wd) (port-visit u sets ch bytes firsts ends uses cells c (ready .says) i (tree n f s) b d e row digits word used x v l))) in
+        port-more u after ch (cellOf u cells) add (tree n f s) b d e x acc mid r (so ch (tree n f s) b e ready v)
+        (one-tree u after ch (cellOf u cells) add n f s b (suc d) (x ∷ e) mid r (st .found) (v .one) cell (st .joined))
 
     -- the ports between two that are visited
     pub ports-skip : (acc r : Sum) → acc .value < modulus → meets used (restWord word d) ≡ false → (m x : ℕ) → ((y : ℕ) → x ≤ y → y < x + m → (y ≢ c .p) × (y ≢ c .q)) → So true x acc r → So true (x + m) acc r
     unfolding PortsSo
-    ports-skip acc r low h zero x apart so ch f b e ready v q = subst (λ (y : ℕ). PortsAfter u after ch (cellOf u cells) true f b d e y acc r) (sym (add-zero x)) (so ch f b e ready v q)
-    ports-skip acc r low h (suc m) x apart so ch f b e ready v q =
-        let before = ports-skip acc r low h m x (λ y g l. apart y g (omega arith)) so ch f b e ready v q in
+    ports-skip acc r low h zero x apart so ch f b e ready v = subst (λ (y : ℕ). PortsAfter u after ch (cellOf u cells) true f b d e y acc r) (sym (add-zero x)) (so ch f b e ready v)
+    ports-skip acc r low h (suc m) x apart so ch f b e ready v =
+        let before = ports-skip acc r low h m x (λ y g l. apart y g (omega arith)) so ch f b e ready v in
         let a = apart (x + m) (omega arith) (omega arith) in
         subst (λ (y : ℕ). PortsAfter u after ch (cellOf u cells) true f b d e y acc r) (let w : suc (x + m) ≡ x + suc m = omega arith in w)
         (port-skipped u after ch (cellOf u cells) f b d e (x + m) acc r low (cells-low (ready .cells-fit))

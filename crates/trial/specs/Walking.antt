@@ -54,20 +54,19 @@ TreesGive u sets c bytes firsts ends uses masks cells i until d place digits wor
     → Visit u sets ch bytes firsts ends uses cells i f b d e place digits word → until ≡ i + nodeCount f
     → TreesAfter u (configuration u (inMasks masks)) ch (cellOf u cells) add f b d e acc r
 
--- The walk stands below a quantifier at depth d, before the trees of its children at each port.
-pub record PortsReady (u sets : ℕ) (c : Changed) (bytes firsts ends uses masks cells : List ℕ) (i until d row digits word used : ℕ) (acc : Sum) : Type 0 where
+-- The walk stands below a quantifier at depth d, before the tree of its one child at each port.
+pub record PortsReady (u sets : ℕ) (c : Changed) (bytes firsts ends uses masks cells : List ℕ) (i d row digits word used : ℕ) (acc : Sum) : Type 0 where
   pub change : Change
   pub forest : Forest
   pub first : ℕ
   pub tuple : Tuple
   pub ready : Ready u sets c firsts ends uses masks cells change
   pub visit : PortsVisit u sets change bytes firsts ends uses cells i forest first d tuple row digits word used
-  pub ends-at : until ≡ i + nodeCount forest
   pub low : acc .value < modulus
   pub few : acc .changed < modulus
 
-unfoldable pub PortsSo : ℕ → ℕ → Changed → List ℕ → List ℕ → List ℕ → List ℕ → List ℕ → List ℕ → ℕ → ℕ → ℕ → ℕ → ℕ → ℕ → ℕ → Bool → ℕ → Sum → Sum → Type 0
-PortsSo u sets c bytes firsts ends uses masks cells i until d row digits word used add m acc r =
+unfoldable pub PortsSo : ℕ → ℕ → Changed → List ℕ → List ℕ → List ℕ → List ℕ → List ℕ → List ℕ → ℕ → ℕ → ℕ → ℕ → ℕ → ℕ → Bool → ℕ → Sum → Sum → Type 0
+PortsSo u sets c bytes firsts ends uses masks cells i d row digits word used add m acc r =
     (ch : Change) (f : Forest) (b : ℕ) (e : Tuple) → Ready u sets c firsts ends uses masks cells ch
-    → PortsVisit u sets ch bytes firsts ends uses cells i f b d e row digits word used → until ≡ i + nodeCount f
+    → PortsVisit u sets ch bytes firsts ends uses cells i f b d e row digits word used
     → PortsAfter u (configuration u (inMasks masks)) ch (cellOf u cells) add f b d e m acc r

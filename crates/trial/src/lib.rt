@@ -124,7 +124,6 @@ fn cell_after(
             sets,
             c,
             i + 1,
-            end,
             depth,
             place * ports,
             digits,
@@ -209,7 +208,7 @@ fn trees_after(
     sum
 }
 
-// The trees below a quantifier at each port that can be touched, or at all of them.
+// The tree below a quantifier at each port that can be touched, or at all of them: it has one child.
 fn ports_after(
     table: &[u8],
     firsts: &[u32],
@@ -221,7 +220,6 @@ fn ports_after(
     sets: usize,
     c: Changed,
     i: usize,
-    until: usize,
     depth: usize,
     row: usize,
     digits: u32,
@@ -230,32 +228,35 @@ fn ports_after(
     add: bool,
     acc: Sum,
 ) -> Sum
-    requires { ⌜ PortsReady ports sets c (now table) (now firsts) (now ends) (now uses) (now masks) (now cells) i until depth row digits word used acc ⌝ }
-    ensures { λ r. ⌜ PortsSo ports sets c (now (table .entry)) (now (firsts .entry)) (now (ends .entry)) (now (uses .entry)) (now (masks .entry)) (now (cells .entry)) i until depth row digits word used add ports acc r ⌝ }
+    requires { ⌜ PortsReady ports sets c (now table) (now firsts) (now ends) (now uses) (now masks) (now cells) i depth row digits word used acc ⌝ }
+    ensures { λ r. ⌜ PortsSo ports sets c (now (table .entry)) (now (firsts .entry)) (now (ends .entry)) (now (uses .entry)) (now (masks .entry)) (now (cells .entry)) i depth row digits word used add ports acc r ⌝ }
 {
     let all = every_port(add, used, word, depth);
     let mut sum = acc;
     let mut x = first_port(all, c);
     while x < ports {
-        sum = trees_after(
-            table,
-            firsts,
-            ends,
-            uses,
-            masks,
-            cells,
-            ports,
-            sets,
-            c,
-            i,
-            until,
-            depth + 1,
-            row + x,
-            with_port(digits, depth, x),
-            port_word(c, word, depth, x),
-            add,
-            sum,
-        );
+        let here = port_word(c, word, depth, x);
+        if meet(uses_at(uses, i), here) {
+            let r = cell_after(
+                table,
+                firsts,
+                ends,
+                uses,
+                masks,
+                cells,
+                ports,
+                sets,
+                c,
+                i,
+                depth + 1,
+                row + x,
+                with_port(digits, depth, x),
+                here,
+            );
+            sum = join(add, sum, r);
+        } else {
+            sum = join(add, sum, kept(firsts, i, row + x, cells));
+        }
         x = next_port(all, c, x, ports);
     }
     sum

@@ -89,7 +89,7 @@ cell-written-claims t = (cell-at-reads.Asked, cell-at-reads.Learnt, uses-at-read
 
 -- what the callees of `ports-written` ask and give
 abbrev ports-written-claims : ℕ → ports-written-lts.Claims
-ports-written-claims t = (every-port-reads.Asked, every-port-reads.Learnt, first-port-reads.Asked, first-port-reads.Learnt, with-port-reads.Asked, with-port-reads.Learnt, port-word-reads.Asked, port-word-reads.Learnt, trees-written-below t, trees-written.Post, next-port-reads.Asked, next-port-reads.Learnt)
+ports-written-claims t = (every-port-reads.Asked, every-port-reads.Learnt, first-port-reads.Asked, first-port-reads.Learnt, port-word-reads.Asked, port-word-reads.Learnt, uses-at-reads.Asked, uses-at-reads.Learnt, meet-reads.Asked, meet-reads.Learnt, with-port-reads.Asked, with-port-reads.Learnt, cell-written-below t, cell-written.Post, join-reads.Asked, join-reads.Learnt, kept-reads.Asked, kept-reads.Learnt, next-port-reads.Asked, next-port-reads.Learnt)
 
 -- what the callees of `trees-written` ask and give
 abbrev trees-written-claims : ℕ → trees-written-lts.Claims
@@ -212,11 +212,11 @@ cell-written-returns-4 t c =
     trees-moved _ _ _ _ _ _ _ _ _ _ _ _ _ _ _ (c .before .before .before .before .before .before .before .before .before .before .before .before .before .before .before .before .before .before .uses-at .ensures) (sym (c .before .before .before .before .before .before .before .before .before .before .before .before .before .before .before .before .before .meet .ensures) ∙ not-false _ (c .before .before .before .before .before .before .before .before .before .before .before .before .before .before .before .before .if1 .left)) _ (c .before .before .before .before .before .before .before .before .before .before .before .before .before .before .before .kind-at .ensures) _ (gives-trees _ _ _ _ _ _ _ _ _ _ _ _ _ _ _ _ (c .before .before .before .before .before .before .before .before .before .before .before .before .before .before .before .before .before .before .before .cell-at .ensures) (c .before .before .before .before .before .before .before .before .before .before .before .before .before .before .before .before .before .before .uses-at .ensures) _ (sym (c .before .before .before .before .before .before .before .before .before .before .before .before .before .before .before .before .before .meet .ensures) ∙ not-false _ (c .before .before .before .before .before .before .before .before .before .before .before .before .before .before .before .before .if1 .left)) (c .before .before .before .before .before .before .before .before .before .before .before .before .before .before .before .kind-at .ensures) _ _ _ _ _ (c .before .before .before .before .before .before .before .before .before .before .before .end-at .ensures) (c .before .before .before .before .before .before .before .before .before .before .before .before .before .adds-of .ensures) (c .before .before .before .before .before .before .before .before .before .before .before .before .before .before .if2 .left) (c .before .before .before .before .before .before .before .before .before .before .before .before .begin .ensures) (c .close3 .ensures) (sym (c .before .before .before .before .before .before .before .before .before .before .is-quantifier .ensures) ∙ c .before .before .before .before .before .before .before .before .before .if3 .left) (c .before .before .before .before .before .before .before .trees-written .ensures .0)) _ (c .close3 .ensures .1) _ _ (c .before .before .before .put-cell3 .ensures) _ (c .before .before .before .before .before .before .before .before .before .before .before .end-at .ensures) (c .before .before .before .before .before .before .before .before .before .before .before .before .before .before .if2 .left) (sym (c .before .before .before .before .before .before .before .before .before .before .is-quantifier .ensures) ∙ c .before .before .before .before .before .before .before .before .before .if3 .left) (c .before .before .before .before .before .before .before .trees-written .ensures .1)
 
 abbrev ports-written-Inv-loop : ports-written-lts.InvT-loop
-ports-written-Inv-loop table firsts ends uses masks cells₀ ports sets c i until depth row digits word used add all sum₀ x₀ cells sum x =
-    Carried ports sets c table firsts ends uses masks cells₀ i until depth row digits word used all add sum₀ x sum cells
+ports-written-Inv-loop table firsts ends uses masks cells₀ ports sets c i depth row digits word used add all sum₀ x₀ cells sum x =
+    Carried ports sets c table firsts ends uses masks cells₀ i depth row digits word used all add sum₀ x sum cells
 
 abbrev ports-written-μ-loop : ports-written-lts.MeasureT-loop
-ports-written-μ-loop table firsts ends uses masks cells₀ ports sets c i until depth row digits word used add all sum₀ x₀ cells sum x =
+ports-written-μ-loop table firsts ends uses masks cells₀ ports sets c i depth row digits word used add all sum₀ x₀ cells sum x =
     ports - x
 
 ports-written-every-port-requires : (t : ℕ) → ports-written-lts.Need-every-port-requires (ports-written-claims t) (ports-written-at t) ports-written.Post ports-written-Inv-loop ports-written-μ-loop
@@ -229,39 +229,63 @@ ports-written-first-port-requires t c κs =
 
 ports-written-loop-holds : (t : ℕ) → ports-written-lts.Need-loop-holds (ports-written-claims t) (ports-written-at t) ports-written.Post ports-written-Inv-loop ports-written-μ-loop
 ports-written-loop-holds t c =
-    carried-start _ _ _ _ _ _ _ _ _ _ _ _ _ _ _ _ _ _ (c .before .every-port .ensures) _ (c .before .before .before .before .before .before .before .before .pre .1) _ (c .first-port .ensures)
-
-ports-written-add-trees-written : (t : ℕ) → ports-written-lts.Need-add-trees-written (ports-written-claims t) (ports-written-at t) ports-written.Post ports-written-Inv-loop ports-written-μ-loop
-ports-written-add-trees-written t c =
-    omega (arith, c .before .before .before .before .before .before .before .before .before .before .before .pre .1 .visit .depth)
-
-ports-written-add-trees-written-2 : (t : ℕ) → ports-written-lts.Need-add-trees-written-2 (ports-written-claims t) (ports-written-at t) ports-written.Post ports-written-Inv-loop ports-written-μ-loop
-ports-written-add-trees-written-2 t c =
-    record { fits = row-fits _ _ _ _ _ _ _ _ _ _ _ _ _ _ _ _ _ (c .before .before .before .before .before .before .before .before .before .before .before .pre .1) _ (c .before .loop-test .taken) }
-
-ports-written-with-port-requires : (t : ℕ) → ports-written-lts.Need-with-port-requires (ports-written-claims t) (ports-written-at t) ports-written.Post ports-written-Inv-loop ports-written-μ-loop
-ports-written-with-port-requires t c κs =
-    digits-ready _ _ _ _ _ _ _ _ _ _ _ _ _ _ _ _ _ (c .before .before .before .before .before .before .before .before .before .before .before .pre .1) _ (c .before .loop-test .taken)
+    carried-start _ _ _ _ _ _ _ _ _ _ _ _ _ _ _ _ _ (c .before .every-port .ensures) _ (c .before .before .before .before .before .before .before .before .pre .1) _ (c .first-port .ensures)
 
 ports-written-port-word-requires : (t : ℕ) → ports-written-lts.Need-port-word-requires (ports-written-claims t) (ports-written-at t) ports-written.Post ports-written-Inv-loop ports-written-μ-loop
 ports-written-port-word-requires t c κs =
     search needs
 
-ports-written-trees-written-requires : (t : ℕ) → ports-written-lts.Need-trees-written-requires (ports-written-claims t) (ports-written-at t) ports-written.Post ports-written-Inv-loop ports-written-μ-loop
-ports-written-trees-written-requires t c κs =
-    (omega (arith, c .before .before .before .before .before .before .before .before .before .before .before .before .before .pre .0), carried-ready _ _ _ _ _ _ _ _ _ _ _ _ _ _ _ _ _ _ _ _ _ _ _ _ (c .before .before .before .before .before .before .before .before .before .before .before .before .before .pre .1) (c .before .before .before .before .loop .inv) (c .before .before .before .loop-test .taken) (c .before .with-port .ensures) (c .port-word .ensures))
+ports-written-uses-at-requires : (t : ℕ) → ports-written-lts.Need-uses-at-requires (ports-written-claims t) (ports-written-at t) ports-written.Post ports-written-Inv-loop ports-written-μ-loop
+ports-written-uses-at-requires t c κs =
+    uses-room _ _ _ _ _ _ _ _ _ _ _ _ _ _ (carried-ready _ _ _ _ _ _ _ _ _ _ _ _ _ _ _ _ _ _ _ _ _ _ _ (c .before .before .before .before .before .before .before .before .before .before .before .pre .1) (c .before .before .loop .inv) (c .before .loop-test .taken) refl (c .port-word .ensures))
+
+ports-written-meet-requires : (t : ℕ) → ports-written-lts.Need-meet-requires (ports-written-claims t) (ports-written-at t) ports-written.Post ports-written-Inv-loop ports-written-μ-loop
+ports-written-meet-requires t c κs =
+    search needs
+
+ports-written-add-cell-written : (t : ℕ) → ports-written-lts.Need-add-cell-written (ports-written-claims t) (ports-written-at t) ports-written.Post ports-written-Inv-loop ports-written-μ-loop
+ports-written-add-cell-written t c =
+    omega (arith, c .before .before .before .before .before .before .before .before .before .before .before .before .before .before .before .pre .1 .visit .depth)
+
+ports-written-add-cell-written-2 : (t : ℕ) → ports-written-lts.Need-add-cell-written-2 (ports-written-claims t) (ports-written-at t) ports-written.Post ports-written-Inv-loop ports-written-μ-loop
+ports-written-add-cell-written-2 t c =
+    record { fits = row-fits _ _ _ _ _ _ _ _ _ _ _ _ _ _ _ _ (c .before .before .before .before .before .before .before .before .before .before .before .before .before .before .before .pre .1) _ (c .before .before .before .before .before .loop-test .taken) }
+
+ports-written-with-port-requires : (t : ℕ) → ports-written-lts.Need-with-port-requires (ports-written-claims t) (ports-written-at t) ports-written.Post ports-written-Inv-loop ports-written-μ-loop
+ports-written-with-port-requires t c κs =
+    digits-ready _ _ _ _ _ _ _ _ _ _ _ _ _ _ _ _ (c .before .before .before .before .before .before .before .before .before .before .before .before .before .before .before .pre .1) _ (c .before .before .before .before .before .loop-test .taken)
+
+ports-written-cell-written-requires : (t : ℕ) → ports-written-lts.Need-cell-written-requires (ports-written-claims t) (ports-written-at t) ports-written.Post ports-written-Inv-loop ports-written-μ-loop
+ports-written-cell-written-requires t c κs =
+    (omega (arith, c .before .before .before .before .before .before .before .before .before .before .before .before .before .before .before .before .pre .0), carried-ready _ _ _ _ _ _ _ _ _ _ _ _ _ _ _ _ _ _ _ _ _ _ _ (c .before .before .before .before .before .before .before .before .before .before .before .before .before .before .before .before .pre .1) (c .before .before .before .before .before .before .before .loop .inv) (c .before .before .before .before .before .before .loop-test .taken) (c .with-port .ensures) (c .before .before .before .before .before .port-word .ensures))
+
+ports-written-join-requires : (t : ℕ) → ports-written-lts.Need-join-requires (ports-written-claims t) (ports-written-at t) ports-written.Post ports-written-Inv-loop ports-written-μ-loop
+ports-written-join-requires t c κs =
+    search needs
+
+ports-written-add-kept : (t : ℕ) → ports-written-lts.Need-add-kept (ports-written-claims t) (ports-written-at t) ports-written.Post ports-written-Inv-loop ports-written-μ-loop
+ports-written-add-kept t c =
+    record { fits = row-fits _ _ _ _ _ _ _ _ _ _ _ _ _ _ _ _ (c .before .before .before .before .before .before .before .before .before .before .before .before .before .before .pre .1) _ (c .before .before .before .before .loop-test .taken) }
+
+ports-written-kept-requires : (t : ℕ) → ports-written-lts.Need-kept-requires (ports-written-claims t) (ports-written-at t) ports-written.Post ports-written-Inv-loop ports-written-μ-loop
+ports-written-kept-requires t c κs =
+    let r = carried-ready _ _ _ _ _ _ _ _ _ _ _ _ _ _ _ _ _ _ _ _ _ _ _ (c .before .before .before .before .before .before .before .before .before .before .before .before .before .before .before .pre .1) (c .before .before .before .before .before .before .loop .inv) (c .before .before .before .before .before .loop-test .taken) refl (c .before .before .before .before .port-word .ensures) in (firsts-room _ _ _ _ _ _ _ _ _ _ _ _ _ _ r, cell-room _ _ _ _ _ _ _ _ _ _ _ _ _ _ r)
+
+ports-written-join-requires-2 : (t : ℕ) → ports-written-lts.Need-join-requires-2 (ports-written-claims t) (ports-written-at t) ports-written.Post ports-written-Inv-loop ports-written-μ-loop
+ports-written-join-requires-2 t c κs =
+    search needs
 
 ports-written-next-port-requires : (t : ℕ) → ports-written-lts.Need-next-port-requires (ports-written-claims t) (ports-written-at t) ports-written.Post ports-written-Inv-loop ports-written-μ-loop
 ports-written-next-port-requires t c κs =
-    c .before .before .before .before .before .before .loop-test .taken
+    c .before .before .before .before .loop-test .taken
 
 ports-written-loop-less : (t : ℕ) → ports-written-lts.Need-loop-less (ports-written-claims t) (ports-written-at t) ports-written.Post ports-written-Inv-loop ports-written-μ-loop
 ports-written-loop-less t c =
-    let s = carried-step _ _ _ _ _ _ _ _ _ _ _ _ _ _ _ _ _ _ (c .before .before .before .before .before .before .before .before .before .before .every-port .ensures) _ (c .before .before .before .before .before .before .before .before .before .before .before .before .before .before .before .before .before .pre .1) _ _ _ _ _ _ (c .before .before .before .before .before .before .before .before .loop .inv) (c .before .before .before .before .before .before .before .loop-test .taken) _ _ (c .before .before .before .before .before .with-port .ensures) (c .before .before .before .before .port-word .ensures) (c .before .before .before .trees-written .ensures) (all-fit _ (λ j. c .before .slice-known2 .given j .fits)) (c .before .before .before .trees-written .kept .1 .1 .1 .1 .1 .0) (c .next-port .ensures) in omega (arith, s .0, c .before .before .before .before .before .before .before .loop-test .taken)
+    let s = carried-step _ _ _ _ _ _ _ _ _ _ _ _ _ _ _ _ _ (c .before .before .before .before .before .before .before .before .every-port .ensures) _ (c .before .before .before .before .before .before .before .before .before .before .before .before .before .before .before .pre .1) _ _ _ _ _ _ _ (c .before .before .before .before .before .before .loop .inv) (c .before .before .before .before .before .loop-test .taken) (c .before .before .before .before .port-word .ensures) (⊎-elim (λ w. record { digits′ = w .2 .result; digits-are = w .2 .ensures; wrote = wrote-as _ _ _ _ _ _ _ _ _ _ _ _ _ _ _ _ _ _ _ _ (w .7) (w .8) record { found = w .3 .result; gives = w .3 .ensures .0; joined = w .6 .ensures; writes = w .3 .ensures .1; fit = all-fit _ (λ j. w .5 .given j .fits); long = w .3 .kept .1 .1 .1 .1 .1 .0 } }) (λ w. record { digits′ = _; digits-are = refl; wrote = wrote-as _ _ _ _ _ _ _ _ _ _ _ _ _ _ _ _ _ _ _ _ (w .4) (w .5) (let g = untouched-moved _ _ _ _ _ _ _ _ _ _ _ _ _ _ _ (c .before .before .before .uses-at .ensures) (sym (c .before .before .meet .ensures) ∙ w .0 .left) _ (gives-untouched _ _ _ _ _ _ _ _ _ _ _ _ _ _ _ _ (w .2 .ensures .0) (c .before .before .before .uses-at .ensures) _ (sym (c .before .before .meet .ensures) ∙ w .0 .left) refl (w .2 .ensures .1) (w .2 .ensures .2)) in record { found = w .2 .result; gives = g .0; joined = w .3 .ensures; writes = g .1; fit = c .before .before .before .before .before .before .loop .inv .fit; long = refl }) }) (c .before .if1 .came)) (c .next-port .ensures) in omega (arith, s .0, c .before .before .before .before .before .loop-test .taken)
 
 ports-written-loop-again : (t : ℕ) → ports-written-lts.Need-loop-again (ports-written-claims t) (ports-written-at t) ports-written.Post ports-written-Inv-loop ports-written-μ-loop
 ports-written-loop-again t c =
-    (carried-step _ _ _ _ _ _ _ _ _ _ _ _ _ _ _ _ _ _ (c .before .before .before .before .before .before .before .before .before .before .every-port .ensures) _ (c .before .before .before .before .before .before .before .before .before .before .before .before .before .before .before .before .before .pre .1) _ _ _ _ _ _ (c .before .before .before .before .before .before .before .before .loop .inv) (c .before .before .before .before .before .before .before .loop-test .taken) _ _ (c .before .before .before .before .before .with-port .ensures) (c .before .before .before .before .port-word .ensures) (c .before .before .before .trees-written .ensures) (all-fit _ (λ j. c .before .slice-known2 .given j .fits)) (c .before .before .before .trees-written .kept .1 .1 .1 .1 .1 .0) (c .next-port .ensures)) .1
+    (carried-step _ _ _ _ _ _ _ _ _ _ _ _ _ _ _ _ _ (c .before .before .before .before .before .before .before .before .every-port .ensures) _ (c .before .before .before .before .before .before .before .before .before .before .before .before .before .before .before .pre .1) _ _ _ _ _ _ _ (c .before .before .before .before .before .before .loop .inv) (c .before .before .before .before .before .loop-test .taken) (c .before .before .before .before .port-word .ensures) (⊎-elim (λ w. record { digits′ = w .2 .result; digits-are = w .2 .ensures; wrote = wrote-as _ _ _ _ _ _ _ _ _ _ _ _ _ _ _ _ _ _ _ _ (w .7) (w .8) record { found = w .3 .result; gives = w .3 .ensures .0; joined = w .6 .ensures; writes = w .3 .ensures .1; fit = all-fit _ (λ j. w .5 .given j .fits); long = w .3 .kept .1 .1 .1 .1 .1 .0 } }) (λ w. record { digits′ = _; digits-are = refl; wrote = wrote-as _ _ _ _ _ _ _ _ _ _ _ _ _ _ _ _ _ _ _ _ (w .4) (w .5) (let g = untouched-moved _ _ _ _ _ _ _ _ _ _ _ _ _ _ _ (c .before .before .before .uses-at .ensures) (sym (c .before .before .meet .ensures) ∙ w .0 .left) _ (gives-untouched _ _ _ _ _ _ _ _ _ _ _ _ _ _ _ _ (w .2 .ensures .0) (c .before .before .before .uses-at .ensures) _ (sym (c .before .before .meet .ensures) ∙ w .0 .left) refl (w .2 .ensures .1) (w .2 .ensures .2)) in record { found = w .2 .result; gives = g .0; joined = w .3 .ensures; writes = g .1; fit = c .before .before .before .before .before .before .loop .inv .fit; long = refl }) }) (c .before .if1 .came)) (c .next-port .ensures)) .1
 
 ports-written-same-length : (t : ℕ) → ports-written-lts.Need-same-length (ports-written-claims t) (ports-written-at t) ports-written.Post ports-written-Inv-loop ports-written-μ-loop
 ports-written-same-length t c =
@@ -269,7 +293,7 @@ ports-written-same-length t c =
 
 ports-written-returns : (t : ℕ) → ports-written-lts.Need-returns (ports-written-claims t) (ports-written-at t) ports-written.Post ports-written-Inv-loop ports-written-μ-loop
 ports-written-returns t c =
-    all-carried _ _ _ _ _ _ _ _ _ _ _ _ _ _ _ _ _ _ _ _ _ _ (c .before .loop .inv) (c .loop-test .left)
+    all-carried _ _ _ _ _ _ _ _ _ _ _ _ _ _ _ _ _ _ _ _ _ (c .before .loop .inv) (c .loop-test .left)
 
 abbrev trees-written-Inv-loop : trees-written-lts.InvT-loop
 trees-written-Inv-loop table firsts ends uses masks cells₀ ports sets c i until depth place digits word add sum₀ j₀ cells sum j =
@@ -370,11 +394,17 @@ pub +cell-written+ports-written+trees-written-spec : {M : Type 1} → statement 
     (ports-written-every-port-requires t)
     (ports-written-first-port-requires t)
     (ports-written-loop-holds t)
-    (ports-written-add-trees-written t)
-    (ports-written-add-trees-written-2 t)
-    (ports-written-with-port-requires t)
     (ports-written-port-word-requires t)
-    (ports-written-trees-written-requires t)
+    (ports-written-uses-at-requires t)
+    (ports-written-meet-requires t)
+    (ports-written-add-cell-written t)
+    (ports-written-add-cell-written-2 t)
+    (ports-written-with-port-requires t)
+    (ports-written-cell-written-requires t)
+    (ports-written-join-requires t)
+    (ports-written-add-kept t)
+    (ports-written-kept-requires t)
+    (ports-written-join-requires-2 t)
     (ports-written-next-port-requires t)
     (ports-written-loop-less t)
     (ports-written-loop-again t)

@@ -79,7 +79,7 @@ cell-after-claims t = (cell-at-reads.Asked, cell-at-reads.Learnt, uses-at-reads.
 
 -- what the callees of `ports-after` ask and give
 abbrev ports-after-claims : ℕ → ports-after-lts.Claims
-ports-after-claims t = (every-port-reads.Asked, every-port-reads.Learnt, first-port-reads.Asked, first-port-reads.Learnt, with-port-reads.Asked, with-port-reads.Learnt, port-word-reads.Asked, port-word-reads.Learnt, trees-after-below t, trees-after.Post, next-port-reads.Asked, next-port-reads.Learnt)
+ports-after-claims t = (every-port-reads.Asked, every-port-reads.Learnt, first-port-reads.Asked, first-port-reads.Learnt, port-word-reads.Asked, port-word-reads.Learnt, uses-at-reads.Asked, uses-at-reads.Learnt, meet-reads.Asked, meet-reads.Learnt, with-port-reads.Asked, with-port-reads.Learnt, cell-after-below t, cell-after.Post, join-reads.Asked, join-reads.Learnt, kept-reads.Asked, kept-reads.Learnt, next-port-reads.Asked, next-port-reads.Learnt)
 
 -- what the callees of `trees-after` ask and give
 abbrev trees-after-claims : ℕ → trees-after-lts.Claims
@@ -174,11 +174,11 @@ cell-after-returns-4 t c =
     gives-trees _ _ _ _ _ _ _ _ _ _ _ _ _ _ _ _ (c .before .before .before .before .before .before .before .before .before .before .before .before .cell-at .ensures) (c .before .before .before .before .before .before .before .before .before .before .before .uses-at .ensures) _ (sym (c .before .before .before .before .before .before .before .before .before .before .meet .ensures) ∙ not-false _ (c .before .before .before .before .before .before .before .before .before .if1 .left)) (c .before .before .before .before .before .before .before .before .kind-at .ensures) _ _ _ _ _ (c .before .before .before .before .end-at .ensures) (c .before .before .before .before .before .before .adds-of .ensures) (c .before .before .before .before .before .before .before .if2 .left) (c .before .before .before .before .before .begin .ensures) (c .close3 .ensures) (sym (c .before .before .before .is-quantifier .ensures) ∙ c .before .before .if3 .left) (c .before .trees-after .ensures)
 
 abbrev ports-after-Inv-loop : ports-after-lts.InvT-loop
-ports-after-Inv-loop table firsts ends uses masks cells ports sets c i until depth row digits word used add all sum₀ x₀ sum x =
-    Passed ports sets c table firsts ends uses masks cells i until depth row digits word used all add sum₀ x sum
+ports-after-Inv-loop table firsts ends uses masks cells ports sets c i depth row digits word used add all sum₀ x₀ sum x =
+    Passed ports sets c table firsts ends uses masks cells i depth row digits word used all add sum₀ x sum
 
 abbrev ports-after-μ-loop : ports-after-lts.MeasureT-loop
-ports-after-μ-loop table firsts ends uses masks cells ports sets c i until depth row digits word used add all sum₀ x₀ sum x =
+ports-after-μ-loop table firsts ends uses masks cells ports sets c i depth row digits word used add all sum₀ x₀ sum x =
     ports - x
 
 ports-after-every-port-requires : (t : ℕ) → ports-after-lts.Need-every-port-requires (ports-after-claims t) (ports-after-at t) ports-after.Post ports-after-Inv-loop ports-after-μ-loop
@@ -191,43 +191,67 @@ ports-after-first-port-requires t c κs =
 
 ports-after-loop-holds : (t : ℕ) → ports-after-lts.Need-loop-holds (ports-after-claims t) (ports-after-at t) ports-after.Post ports-after-Inv-loop ports-after-μ-loop
 ports-after-loop-holds t c =
-    ports-start _ _ _ _ _ _ _ _ _ _ _ _ _ _ _ _ _ _ (c .before .every-port .ensures) _ (c .before .before .before .before .before .before .before .before .pre .1) _ (c .first-port .ensures)
-
-ports-after-add-trees-after : (t : ℕ) → ports-after-lts.Need-add-trees-after (ports-after-claims t) (ports-after-at t) ports-after.Post ports-after-Inv-loop ports-after-μ-loop
-ports-after-add-trees-after t c =
-    omega (arith, c .before .before .before .before .before .before .before .before .before .before .pre .1 .visit .depth)
-
-ports-after-add-trees-after-2 : (t : ℕ) → ports-after-lts.Need-add-trees-after-2 (ports-after-claims t) (ports-after-at t) ports-after.Post ports-after-Inv-loop ports-after-μ-loop
-ports-after-add-trees-after-2 t c =
-    record { fits = row-fits _ _ _ _ _ _ _ _ _ _ _ _ _ _ _ _ _ (c .before .before .before .before .before .before .before .before .before .before .pre .1) _ (c .loop-test .taken) }
-
-ports-after-with-port-requires : (t : ℕ) → ports-after-lts.Need-with-port-requires (ports-after-claims t) (ports-after-at t) ports-after.Post ports-after-Inv-loop ports-after-μ-loop
-ports-after-with-port-requires t c κs =
-    digits-ready _ _ _ _ _ _ _ _ _ _ _ _ _ _ _ _ _ (c .before .before .before .before .before .before .before .before .before .before .pre .1) _ (c .loop-test .taken)
+    ports-start _ _ _ _ _ _ _ _ _ _ _ _ _ _ _ _ _ (c .before .every-port .ensures) _ (c .before .before .before .before .before .before .before .before .pre .1) _ (c .first-port .ensures)
 
 ports-after-port-word-requires : (t : ℕ) → ports-after-lts.Need-port-word-requires (ports-after-claims t) (ports-after-at t) ports-after.Post ports-after-Inv-loop ports-after-μ-loop
 ports-after-port-word-requires t c κs =
     search needs
 
-ports-after-trees-after-requires : (t : ℕ) → ports-after-lts.Need-trees-after-requires (ports-after-claims t) (ports-after-at t) ports-after.Post ports-after-Inv-loop ports-after-μ-loop
-ports-after-trees-after-requires t c κs =
-    (omega (arith, c .before .before .before .before .before .before .before .before .before .before .before .before .pre .0), port-ready _ _ _ _ _ _ _ _ _ _ _ _ _ _ _ _ _ _ _ (c .before .before .before .before .before .before .before .before .before .before .before .before .pre .1) _ _ _ (c .before .before .before .loop .inv .so) (c .before .before .loop-test .taken) (c .before .with-port .ensures) (c .port-word .ensures))
+ports-after-uses-at-requires : (t : ℕ) → ports-after-lts.Need-uses-at-requires (ports-after-claims t) (ports-after-at t) ports-after.Post ports-after-Inv-loop ports-after-μ-loop
+ports-after-uses-at-requires t c κs =
+    uses-room _ _ _ _ _ _ _ _ _ _ _ _ _ _ (port-ready _ _ _ _ _ _ _ _ _ _ _ _ _ _ _ _ (c .before .before .before .before .before .before .before .before .before .before .before .pre .1) _ _ _ (c .before .loop-test .taken) refl (c .port-word .ensures))
+
+ports-after-meet-requires : (t : ℕ) → ports-after-lts.Need-meet-requires (ports-after-claims t) (ports-after-at t) ports-after.Post ports-after-Inv-loop ports-after-μ-loop
+ports-after-meet-requires t c κs =
+    search needs
+
+ports-after-add-cell-after : (t : ℕ) → ports-after-lts.Need-add-cell-after (ports-after-claims t) (ports-after-at t) ports-after.Post ports-after-Inv-loop ports-after-μ-loop
+ports-after-add-cell-after t c =
+    omega (arith, c .before .before .before .before .before .before .before .before .before .before .before .before .before .before .pre .1 .visit .depth)
+
+ports-after-add-cell-after-2 : (t : ℕ) → ports-after-lts.Need-add-cell-after-2 (ports-after-claims t) (ports-after-at t) ports-after.Post ports-after-Inv-loop ports-after-μ-loop
+ports-after-add-cell-after-2 t c =
+    record { fits = row-fits _ _ _ _ _ _ _ _ _ _ _ _ _ _ _ _ (c .before .before .before .before .before .before .before .before .before .before .before .before .before .before .pre .1) _ (c .before .before .before .before .loop-test .taken) }
+
+ports-after-with-port-requires : (t : ℕ) → ports-after-lts.Need-with-port-requires (ports-after-claims t) (ports-after-at t) ports-after.Post ports-after-Inv-loop ports-after-μ-loop
+ports-after-with-port-requires t c κs =
+    digits-ready _ _ _ _ _ _ _ _ _ _ _ _ _ _ _ _ (c .before .before .before .before .before .before .before .before .before .before .before .before .before .before .pre .1) _ (c .before .before .before .before .loop-test .taken)
+
+ports-after-cell-after-requires : (t : ℕ) → ports-after-lts.Need-cell-after-requires (ports-after-claims t) (ports-after-at t) ports-after.Post ports-after-Inv-loop ports-after-μ-loop
+ports-after-cell-after-requires t c κs =
+    (omega (arith, c .before .before .before .before .before .before .before .before .before .before .before .before .before .before .before .pre .0), port-ready _ _ _ _ _ _ _ _ _ _ _ _ _ _ _ _ (c .before .before .before .before .before .before .before .before .before .before .before .before .before .before .before .pre .1) _ _ _ (c .before .before .before .before .before .loop-test .taken) (c .with-port .ensures) (c .before .before .before .before .port-word .ensures))
+
+ports-after-join-requires : (t : ℕ) → ports-after-lts.Need-join-requires (ports-after-claims t) (ports-after-at t) ports-after.Post ports-after-Inv-loop ports-after-μ-loop
+ports-after-join-requires t c κs =
+    search needs
+
+ports-after-add-kept : (t : ℕ) → ports-after-lts.Need-add-kept (ports-after-claims t) (ports-after-at t) ports-after.Post ports-after-Inv-loop ports-after-μ-loop
+ports-after-add-kept t c =
+    record { fits = row-fits _ _ _ _ _ _ _ _ _ _ _ _ _ _ _ _ (c .before .before .before .before .before .before .before .before .before .before .before .before .before .before .pre .1) _ (c .before .before .before .before .loop-test .taken) }
+
+ports-after-kept-requires : (t : ℕ) → ports-after-lts.Need-kept-requires (ports-after-claims t) (ports-after-at t) ports-after.Post ports-after-Inv-loop ports-after-μ-loop
+ports-after-kept-requires t c κs =
+    let r = port-ready _ _ _ _ _ _ _ _ _ _ _ _ _ _ _ _ (c .before .before .before .before .before .before .before .before .before .before .before .before .before .before .pre .1) _ _ _ (c .before .before .before .before .loop-test .taken) refl (c .before .before .before .port-word .ensures) in (firsts-room _ _ _ _ _ _ _ _ _ _ _ _ _ _ r, cell-room _ _ _ _ _ _ _ _ _ _ _ _ _ _ r)
+
+ports-after-join-requires-2 : (t : ℕ) → ports-after-lts.Need-join-requires-2 (ports-after-claims t) (ports-after-at t) ports-after.Post ports-after-Inv-loop ports-after-μ-loop
+ports-after-join-requires-2 t c κs =
+    search needs
 
 ports-after-next-port-requires : (t : ℕ) → ports-after-lts.Need-next-port-requires (ports-after-claims t) (ports-after-at t) ports-after.Post ports-after-Inv-loop ports-after-μ-loop
 ports-after-next-port-requires t c κs =
-    c .before .before .before .loop-test .taken
+    c .before .before .before .before .loop-test .taken
 
 ports-after-loop-less : (t : ℕ) → ports-after-lts.Need-loop-less (ports-after-claims t) (ports-after-at t) ports-after.Post ports-after-Inv-loop ports-after-μ-loop
 ports-after-loop-less t c =
-    let s = ports-step _ _ _ _ _ _ _ _ _ _ _ _ _ _ _ _ _ _ (c .before .before .before .before .before .before .before .every-port .ensures) _ (c .before .before .before .before .before .before .before .before .before .before .before .before .before .before .pre .1) _ _ _ _ (c .before .before .before .before .before .loop .inv) (c .before .before .before .before .loop-test .taken) (ports-next _ _ _ _ _ _ _ _ _ _ _ _ _ _ _ _ _ _ _ _ _ _ _ (c .before .before .before .before .loop-test .taken) (c .before .before .before .with-port .ensures) (c .before .before .port-word .ensures) (c .before .before .before .before .before .loop .inv .so) (c .before .trees-after .ensures)) (c .next-port .ensures) in omega (arith, s .0, c .before .before .before .before .loop-test .taken)
+    let s = ports-step _ _ _ _ _ _ _ _ _ _ _ _ _ _ _ _ _ (c .before .before .before .before .before .before .before .before .every-port .ensures) _ (c .before .before .before .before .before .before .before .before .before .before .before .before .before .before .before .pre .1) _ _ _ _ (c .before .before .before .before .before .before .loop .inv) (c .before .before .before .before .before .loop-test .taken) (ports-next _ _ _ _ _ _ _ _ _ _ _ _ _ _ _ _ _ _ _ _ _ (c .before .before .before .before .before .loop-test .taken) (c .before .before .before .before .port-word .ensures) (c .before .before .before .before .before .before .loop .inv .so) (⊎-elim (λ w. record { digits′ = w .1 .result; digits-are = w .1 .ensures; found = w .2 .result; gives = w .2 .ensures; joined = subst (λ (x : Sum). Joined _ _ (w .2 .result) x) (sym (w .4)) (w .3 .ensures) }) (λ w. record { digits′ = _; digits-are = refl; found = w .1 .result; gives = gives-untouched _ _ _ _ _ _ _ _ _ _ _ _ _ _ _ _ (w .1 .ensures .0) (c .before .before .before .uses-at .ensures) _ (sym (c .before .before .meet .ensures) ∙ w .0 .left) refl (w .1 .ensures .1) (w .1 .ensures .2); joined = subst (λ (x : Sum). Joined _ _ (w .1 .result) x) (sym (w .3)) (w .2 .ensures) }) (c .before .if1 .came))) (c .next-port .ensures) in omega (arith, s .0, c .before .before .before .before .before .loop-test .taken)
 
 ports-after-loop-again : (t : ℕ) → ports-after-lts.Need-loop-again (ports-after-claims t) (ports-after-at t) ports-after.Post ports-after-Inv-loop ports-after-μ-loop
 ports-after-loop-again t c =
-    (ports-step _ _ _ _ _ _ _ _ _ _ _ _ _ _ _ _ _ _ (c .before .before .before .before .before .before .before .every-port .ensures) _ (c .before .before .before .before .before .before .before .before .before .before .before .before .before .before .pre .1) _ _ _ _ (c .before .before .before .before .before .loop .inv) (c .before .before .before .before .loop-test .taken) (ports-next _ _ _ _ _ _ _ _ _ _ _ _ _ _ _ _ _ _ _ _ _ _ _ (c .before .before .before .before .loop-test .taken) (c .before .before .before .with-port .ensures) (c .before .before .port-word .ensures) (c .before .before .before .before .before .loop .inv .so) (c .before .trees-after .ensures)) (c .next-port .ensures)) .1
+    (ports-step _ _ _ _ _ _ _ _ _ _ _ _ _ _ _ _ _ (c .before .before .before .before .before .before .before .before .every-port .ensures) _ (c .before .before .before .before .before .before .before .before .before .before .before .before .before .before .before .pre .1) _ _ _ _ (c .before .before .before .before .before .before .loop .inv) (c .before .before .before .before .before .loop-test .taken) (ports-next _ _ _ _ _ _ _ _ _ _ _ _ _ _ _ _ _ _ _ _ _ (c .before .before .before .before .before .loop-test .taken) (c .before .before .before .before .port-word .ensures) (c .before .before .before .before .before .before .loop .inv .so) (⊎-elim (λ w. record { digits′ = w .1 .result; digits-are = w .1 .ensures; found = w .2 .result; gives = w .2 .ensures; joined = subst (λ (x : Sum). Joined _ _ (w .2 .result) x) (sym (w .4)) (w .3 .ensures) }) (λ w. record { digits′ = _; digits-are = refl; found = w .1 .result; gives = gives-untouched _ _ _ _ _ _ _ _ _ _ _ _ _ _ _ _ (w .1 .ensures .0) (c .before .before .before .uses-at .ensures) _ (sym (c .before .before .meet .ensures) ∙ w .0 .left) refl (w .1 .ensures .1) (w .1 .ensures .2); joined = subst (λ (x : Sum). Joined _ _ (w .1 .result) x) (sym (w .3)) (w .2 .ensures) }) (c .before .if1 .came))) (c .next-port .ensures)) .1
 
 ports-after-returns : (t : ℕ) → ports-after-lts.Need-returns (ports-after-claims t) (ports-after-at t) ports-after.Post ports-after-Inv-loop ports-after-μ-loop
 ports-after-returns t c =
-    finished _ _ _ _ _ _ _ _ _ _ _ _ _ _ _ _ _ _ _ _ _ (c .before .loop .inv) (c .loop-test .left)
+    finished _ _ _ _ _ _ _ _ _ _ _ _ _ _ _ _ _ _ _ _ (c .before .loop .inv) (c .loop-test .left)
 
 abbrev trees-after-Inv-loop : trees-after-lts.InvT-loop
 trees-after-Inv-loop table firsts ends uses masks cells ports sets c i until depth place digits word add sum₀ j₀ sum j =
@@ -317,11 +341,17 @@ pub +cell-after+ports-after+trees-after-spec : {M : Type 1} → statement M
     (ports-after-every-port-requires t)
     (ports-after-first-port-requires t)
     (ports-after-loop-holds t)
-    (ports-after-add-trees-after t)
-    (ports-after-add-trees-after-2 t)
-    (ports-after-with-port-requires t)
     (ports-after-port-word-requires t)
-    (ports-after-trees-after-requires t)
+    (ports-after-uses-at-requires t)
+    (ports-after-meet-requires t)
+    (ports-after-add-cell-after t)
+    (ports-after-add-cell-after-2 t)
+    (ports-after-with-port-requires t)
+    (ports-after-cell-after-requires t)
+    (ports-after-join-requires t)
+    (ports-after-add-kept t)
+    (ports-after-kept-requires t)
+    (ports-after-join-requires-2 t)
     (ports-after-next-port-requires t)
     (ports-after-loop-less t)
     (ports-after-loop-again t)
