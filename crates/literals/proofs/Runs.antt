@@ -69,18 +69,23 @@ pub one-more-first : (f : ℕ → ℕ) (w : ℕ) (xs cells : List ℕ) (n v : �
     → Written f 0 w xs (set cells n v) (n + 1)
 one-more-first f w xs cells n v i l h e = rw zero-add at (one-more f 0 w xs cells n v i l (omega arith) e)
 
--- a run of one value, f's at each of its places
-pub run-more : (f : ℕ → ℕ) (w n len v : ℕ) (xs cells after : List ℕ) → Written f 0 w xs cells n → n + len ≤ w → w ≤ length xs
-    → ((i : ℕ) → i < len → v ≡ f (n + i)) → after ≡ written (λ _. v) n len cells → Written f 0 w xs after (n + len)
-run-more f w n len v xs cells after i l h e a =
+-- n cells on to the first ones, f's at each of their places
+pub part-more : (f g : ℕ → ℕ) (w n len : ℕ) (xs cells after : List ℕ) → Written f 0 w xs cells n → n + len ≤ w → w ≤ length xs
+    → ((i : ℕ) → i < len → g i ≡ f (n + i)) → after ≡ written g n len cells → Written f 0 w xs after (n + len)
+part-more f g w n len xs cells after i l h e a =
     let c : cells ≡ tabulate n f ++ drop n xs = i .is ∙ from-first f n xs in
     let t : take n cells ≡ tabulate n f = ap (take n) c ∙ take-at (tabulate n f) (drop n xs) n (length-tabulate n f) in
     let d : drop (n + len) cells ≡ drop (n + len) xs =
     sym (drop-drop len n cells) ∙ ap (drop len) (ap (drop n) c ∙ drop-at (tabulate n f) (drop n xs) n (length-tabulate n f)) ∙ drop-drop len n xs in
     record {
       within = l;
-      same-length = ap length a ∙ length-written (λ _. v) n len cells (omega (arith, i .same-length)) ∙ i .same-length;
+      same-length = ap length a ∙ length-written g n len cells (omega (arith, i .same-length)) ∙ i .same-length;
       is =
-          a ∙ rw (t, d, tabulate-cong len (λ _. v) (λ j. f (n + j)) e) (sym (append-assoc (tabulate n f) (tabulate len (λ j. f (n + j))) (drop (n + len) xs)))
+          a ∙ rw (t, d, tabulate-cong len g (λ j. f (n + j)) e) (sym (append-assoc (tabulate n f) (tabulate len (λ j. f (n + j))) (drop (n + len) xs)))
           ∙ ap (λ (k : List ℕ). k ++ drop (n + len) xs) (sym (tabulate-add n len f)) ∙ sym (from-first f (n + len) xs);
     }
+
+-- a run of one value
+pub run-more : (f : ℕ → ℕ) (w n len v : ℕ) (xs cells after : List ℕ) → Written f 0 w xs cells n → n + len ≤ w → w ≤ length xs
+    → ((i : ℕ) → i < len → v ≡ f (n + i)) → after ≡ written (λ _. v) n len cells → Written f 0 w xs after (n + len)
+run-more f w n len v = part-more f (λ _. v) w n len

@@ -1,11 +1,12 @@
 -- The port of a variable from cell to cell, and what the loops over cells ask: internal to the crate.
 use mathlib.Core.Path.{_≡_}
 use mathlib.Core.Bool.{Bool, cond, not}
-use mathlib.Core.List.{List}
-use Prim.Native.Nat.{ℕ, _+_, _-_, _/_, _%_, _^_, _≤_}
+use mathlib.Core.List.{List, _++_}
+use Prim.Native.Nat.{ℕ, _+_, _-_, _/_, _%_, _^_, _≤_, _<_, min}
 use lib.Dec.{eqb}
-use lib.ListN.{length}
+use lib.ListN.{length, getD, drop}
 use Rattle.esol.specs.Configuration.{indicator}
+use Rattle.esol.specs.Cells.{tabulate}
 use Rattle.literals.specs.declared.Digit.{Digit}
 
 -- "the outermost variable counting most": the port of variable v in the t-th tuple stays for as many cells as the variables
@@ -32,3 +33,13 @@ pub record RunsPlaced (ports block width : ℕ) (cells : List ℕ) : Type 0 wher
   pub block1 : 1 ≤ block
   pub whole : width % block ≡ 0
   pub room : width ≤ length cells
+
+-- The first `period` cells again and again, up to `width`.
+unfoldable pub repeated : ℕ → ℕ → List ℕ → List ℕ
+repeated period width l = tabulate width (λ t. getD l (t % period) 0) ++ drop width l
+
+-- So many cells that the port at each of the first `width` is that at one of them, in turn.
+pub record Round (ports block width r : ℕ) : Type 0 where
+  pub some : min 1 width ≤ r
+  pub within : r ≤ width
+  pub again : (t : ℕ) → t < width → digitAt ports block t ≡ digitAt ports block (t % r)

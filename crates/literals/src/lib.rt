@@ -7,14 +7,14 @@ use plan::wide;
 ghost use mathlib.Core.Path.{_≡_};
 ghost use mathlib.Core.Bool.{not};
 ghost use mathlib.Core.List.{_++_};
-ghost use Prim.Native.Nat.{ℕ, _+_, _%_, _^_, _≤_, _<_};
+ghost use Prim.Native.Nat.{ℕ, _+_, _%_, _^_, _≤_, _<_, min};
 ghost use lib.ListN.{length, getD, take, drop};
 ghost use Rattle.esol.specs.Formula.{relationOf};
 ghost use Rattle.esol.specs.Configuration.{indicator, portsIn, inMask, configuration, inMasks};
 ghost use Rattle.esol.specs.Penalty.{compare, sizePenalty, literalPenalty};
 ghost use Rattle.esol.specs.Cells.{tupleAt, tabulate};
 ghost use Rattle.literals.specs.Literal.{literalOf, LiteralPlaced};
-ghost use Rattle.literals.specs.Ports.{blockOf, digitAt, DigitIs, memberPenalty, RunsPlaced};
+ghost use Rattle.literals.specs.Ports.{blockOf, digitAt, DigitIs, memberPenalty, RunsPlaced, repeated, Round};
 
 // The port of a variable at a cell, and how many cells are left before it changes.
 struct Digit {
@@ -102,18 +102,73 @@ fn member_penalty(kind: u8, mask: u64, p: u32) -> u32
     1
 }
 
-// The cells of kinds 5 and 6: the variable's port stays the same over a run of cells.
-fn put_members(kind: u8, mask: u64, ports: u32, block: usize, width: usize, cells: &mut [u32])
+fn lesser(a: usize, b: usize) -> usize
+    ensures { λ r. ⌜ r ≡ min a b ⌝ }
+{
+    if a <= b {
+        return a;
+    }
+    b
+}
+
+// Copies the first `len` cells to place `to`, behind them.
+fn copy_first(to: usize, len: usize, cells: &mut [u32])
+    requires { ⌜ (len ≤ to) × (to + len ≤ length (now cells)) ⌝ }
+    ensures { λ _. ⌜ now (cells .exit) ≡ take to (now (cells .entry)) ++ (take len (now (cells .entry)) ++ drop (to + len) (now (cells .entry))) ⌝ }
+{
+    let mut i = 0;
+    while i < len {
+        cells[to + i] = cells[i];
+        i += 1;
+    }
+}
+
+// Repeats the first `period` cells up to `width`. All that is there is copied at once, so that a short period costs few calls.
+fn repeat_first(period: usize, width: usize, cells: &mut [u32])
+    requires { ⌜ (min 1 width ≤ period) × (period ≤ width) × (width ≤ length (now cells)) ⌝ }
+    ensures { λ _. ⌜ now (cells .exit) ≡ repeated period width (now (cells .entry)) ⌝ }
+{
+    let mut t = period;
+    while t < width {
+        let len = lesser(t, width - t);
+        copy_first(t, len, cells);
+        t += len;
+    }
+}
+
+// The cells of kinds 5 and 6 for each port once, or as far as they go; says how many they are. The port stays the same over a
+// run of cells.
+fn put_round(
+    kind: u8,
+    mask: u64,
+    ports: u32,
+    block: usize,
+    width: usize,
+    cells: &mut [u32],
+) -> usize
     requires { ⌜ RunsPlaced ports block width (now cells) ⌝ }
-    ensures { λ _. ⌜ now (cells .exit) ≡ tabulate width (λ t. memberPenalty kind (inMask mask (digitAt ports block t))) ++ drop width (now (cells .entry)) ⌝ }
+    ensures { λ r. ⌜ Round ports block width r × (now (cells .exit) ≡ tabulate r (λ t. memberPenalty kind (inMask mask (digitAt ports block t))) ++ drop r (now (cells .entry))) ⌝ }
 {
     let mut t = 0;
     let mut port = 0;
     while t < width {
+        if port == ports {
+            return t;
+        }
         put_run(t, block, member_penalty(kind, mask, port), cells);
         t += block;
-        port = next_port(port, ports);
+        port += 1;
     }
+    t
+}
+
+// The cells of kinds 5 and 6: after the last port they are the same again.
+fn put_members(kind: u8, mask: u64, ports: u32, block: usize, width: usize, cells: &mut [u32])
+    requires { ⌜ RunsPlaced ports block width (now cells) ⌝ }
+    ensures { λ _. ⌜ now (cells .exit) ≡ tabulate width (λ t. memberPenalty kind (inMask mask (digitAt ports block t))) ++ drop width (now (cells .entry)) ⌝ }
+{
+    let period = put_round(kind, mask, ports, block, width, cells);
+    repeat_first(period, width, cells);
 }
 
 // 0 if a stands to b in the relation, else 1.

@@ -55,6 +55,11 @@ gather-next join x from p r v l h e q =
     ∙ ap (joinAll join x) (sym (take-suc (drop from l) p 0 (rw (length-drop from l) (omega arith))))
     ∙ ap (λ (m : ℕ). joinAll join x (take m (drop from l))) (sym (add-one p))
 
+-- one cell alone
+pub join-one : (join x i : ℕ) (l : List ℕ) → i < length l → meet join x (getD l i 0) ≡ joinAll join x (take 1 (drop i l))
+unfolding joinAll
+join-one join x i l h = rw (drop-cons l i 0 h)
+
 pub row-within : (t over s : ℕ) → t < over → t * s + s ≤ over * s
 row-within t over s h = rw (← (suc-mul t s)) (mul-le-mul-right s h)
 

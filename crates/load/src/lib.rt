@@ -72,11 +72,28 @@ fn gather(join: u8, x: u32, from: usize, s: usize, cells: &[u32]) -> u32
     r
 }
 
+// Joins to each of the first `over` cells the one below it, from place `at` on. With no loop for each cell the compiler makes
+// vector instructions of it.
+fn merge_row(join: u8, over: usize, at: usize, cells: &mut [u32])
+    requires { ⌜ (over ≤ at) × (at + over ≤ length (now cells)) ⌝ }
+    ensures { λ _. ⌜ now (cells .exit) ≡ merged join over 1 at (now (cells .entry)) ⌝ }
+{
+    let mut t = 0;
+    while t < over {
+        cells[t] = meet_of(join, cells[t], cells[at + t]);
+        t += 1;
+    }
+}
+
 // Joins to each of the first `over` cells the s cells below it, which stand from place `at` on.
 fn merge(join: u8, over: usize, s: usize, at: usize, cells: &mut [u32])
     requires { ⌜ (over ≤ at) × (at + over * s ≤ length (now cells)) ⌝ }
     ensures { λ _. ⌜ now (cells .exit) ≡ merged join over s at (now (cells .entry)) ⌝ }
 {
+    if s == 1 {
+        merge_row(join, over, at, cells);
+        return;
+    }
     let mut t = 0;
     let mut from = at;
     while t < over {

@@ -15,23 +15,24 @@ use Rattle.esol.specs.Formula.{Node, Forest, none, tree, kindNumber, nodeCount,
 use Rattle.esol.specs.Cells.{cellCount, siblingFirst}
 use Rattle.esol.proofs.Lists.{and-true}
 use Rattle.plan.specs.declared.Checked.{Checked}
+use Rattle.plan.specs.declared.CheckedTree.{CheckedTree}
 use Rattle.plan.specs.Bytes.{recordLength, kindField, relationField, aField, bField, parentField, endField, nodeOf, recordOf, records}
 use Rattle.plan.specs.Rules.{everyNode, treeCount, arityRule, mayNest, nestingRule, depthRule, innerRule, nodeRule}
 use Rattle.plan.specs.Index.{firstCells, ends, nodeUses, forestUses, usesTable}
 use Rattle.plan.specs.Decode.{forestOf}
-use Rattle.plan.specs.Check.{fieldRule, recordRule, FieldIs, kindDepth, kindWidth, kindUses, laid, Placed, Sound, Indexed, Judged}
+use Rattle.plan.specs.Check.{fieldRule, recordRule, FieldIs, kindDepth, kindWidth, kindUses, laid, Placed, Sound, Indexed, Judged, FirstRecord, EndJudged, FirstTree, TreeJudged}
 use Rattle.plan.proofs.Conjunctions.{two-true, four-true}
 use Rattle.plan.proofs.Parts.{childrenOf, siblingsOf, rest-all, length-rest-all, cancel-le, cancel-children, no-record, span-within, length-children, parts-join, first-below, children-below, siblings-below}
 use Rattle.plan.proofs.Bytes.{record-pos, kind-of-record, relation-of-record, a-of-record, b-of-record, parent-of-record, end-of-record, record-is}
 use Rattle.plan.proofs.Encoding.{length-records, children-part, siblings-part, forest-of-records}
 use Rattle.plan.proofs.Fields.{NodeIs, fields-node, node-fields, kind-depth, kind-depth-le, kind-width, kind-uses}
 
--- the records of node i's children and of its later siblings, where its tree ends at e, as the code lends them
+-- the records of node i's children, as the code lends them, and of its later siblings, where its tree ends at e
 abbrev pub kidsOf : List ℕ → ℕ → ℕ → List ℕ
 kidsOf l i e = childrenOf recordLength (e - i) l
 
 abbrev pub restOf : List ℕ → ℕ → ℕ → List ℕ
-restOf l i e = take (length l - recordLength * (e - i)) (siblingsOf recordLength (e - i) l)
+restOf l i e = siblingsOf recordLength (e - i) l
 
 -- What a sound part that is not empty begins with.
 pub record Opened (l : List ℕ) (i parent d sets above : ℕ) : Type 0 where
@@ -129,6 +130,13 @@ pub refuse : {l : List ℕ} {i parent d ports sets above first : ℕ} (r : Check
     → ((f : Forest) → Sound l i parent d sets above f → ⊥) → Judged l i parent d ports sets above first r x y z x′ y′ z′
 refuse r e h = record { accepts = λ q. absurd (false≢true (sym e ∙ q)); refuses = λ q f s. h f s }
 
+pub refuse-tree : {l : List ℕ} {i parent d ports sets above first : ℕ} (r : CheckedTree) {x y z x′ y′ z′ : List ℕ} → r .ok ≡ false
+    → ((f : Forest) → Sound l i parent d sets above f → ⊥) → TreeJudged l i parent d ports sets above first r x y z x′ y′ z′
+refuse-tree r e h = record { accepts = λ q. absurd (false≢true (sym e ∙ q)); refuses = λ q f s. h f s }
+
+pub refuse-end : {l : List ℕ} {i parent d sets above : ℕ} → ((f : Forest) → Sound l i parent d sets above f → ⊥) → EndJudged l i parent d sets above 0
+refuse-end h = record { accepts = λ q. absurd (q refl); refuses = λ q f s. h f s }
+
 module _ (l : List ℕ) (i parent d sets above : ℕ) (some : length l ≡ 0 → ⊥) where
   pub too-short : length l < recordLength → (f : Forest) → Sound l i parent d sets above f → ⊥
   too-short h f s = some (no-record recordLength record-pos (length l) (nodeCount f) (sound-length s) h)
@@ -143,34 +151,30 @@ module _ (l : List ℕ) (i parent d sets above : ℕ) (some : length l ≡ 0 →
     pub cut-short : length l < recordLength * (e - i) → (f : Forest) → Sound l i parent d sets above f → ⊥
     cut-short h f s = let o = opened f s some .long in omega (arith, ap (λ (x : ℕ). recordLength * (x - i)) en)
 
-    rest-is : restOf l i e ≡ siblingsOf recordLength (endField l - i) l
-    rest-is = rest-all (recordLength * (e - i)) l ∙ ap (λ (x : ℕ). siblingsOf recordLength (x - i) l) en
-
     rest-sound : (o : Opened l i parent d sets above) → Sound (restOf l i e) e parent d sets above (o .siblings)
     rest-sound o =
         let k = o .rest in
         record {
-          is = rest-is ∙ k .is ∙ ap (λ (x : ℕ). records (o .siblings) x parent) (sym en);
+          is = ap (restOf l i) en ∙ k .is ∙ ap (λ (x : ℕ). records (o .siblings) x parent) (sym en);
           rules = k .rules;
           nested = k .nested;
         }
 
-    module _ {ports first : ℕ} {r : Checked} {x y z x′ y′ z′ : List ℕ} (j : Judged (restOf l i e) e parent d ports sets above first r x y z x′ y′ z′) where
-      pub bad-rest : r .ok ≡ false → (f : Forest) → Sound l i parent d sets above f → ⊥
-      bad-rest q f s = let o = opened f s some in j .refuses q (o .siblings) (rest-sound o)
+    pub bad-rest : ((g : Forest) → Sound (restOf l i e) e parent d sets above g → ⊥) → (f : Forest) → Sound l i parent d sets above f → ⊥
+    bad-rest h f s = let o = opened f s some in h (o .siblings) (rest-sound o)
 
-    module _ (kind below : ℕ) (ki : kind ≡ kindField l) (bd : below ≡ kindDepth kind d) where
-      kids-sound : (o : Opened l i parent d sets above) → Sound (kidsOf l i e) (i + 1) i below sets kind (o .children)
+    module _ (kind : ℕ) (ki : kind ≡ kindField l) where
+      kids-sound : (o : Opened l i parent d sets above) → Sound (kidsOf l i e) (i + 1) i (kindDepth kind d) sets kind (o .children)
       kids-sound o =
           let k = o .kids in
-          let b : childDepth (o .node) d ≡ below = kind-depth sets d (o .node) (o .inner) ∙ ap (λ (x : ℕ). kindDepth x d) (sym (ki ∙ o .kind)) ∙ sym bd in
+          let b : childDepth (o .node) d ≡ kindDepth kind d = kind-depth sets d (o .node) (o .inner) ∙ ap (λ (x : ℕ). kindDepth x d) (sym (ki ∙ o .kind)) in
           record {
             is = ap (kidsOf l i) en ∙ k .is ∙ ap (λ (x : ℕ). records (o .children) x i) (sym (add-one i));
             rules = ap (everyNode (nodeRule sets) (o .children)) (sym b) ∙ k .rules;
             nested = ap (λ (x : ℕ). nestingRule x (o .children)) (ki ∙ o .kind) ∙ k .nested;
           }
 
-      module _ {ports first : ℕ} {r : Checked} {x y z x′ y′ z′ : List ℕ} (j : Judged (kidsOf l i e) (i + 1) i below ports sets kind first r x y z x′ y′ z′) where
+      module _ {ports first : ℕ} {r : Checked} {x y z x′ y′ z′ : List ℕ} (j : Judged (kidsOf l i e) (i + 1) i (kindDepth kind d) ports sets kind first r x y z x′ y′ z′) where
         pub bad-kids : r .ok ≡ false → (f : Forest) → Sound l i parent d sets above f → ⊥
         bad-kids q f s = let o = opened f s some in j .refuses q (o .children) (kids-sound o)
 
@@ -268,8 +272,7 @@ unfolding treeCount nodeCount
 trees-few none = omega arith
 trees-few (tree n c s) = omega (arith, trees-few s)
 
-module _ (l : List ℕ) (i parent d sets above e : ℕ) (long : recordLength ≤ length l) (rule : recordRule sets d above parent l ≡ true)
-    (en : FieldIs endField l e) (after : i < e) (within : recordLength * (e - i) ≤ length l) where
+module _ (l : List ℕ) (i parent d sets above e : ℕ) (h : FirstRecord l i parent d sets above e) where
   abbrev nodeHere : Node
   nodeHere = nodeOf (kindField l) (relationField l) (aField l) (bField l)
 
@@ -277,7 +280,7 @@ module _ (l : List ℕ) (i parent d sets above e : ℕ) (long : recordLength ≤
   pub rules-here : (fieldRule sets d (kindField l) (relationField l) (aField l) (bField l) ≡ true) × (depthRule d ≡ true)
       × (mayNest above (kindField l) ≡ true) × (eqb (parentField l) parent ≡ true)
   unfolding recordRule
-  rules-here = four-true (fieldRule sets d (kindField l) (relationField l) (aField l) (bField l)) (depthRule d) (mayNest above (kindField l)) (eqb (parentField l) parent) rule
+  rules-here = four-true (fieldRule sets d (kindField l) (relationField l) (aField l) (bField l)) (depthRule d) (mayNest above (kindField l)) (eqb (parentField l) parent) (h .rule)
 
   pub node-here : NodeIs sets d (kindField l) (relationField l) (aField l) (bField l) nodeHere
   node-here = fields-node sets d (kindField l) (relationField l) (aField l) (bField l) (rules-here .0)
@@ -286,112 +289,79 @@ module _ (l : List ℕ) (i parent d sets above e : ℕ) (long : recordLength ≤
   unfolding depthRule
   depth-here = leb-true d 3 (rules-here .1)
 
+  some-here : 1 ≤ e - i
+  some-here = omega (arith, h .after)
+
   -- the record is that of its node
-  pub record-here : l ≡ recordOf nodeHere parent e ++ drop recordLength l
+  record-here : l ≡ recordOf nodeHere parent e ++ drop recordLength l
   record-here =
       let n = node-here in
-      record-is nodeHere parent e l (en .bytes) long (sym (n .kind-is)) (sym (n .relation-is)) (sym (n .a-is)) (sym (n .b-is))
-      (eqb-true (parentField l) parent (rules-here .3)) (sym (en .is))
+      record-is nodeHere parent e l (h .end-is .bytes) (h .long) (sym (n .kind-is)) (sym (n .relation-is)) (sym (n .a-is)) (sym (n .b-is))
+      (eqb-true (parentField l) parent (rules-here .3)) (sym (h .end-is .is))
 
   pub length-kids : length (kidsOf l i e) ≡ recordLength * (e - i) - recordLength
-  length-kids = length-children recordLength record-pos (e - i) l within
+  length-kids = length-children recordLength record-pos (e - i) l (h .within)
 
-  pub length-rest : length (restOf l i e) ≡ length l - recordLength * (e - i)
-  length-rest = length-rest-all (recordLength * (e - i)) l
+  module _ (c : Forest) (kids : Sound (kidsOf l i e) (i + 1) i (kindDepth (kindField l) d) sets (kindField l) c) where
+    -- children that are records say where the tree ends
+    end-here : e ≡ i + suc (nodeCount c)
+    end-here =
+        let q = cancel-children recordLength record-pos (nodeCount c) (e - i) (sym (sound-length kids) ∙ length-kids) some-here in
+        omega (arith, h .after)
 
-  parts-here : drop recordLength l ≡ kidsOf l i e ++ restOf l i e
-  parts-here =
-      parts-join recordLength record-pos (e - i) l within (omega arith)
-      ∙ ap (λ (x : List ℕ). kidsOf l i e ++ x) (sym (rest-all (recordLength * (e - i)) l))
+    depth-below : kindDepth (kindField l) d ≡ childDepth nodeHere d
+    depth-below = ap (λ (x : ℕ). kindDepth x d) (sym (node-here .kind-is)) ∙ sym (kind-depth sets d nodeHere (node-here .inner))
 
-  -- children that are records say where the tree ends
-  pub end-of-kids : (below kind : ℕ) (c : Forest) → Sound (kidsOf l i e) (i + 1) i below sets kind c → e ≡ i + suc (nodeCount c)
-  end-of-kids below kind c kids =
-      let q = cancel-children recordLength record-pos (nodeCount c) (e - i) (sym (sound-length kids) ∙ length-kids) (omega arith) in
-      omega arith
+    uses-here : kindUses (kindField l) (aField l) (bField l) ≡ nodeUses nodeHere
+    uses-here = sym (kind-uses nodeHere ∙ (λ j. kindUses (node-here .kind-is j) (node-here .a-is j) (node-here .b-is j)))
 
-  module _ (below : ℕ) (bd : below ≡ kindDepth (kindField l) d) (c s : Forest) (kids : Sound (kidsOf l i e) (i + 1) i below sets (kindField l) c)
-      (rest : Sound (restOf l i e) e parent d sets above s) where
-    pub end-here : e ≡ i + suc (nodeCount c)
-    end-here = end-of-kids below (kindField l) c kids
-
-    pub depth-below : below ≡ childDepth nodeHere d
-    depth-below = bd ∙ ap (λ (x : ℕ). kindDepth x d) (sym (node-here .kind-is)) ∙ sym (kind-depth sets d nodeHere (node-here .inner))
-
-    pub tree-sound : arityRule (kindField l) (treeCount c) ≡ true → Sound l i parent d sets above (tree nodeHere c s)
-    unfolding records everyNode nodeRule nestingRule
-    tree-sound a =
+    -- what is then known of the first tree
+    first-tree : (ports width first : ℕ) (rc : Checked) (r : CheckedTree) (x y z x₁ y₁ z₁ x₂ y₂ z₂ : List ℕ) → width ≡ ports ^ d
+        → Indexed (i + 1) (kindDepth (kindField l) d) ports (first + width) c rc x y z x₁ y₁ z₁
+        → arityRule (kindField l) (treeCount c) ≡ true
+        → (x₂ ≡ set x₁ i first) × (y₂ ≡ set y₁ i e) × (z₂ ≡ set z₁ i (r .uses))
+        → e ≡ r .end → r .cells ≡ width + rc .cells → r .uses ≡ bitOr (kindUses (kindField l) (aField l) (bField l)) (rc .uses)
+        → FirstTree l i parent d ports sets above first r x y z x₂ y₂ z₂ nodeHere c
+    unfolding nodeRule
+    first-tree ports width first rc r x y z x₁ y₁ z₁ x₂ y₂ z₂ u jc a m en ce us =
         let k = node-here .kind-is in
         record {
           is = record-here
-              ∙ ap (λ (x : List ℕ). recordOf nodeHere parent e ++ x)
-              (parts-here ∙ ap₂ _++_ (kids .is ∙ ap (λ (x : ℕ). records c x i) (add-one i)) (rest .is))
-              ∙ ap (λ (x : ℕ). recordOf nodeHere parent x ++ (records c (suc i) i ++ records s x parent)) end-here;
-          rules = and-true _ _ (and-true _ _
-              (and-true _ _ (and-true _ _ (and-true _ _ (node-here .inner) (rules-here .1)) (ap (λ (x : ℕ). arityRule x (treeCount c)) k ∙ a))
-              (ap (λ (x : ℕ). nestingRule x c) k ∙ kids .nested))
-              (ap (everyNode (nodeRule sets) c) (sym depth-below) ∙ kids .rules)) (rest .rules);
-          nested = and-true _ _ (ap (mayNest above) k ∙ rules-here .2) (rest .nested);
-        }
-
-    -- what is then known of the whole part
-    pub tree-indexed : (ports width first : ℕ) (rc rs r : Checked) (x y z x₁ y₁ z₁ x₂ y₂ z₂ x₃ y₃ z₃ : List ℕ)
-        → Placed l i parent d ports sets width first x y z
-        → Indexed (i + 1) below ports (first + width) c rc x y z x₁ y₁ z₁
-        → (x₂ ≡ set x₁ i first) × (y₂ ≡ set y₁ i e) × (z₂ ≡ set z₁ i (bitOr (kindUses (kindField l) (aField l) (bField l)) (rc .uses)))
-        → Indexed e d ports (first + width + rc .cells) s rs x₂ y₂ z₂ x₃ y₃ z₃
-        → r .trees ≡ rs .trees + 1 → r .cells ≡ width + rc .cells + rs .cells
-        → r .uses ≡ bitOr (bitOr (kindUses (kindField l) (aField l) (bField l)) (rc .uses)) (rs .uses)
-        → Indexed i d ports first (tree nodeHere c s) r x y z x₃ y₃ z₃
-    unfolding treeCount cellCount forestUses firstCells ends usesTable siblingFirst
-    tree-indexed ports width first rc rs r x y z x₁ y₁ z₁ x₂ y₂ z₂ x₃ y₃ z₃ p jc m js tr ce us =
-        let u = p .width-is in
-        let k : kindUses (kindField l) (aField l) (bField l) ≡ nodeUses nodeHere =
-        sym (kind-uses nodeHere ∙ (λ j. kindUses (node-here .kind-is j) (node-here .a-is j) (node-here .b-is j))) in
-        let cc : rc .cells ≡ cellCount ports c (childDepth nodeHere d) = jc .cells ∙ ap (cellCount ports c) depth-below in
-        let fc : firstCells ports c (first + width) below ≡ firstCells ports c (first + ports ^ d) (childDepth nodeHere d) =
-        ap₂ (λ (a b : ℕ). firstCells ports c (first + a) b) u depth-below in
-        let fs : firstCells ports s (first + width + rc .cells) d ≡ firstCells ports s (first + ports ^ d + cellCount ports c (childDepth nodeHere d)) d =
-        ap₂ (λ (a b : ℕ). firstCells ports s (first + a + b) d) u cc in
-        let big : i < 512 = first-below recordLength record-pos i (length l) 512 long (p .few) in
-        record {
-          trees = tr ∙ ap (λ (a : ℕ). a + 1) (js .trees) ∙ add-one (treeCount s);
-          cells = ce ∙ (λ j. u j + cc j + js .cells j);
-          used = us ∙ (λ j. bitOr (bitOr (k j) (jc .used j)) (js .used j));
-          firsts-are = table-tree i e first (firstCells ports c (first + width) below) (firstCells ports s (first + width + rc .cells) d) x x₁ x₂ x₃
-              (omega (arith, end-here, length-firsts ports c (first + width) below)) (omega (arith, p .room-firsts)) (jc .firsts-are) (m .0) (js .firsts-are)
-              ∙ ap₂ (λ (a b : List ℕ). laid x i (first ∷ (a ++ b))) fc fs;
-          ends-are = table-tree i e e (ends c (i + 1)) (ends s e) y y₁ y₂ y₃
-              (omega (arith, end-here, length-ends c (i + 1))) (omega (arith, p .room-ends)) (jc .ends-are) (m .1) (js .ends-are)
-              ∙ (λ j. laid y i (end-here j ∷ (ends c (add-one i j) ++ ends s (end-here j))));
-          uses-are = table-tree i e (bitOr (kindUses (kindField l) (aField l) (bField l)) (rc .uses)) (usesTable c) (usesTable s) z z₁ z₂ z₃
-              (omega (arith, end-here, length-uses c)) (omega (arith, p .room-uses)) (jc .uses-are) (m .2) (js .uses-are)
-              ∙ (λ j. laid z i (bitOr (k j) (jc .used j) ∷ (usesTable c ++ usesTable s)));
+              ∙ ap (λ (t : List ℕ). recordOf nodeHere parent e ++ t)
+              (parts-join recordLength record-pos (e - i) l (h .within) some-here
+              ∙ ap (λ (t : List ℕ). t ++ restOf l i e) (kids .is ∙ ap (λ (j : ℕ). records c j i) (add-one i)))
+              ∙ (λ j. recordOf nodeHere parent (en j) ++ (records c (suc i) i ++ restOf l i (en j)));
+          within = subst (λ (w : ℕ). recordLength * (w - i) ≤ length l) en (h .within);
+          end-is = sym en ∙ end-here;
+          rules = and-true _ _ (and-true _ _ (and-true _ _ (node-here .inner) (rules-here .1)) (ap (λ (w : ℕ). arityRule w (treeCount c)) k ∙ a))
+              (ap (λ (w : ℕ). nestingRule w c) k ∙ kids .nested);
+          below = ap (everyNode (nodeRule sets) c) (sym depth-below) ∙ kids .rules;
+          nested = ap (mayNest above) k ∙ rules-here .2;
+          cells = ce ∙ ap₂ _+_ u (jc .cells ∙ ap (cellCount ports c) depth-below);
+          used = us ∙ ap₂ bitOr uses-here (jc .used);
+          firsts-are = m .0
+              ∙ ap (λ (t : List ℕ). set t i first)
+              (jc .firsts-are ∙ (λ j. laid x (add-one i j) (firstCells ports c (first + u j) (depth-below j))));
+          ends-are = m .1 ∙ ap₂ (λ (t : List ℕ) (w : ℕ). set t i w) (jc .ends-are ∙ (λ j. laid y (add-one i j) (ends c (add-one i j)))) en;
+          uses-are = m .2 ∙ ap (λ (t : List ℕ). set t i (r .uses)) (jc .uses-are ∙ ap (λ (j : ℕ). laid z j (usesTable c)) (add-one i));
         }
 
   -- the same over the numbers that the code reads
-  pub accept : (kind a b below ports width first used : ℕ) (ki : kind ≡ kindField l) (ai : a ≡ aField l) (bi : b ≡ bField l) (bd : below ≡ kindDepth kind d)
-      (rc rs r : Checked) (x y z x₁ y₁ z₁ x₂ y₂ z₂ x₃ y₃ z₃ : List ℕ)
-      → Placed l i parent d ports sets width first x y z
-      → Judged (kidsOf l i e) (i + 1) i below ports sets kind (first + width) rc x y z x₁ y₁ z₁ → rc .ok ≡ true
+  pub accept-tree : (kind a b ports width first : ℕ) (ki : kind ≡ kindField l) (ai : a ≡ aField l) (bi : b ≡ bField l)
+      (rc : Checked) (r : CheckedTree) (x y z x₁ y₁ z₁ x₂ y₂ z₂ : List ℕ) → width ≡ ports ^ d
+      → Judged (kidsOf l i e) (i + 1) i (kindDepth kind d) ports sets kind (first + width) rc x y z x₁ y₁ z₁ → rc .ok ≡ true
       → arityRule kind (rc .trees) ≡ true
-      → (x₂ ≡ set x₁ i first) × (y₂ ≡ set y₁ i e) × (z₂ ≡ set z₁ i used)
-      → used ≡ bitOr (kindUses kind a b) (rc .uses)
-      → Judged (restOf l i e) e parent d ports sets above (first + width + rc .cells) rs x₂ y₂ z₂ x₃ y₃ z₃ → rs .ok ≡ true
-      → r .ok ≡ true → r .trees ≡ rs .trees + 1 → r .cells ≡ width + rc .cells + rs .cells
-      → r .uses ≡ bitOr used (rs .uses)
-      → Judged l i parent d ports sets above first r x y z x₃ y₃ z₃
-  accept kind a b below ports width first used ki ai bi bd rc rs r x y z x₁ y₁ z₁ x₂ y₂ z₂ x₃ y₃ z₃ p jk ok ar m used-is jr ok′ good trees-are cells-are uses-are =
-      let kids = subst (λ (k : ℕ). Judged (kidsOf l i e) (i + 1) i below ports sets k (first + width) rc x y z x₁ y₁ z₁) ki jk .accepts ok in
-      let rest = jr .accepts ok′ in
-      let bd′ : below ≡ kindDepth (kindField l) d = bd ∙ ap (λ (k : ℕ). kindDepth k d) ki in
-      let used-here : used ≡ bitOr (kindUses (kindField l) (aField l) (bField l)) (rc .uses) = used-is ∙ (λ j. bitOr (kindUses (ki j) (ai j) (bi j)) (rc .uses)) in
+      → (x₂ ≡ set x₁ i first) × (y₂ ≡ set y₁ i e) × (z₂ ≡ set z₁ i (r .uses))
+      → r .ok ≡ true → e ≡ r .end → r .cells ≡ width + rc .cells → r .uses ≡ bitOr (kindUses kind a b) (rc .uses)
+      → TreeJudged l i parent d ports sets above first r x y z x₂ y₂ z₂
+  accept-tree kind a b ports width first ki ai bi rc r x y z x₁ y₁ z₁ x₂ y₂ z₂ u jk ok ar m good en cells-are uses-are =
+      let kids = subst (λ (k : ℕ). Judged (kidsOf l i e) (i + 1) i (kindDepth k d) ports sets k (first + width) rc x y z x₁ y₁ z₁) ki jk .accepts ok in
       record {
         accepts = λ q. (
-          tree nodeHere (kids .0) (rest .0),
-          tree-sound below bd′ (kids .0) (rest .0) (kids .1) (rest .1) (ap₂ arityRule (sym ki) (sym (kids .2 .trees)) ∙ ar),
-          tree-indexed below bd′ (kids .0) (rest .0) (kids .1) (rest .1) ports width first rc rs r x y z x₁ y₁ z₁ x₂ y₂ z₂ x₃ y₃ z₃ p (kids .2)
-              (m .0, m .1, m .2 ∙ ap (set z₁ i) used-here) (rest .2) trees-are cells-are (uses-are ∙ ap (λ (v : ℕ). bitOr v (rs .uses)) used-here),
+          nodeHere,
+          kids .0,
+          first-tree (kids .0) (kids .1) ports width first rc r x y z x₁ y₁ z₁ x₂ y₂ z₂ u (kids .2) (ap₂ arityRule (sym ki) (sym (kids .2 .trees)) ∙ ar) m en cells-are
+              (uses-are ∙ (λ j. bitOr (kindUses (ki j) (ai j) (bi j)) (rc .uses))),
         );
         refuses = λ q. absurd (true≢false (sym good ∙ q));
       }
@@ -410,55 +380,26 @@ accept-none [] i parent d ports sets above first r x y z h good t c u = record {
 }
 accept-none (b ∷ l) i parent d ports sets above first r x y z h good t c u = absurd (omega arith)
 
--- where the children stand, and the siblings
-module _ (l : List ℕ) (i parent d ports sets above width first e : ℕ) (x y z : List ℕ) (place : Placed l i parent d ports sets width first x y z)
-    (long : recordLength ≤ length l) (rule : recordRule sets d above parent l ≡ true) (en : FieldIs endField l e) (after : i < e)
-    (within : recordLength * (e - i) ≤ length l) where
-  width-fits : width ≤ 262144
-  width-fits =
-      let w = width-low ports d (place .ports1) (place .ports64) (depth-here l i parent d sets above e long rule en after within) in
-      omega (arith, place .width-is)
-
-  first-node : i < 512
-  first-node = first-below recordLength record-pos i (length l) 512 long (place .few)
-
-  pub placed-kids : (kind below wider : ℕ) → below ≡ kindDepth kind d → wider ≡ kindWidth kind width ports
-      → Placed (kidsOf l i e) (i + 1) i below ports sets wider (first + width) x y z
-  placed-kids kind below wider bd wd = record {
-    few = rw (length-kids l i parent d sets above e long rule en after within) (children-below recordLength record-pos i e (length l) 512 after within (place .few));
-    parents = omega (arith, first-node);
-    ports1 = place .ports1;
-    ports64 = place .ports64;
-    sets16 = place .sets16;
-    width-is = wd ∙ kind-width kind width ports d (place .width-is) ∙ ap (λ (j : ℕ). ports ^ j) (sym bd);
-    depth = omega (arith, kind-depth-le kind d, depth-here l i parent d sets above e long rule en after within);
-    first-low = omega (arith, place .first-low, width-fits);
-    room-firsts = place .room-firsts;
-    room-ends = place .room-ends;
-    room-uses = place .room-uses;
-  }
-
-  pub placed-rest : (kind below : ℕ) (c : Forest) → Sound (kidsOf l i e) (i + 1) i below sets kind c → (cells : ℕ) → cells ≡ cellCount ports c below → (x₂ y₂ z₂ : List ℕ) → length x₂ ≡ length x → length y₂ ≡ length y → length z₂ ≡ length z
-      → Placed (restOf l i e) e parent d ports sets width (first + width + cells) x₂ y₂ z₂
-  placed-rest kind below c kids cells ce x₂ y₂ z₂ lx ly lz = record {
-    few = rw (length-rest l i parent d sets above e long rule en after within) (siblings-below recordLength record-pos i e (length l) 512 after within (place .few));
-    parents = place .parents;
-    ports1 = place .ports1;
-    ports64 = place .ports64;
-    sets16 = place .sets16;
-    width-is = place .width-is;
-    depth = place .depth;
-    first-low = omega (
-      arith,
-      place .first-low,
-      width-fits,
-      end-of-kids l i parent d sets above e long rule en after within below kind c kids,
-      cells-few ports sets c below (place .ports1) (place .ports64) (kids .rules),
-    );
-    room-firsts = omega (arith, place .room-firsts);
-    room-ends = omega (arith, place .room-ends);
-    room-uses = omega (arith, place .room-uses);
-  }
+-- where the children stand
+pub placed-kids : (l : List ℕ) (i parent d ports sets above width first e : ℕ) (x y z : List ℕ) → Placed l i parent d ports sets width first x y z
+    → FirstRecord l i parent d sets above e → (kind : ℕ)
+    → Placed (kidsOf l i e) (i + 1) i (kindDepth kind d) ports sets (kindWidth kind width ports) (first + width) x y z
+placed-kids l i parent d ports sets above width first e x y z place h kind =
+    let low = depth-here l i parent d sets above e h in
+    let w = width-low ports d (place .ports1) (place .ports64) low in
+    record {
+      few = rw (length-kids l i parent d sets above e h) (children-below recordLength record-pos i e (length l) 512 (h .after) (h .within) (place .few));
+      parents = omega (arith, first-below recordLength record-pos i (length l) 512 (h .long) (place .few));
+      ports1 = place .ports1;
+      ports64 = place .ports64;
+      sets16 = place .sets16;
+      width-is = kind-width kind width ports d (place .width-is);
+      depth = omega (arith, kind-depth-le kind d, low);
+      first-low = omega (arith, place .first-low, place .width-is, w);
+      room-firsts = place .room-firsts;
+      room-ends = place .room-ends;
+      room-uses = place .room-uses;
+    }
 
 -- the numbers of a place are small
 pub placed-low : {l : List ℕ} {i parent d ports sets width first : ℕ} {x y z : List ℕ} → Placed l i parent d ports sets width first x y z

@@ -5,6 +5,7 @@ pub mod Bytes
 pub mod Encoding
 pub mod Fields
 pub mod Judging
+pub mod Siblings
 pub mod Whole
 pub mod Own
 pub mod Facts

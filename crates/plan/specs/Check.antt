@@ -2,17 +2,19 @@
 use mathlib.Core.Path.{_≡_}
 use mathlib.Core.Bool.{Bool, true, false, cond, _&&_}
 use mathlib.Core.List.{List, _++_}
-use Prim.Native.Nat.{ℕ, _+_, _*_, _^_, _≤_, _<_}
+use Prim.Native.Nat.{ℕ, suc, _+_, _-_, _*_, _^_, _≤_, _<_}
+use lib.Bits.{bitOr}
 use lib.Dec.{eqb, leb, ltb}
-use lib.ListN.{length, take, drop}
-use Rattle.esol.specs.Formula.{Forest, Plan, nodeCount}
+use lib.ListN.{length, take, drop, set}
+use Rattle.esol.specs.Formula.{Node, Forest, Plan, kindNumber, nodeCount, childDepth}
 use Rattle.esol.specs.Cells.{cellCount, ownCells}
 use Rattle.plan.specs.declared.Checked.{Checked}
+use Rattle.plan.specs.declared.CheckedTree.{CheckedTree}
 use Rattle.plan.specs.declared.Info.{Info}
-use Rattle.plan.specs.Bytes.{Bytes, headerLength, recordLength, kindField, relationField, aField, bField, parentField, endField, marked, versionField, portsField, setsField, nodesField, records}
+use Rattle.plan.specs.Bytes.{Bytes, headerLength, recordLength, kindField, relationField, aField, bField, parentField, endField, marked, versionField, portsField, setsField, nodesField, recordOf, records}
 use Rattle.plan.specs.Rules.{everyNode, treeCount, mayNest, nestingRule, depthRule, nodeRule}
 use Rattle.plan.specs.Decode.{broken, sound, decode}
-use Rattle.plan.specs.Index.{firstCells, ends, forestUses, usesTable}
+use Rattle.plan.specs.Index.{firstCells, ends, nodeUses, forestUses, usesTable}
 
 -- The rules of a node's first four bytes, by its kind: what an encoding and the rule of an inner node ask of them.
 unfoldable pub fieldRule : ℕ → ℕ → ℕ → ℕ → ℕ → ℕ → Bool
@@ -89,6 +91,39 @@ pub record Indexed (i d ports first : ℕ) (f : Forest) (r : Checked) (firsts en
 pub record Judged (l : List ℕ) (i parent d ports sets above first : ℕ) (r : Checked) (firsts ends uses firsts′ ends′ uses′ : List ℕ) : Type 0 where
   pub accepts : r .ok ≡ true
       → (f : Forest) × Sound l i parent d sets above f × Indexed i d ports first f r firsts ends uses firsts′ ends′ uses′
+  pub refuses : r .ok ≡ false → (f : Forest) → Sound l i parent d sets above f → ⊥
+
+-- What the check of a part's first record asks: its rules, and that the part has the whole tree, which ends at e.
+pub record FirstRecord (l : List ℕ) (i parent d sets above e : ℕ) : Type 0 where
+  pub long : recordLength ≤ length l
+  pub rule : recordRule sets d above parent l ≡ true
+  pub end-is : FieldIs endField l e
+  pub after : i < e
+  pub within : recordLength * (e - i) ≤ length l
+
+-- The end of a part's first tree, or 0 where no forest that keeps the rules begins so.
+pub record EndJudged (l : List ℕ) (i parent d sets above r : ℕ) : Type 0 where
+  pub accepts : (r ≡ 0 → ⊥) → FirstRecord l i parent d sets above r
+  pub refuses : r ≡ 0 → (f : Forest) → Sound l i parent d sets above f → ⊥
+
+-- A part's first tree, a node n over c: its records stand before the later siblings', it keeps the rules, and the index tables
+-- hold the entries of the children and of the node itself.
+pub record FirstTree (l : List ℕ) (i parent d ports sets above first : ℕ) (r : CheckedTree) (firsts ends′ uses firsts′ ends″ uses′ : List ℕ) (n : Node) (c : Forest) : Type 0 where
+  pub is : l ≡ recordOf n parent (r .end) ++ (records c (suc i) i ++ drop (recordLength * (r .end - i)) l)
+  pub within : recordLength * (r .end - i) ≤ length l
+  pub end-is : r .end ≡ i + suc (nodeCount c)
+  pub rules : nodeRule sets n c d ≡ true
+  pub below : everyNode (nodeRule sets) c (childDepth n d) ≡ true
+  pub nested : mayNest above (kindNumber n) ≡ true
+  pub cells : r .cells ≡ ports ^ d + cellCount ports c (childDepth n d)
+  pub used : r .uses ≡ bitOr (nodeUses n) (forestUses c)
+  pub firsts-are : firsts′ ≡ set (laid firsts (suc i) (firstCells ports c (first + ports ^ d) (childDepth n d))) i first
+  pub ends-are : ends″ ≡ set (laid ends′ (suc i) (ends c (suc i))) i (r .end)
+  pub uses-are : uses′ ≡ set (laid uses (suc i) (usesTable c)) i (r .uses)
+
+pub record TreeJudged (l : List ℕ) (i parent d ports sets above first : ℕ) (r : CheckedTree) (firsts ends uses firsts′ ends′ uses′ : List ℕ) : Type 0 where
+  pub accepts : r .ok ≡ true
+      → (n : Node) × (c : Forest) × FirstTree l i parent d ports sets above first r firsts ends uses firsts′ ends′ uses′ n c
   pub refuses : r .ok ≡ false → (f : Forest) → Sound l i parent d sets above f → ⊥
 
 -- The rules of a header but its node count, and of the root's record where the plan has so many nodes.

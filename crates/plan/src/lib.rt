@@ -5,7 +5,7 @@ ghost use Prim.Native.Nat.{ℕ, _+_, _*_, _^_, _≤_, _<_};
 ghost use lib.ListN.{length, set};
 ghost use Rattle.plan.specs.Bytes.{headerLength, recordLength, word, kindField, relationField, aField, bField, parentField, endField, marked, versionField, portsField, setsField, nodesField};
 ghost use Rattle.plan.specs.Rules.{arityRule, mayNest};
-ghost use Rattle.plan.specs.Check.{fieldRule, recordRule, headerRule, rootRule, frontRule, PlanJudged, Room, kindDepth, kindWidth, kindUses, UsesFit, FieldIs, Placed, Judged};
+ghost use Rattle.plan.specs.Check.{fieldRule, recordRule, headerRule, rootRule, frontRule, PlanJudged, Room, kindDepth, kindWidth, kindUses, UsesFit, FieldIs, Placed, Judged, EndJudged, TreeJudged};
 
 // The length of a record, and of the header before the first.
 pub const RECORD: usize = 8;
@@ -21,6 +21,14 @@ pub const MOST_CELLS: usize = 1048576;
 pub struct Checked {
     pub ok: bool,
     pub trees: usize,
+    pub cells: usize,
+    pub uses: u64,
+}
+
+// What the check of one tree finds: the node behind it, its cells, and which sets it uses.
+pub struct CheckedTree {
+    pub ok: bool,
+    pub end: usize,
     pub cells: usize,
     pub uses: u64,
 }
@@ -265,6 +273,134 @@ fn broken() -> Checked
     }
 }
 
+fn broken_tree() -> CheckedTree
+    ensures { λ r. ⌜ r .ok ≡ false ⌝ }
+{
+    CheckedTree {
+        ok: false,
+        end: 0,
+        cells: 0,
+        uses: 0,
+    }
+}
+
+// The end of a part's first tree, or 0 where its record breaks a rule or the part is too short for it.
+fn tree_end(part: &[u8], i: usize, parent: usize, depth: usize, above: u8, sets: usize) -> usize
+    requires { ⌜ 1 ≤ length (now part) ⌝ }
+    ensures { λ r. ⌜ EndJudged (now (part .entry)) i parent depth sets above r ⌝ }
+{
+    if part.len() < RECORD {
+        return 0;
+    }
+    if !record_ok(part, parent, depth, above, sets) {
+        return 0;
+    }
+    let end = end_of(part);
+    if end <= i {
+        return 0;
+    }
+    if part.len() < RECORD * (end - i) {
+        return 0;
+    }
+    end
+}
+
+// Checks a part's first tree, node i and its children, and fills the index tables with what it finds.
+fn check_tree(
+    part: &[u8],
+    i: usize,
+    parent: usize,
+    depth: usize,
+    above: u8,
+    ports: usize,
+    sets: usize,
+    width: usize,
+    first: usize,
+    firsts: &mut [u32],
+    ends: &mut [u16],
+    uses: &mut [u64],
+) -> CheckedTree
+    requires { ⌜ (1 ≤ length (now part)) × Placed (now part) i parent depth ports sets width first (now firsts) (now ends) (now uses) ⌝ }
+    ensures { λ r. ⌜ TreeJudged (now (part .entry)) i parent depth ports sets above first r (now (firsts .entry)) (now (ends .entry)) (now (uses .entry)) (now (firsts .exit)) (now (ends .exit)) (now (uses .exit)) ⌝ }
+{
+    let end = tree_end(part, i, parent, depth, above, sets);
+    if end == 0 {
+        return broken_tree();
+    }
+    let kind = kind_of(part);
+    let kids = &part[RECORD..RECORD * (end - i)];
+    let c = check_children(
+        kids,
+        i,
+        kind,
+        depth,
+        ports,
+        sets,
+        width,
+        first,
+        firsts,
+        ends,
+        uses,
+    );
+    if !c.ok {
+        return broken_tree();
+    }
+    if !arity_ok(kind, c.trees) {
+        return broken_tree();
+    }
+    let used = uses_of(kind, a_of(part), b_of(part)) | c.uses;
+    note(i, first, end, used, firsts, ends, uses);
+    CheckedTree {
+        ok: true,
+        end: end,
+        cells: width + c.cells,
+        uses: used,
+    }
+}
+
+// Checks the children of node i, which are of a kind's children's depth and width. A node without any costs no call.
+fn check_children(
+    part: &[u8],
+    i: usize,
+    kind: u8,
+    depth: usize,
+    ports: usize,
+    sets: usize,
+    width: usize,
+    first: usize,
+    firsts: &mut [u32],
+    ends: &mut [u16],
+    uses: &mut [u64],
+) -> Checked
+    requires { ⌜ (depth ≤ 4) × (width ≤ 16777216) × Placed (now part) (i + 1) i (kindDepth kind depth) ports sets (kindWidth kind width ports) (first + width) (now firsts) (now ends) (now uses) ⌝ }
+    ensures { λ r. ⌜ Judged (now (part .entry)) (i + 1) i (kindDepth kind depth) ports sets kind (first + width) r (now (firsts .entry)) (now (ends .entry)) (now (uses .entry)) (now (firsts .exit)) (now (ends .exit)) (now (uses .exit)) ⌝ }
+{
+    if part.len() == 0 {
+        return Checked {
+            ok: true,
+            trees: 0,
+            cells: 0,
+            uses: 0,
+        };
+    }
+    let below = child_depth(kind, depth);
+    let wider = child_width(kind, width, ports);
+    check_forest(
+        part,
+        i + 1,
+        i,
+        below,
+        kind,
+        ports,
+        sets,
+        wider,
+        first + width,
+        firsts,
+        ends,
+        uses,
+    )
+}
+
 // Checks the records of some trees, the first of them node i, and fills the index tables with what it finds. Each record is
 // visited once: the children are the part up to the record's end, the later siblings the part behind it.
 fn check_forest(
@@ -284,75 +420,40 @@ fn check_forest(
     requires { ⌜ Placed (now part) i parent depth ports sets width first (now firsts) (now ends) (now uses) ⌝ }
     ensures { λ r. ⌜ Judged (now (part .entry)) i parent depth ports sets above first r (now (firsts .entry)) (now (ends .entry)) (now (uses .entry)) (now (firsts .exit)) (now (ends .exit)) (now (uses .exit)) ⌝ }
 {
-    if part.len() == 0 {
-        return Checked {
-            ok: true,
-            trees: 0,
-            cells: 0,
-            uses: 0,
-        };
-    }
-    if part.len() < RECORD {
-        return broken();
-    }
-    if !record_ok(part, parent, depth, above, sets) {
-        return broken();
-    }
-    let end = end_of(part);
-    if end <= i {
-        return broken();
-    }
-    let span = RECORD * (end - i);
-    if part.len() < span {
-        return broken();
-    }
-    let kind = kind_of(part);
-    let below = child_depth(kind, depth);
-    let wider = child_width(kind, width, ports);
-    let c = check_forest(
-        &part[RECORD..span],
-        i + 1,
-        i,
-        below,
-        kind,
-        ports,
-        sets,
-        wider,
-        first + width,
-        firsts,
-        ends,
-        uses,
-    );
-    if !c.ok {
-        return c;
-    }
-    if !arity_ok(kind, c.trees) {
-        return broken();
-    }
-    let used = uses_of(kind, a_of(part), b_of(part)) | c.uses;
-    note(i, first, end, used, firsts, ends, uses);
-    let s = check_forest(
-        &part[span..],
-        end,
-        parent,
-        depth,
-        above,
-        ports,
-        sets,
-        width,
-        first + width + c.cells,
-        firsts,
-        ends,
-        uses,
-    );
-    if !s.ok {
-        return s;
+    let mut at = 0;
+    let mut node = i;
+    let mut trees = 0;
+    let mut cells = 0;
+    let mut used = 0;
+    while at < part.len() {
+        let t = check_tree(
+            &part[at..],
+            node,
+            parent,
+            depth,
+            above,
+            ports,
+            sets,
+            width,
+            first + cells,
+            firsts,
+            ends,
+            uses,
+        );
+        if !t.ok {
+            return broken();
+        }
+        at += RECORD * (t.end - node);
+        node = t.end;
+        trees += 1;
+        cells += t.cells;
+        used = used | t.uses;
     }
     Checked {
         ok: true,
-        trees: s.trees + 1,
-        cells: width + c.cells + s.cells,
-        uses: used | s.uses,
+        trees: trees,
+        cells: cells,
+        uses: used,
     }
 }
 

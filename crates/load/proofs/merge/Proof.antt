@@ -1,6 +1,7 @@
-use mathlib.Core.Path.{_≡_, refl, ap, _∙_}
+use mathlib.Core.Path.{_≡_, refl, sym, ap, _∙_}
 use mathlib.Core.List.{List}
 use Prim.Native.Nat.{ℕ, _+_, _*_, _≤_, _-_}
+use native.Mathlib.Nat.{mul-one}
 use native.Mathlib.Omega.{arith}
 use borrow.Author.Needs.{needs}
 use lib.ListN.{length, getD, take, drop, set, length-set}
@@ -12,6 +13,7 @@ use Rattle.load.proofs.merge.Tie as tie
 use Rattle.load.proofs.merge.Reads as reads
 use Rattle.load.proofs.merge.Lts as lts
 use Rattle.load.proofs.gather.Reads as gather-reads
+use Rattle.load.proofs.merge_row.Reads as merge-row-reads
 
 abbrev Inv-loop : tie.InvT-loop
 Inv-loop join over s at cells₀ t₀ from₀ cells t from = (t ≤ over) × (over ≤ at) × (at + over * s ≤ length cells₀) × (from ≡ at + t * s) × (length cells ≡ length cells₀) × (cells ≡ written (joinedAt join s at cells₀) t cells₀)
@@ -19,10 +21,23 @@ Inv-loop join over s at cells₀ t₀ from₀ cells t from = (t ≤ over) × (ov
 abbrev μ-loop : tie.MeasureT-loop
 μ-loop join over s at cells₀ t₀ from₀ cells t from = over - t
 
+merge-row-requires : tie.Need-merge-row-requires Inv-loop μ-loop
+merge-row-requires c κs =
+    let e : c .before .before .before .args .over * c .before .before .before .args .s ≡ c .before .before .before .args .over = ap (λ (m : ℕ). c .before .before .before .args .over * m) (c .before .if1 .taken) ∙ mul-one (c .before .before .before .args .over) in
+    (c .before .before .before .pre .0, omega (arith, c .before .before .before .pre .1))
+
+same-length : tie.Need-same-length Inv-loop μ-loop
+same-length c =
+    omega arith
+
+returns : tie.Need-returns Inv-loop μ-loop
+returns c =
+    c .before .before .merge-row .ensures ∙ ap (λ (m : ℕ). merged (c .before .before .before .before .before .before .args .join) (c .before .before .before .before .before .before .args .over) m (c .before .before .before .before .before .before .args .at) (c .before .before .before .before .before .before .args .cells .now)) (sym (c .before .before .before .before .if1 .taken))
+
 loop-holds : tie.Need-loop-holds Inv-loop μ-loop
 unfolding tabulate
 loop-holds c =
-    (omega arith, c .before .pre .0, c .before .pre .1, omega arith, refl, refl)
+    (omega arith, c .before .before .pre .0, c .before .before .pre .1, omega arith, refl, refl)
 
 mul-gather : tie.Need-mul-gather Inv-loop μ-loop
 mul-gather c =
@@ -34,7 +49,7 @@ slice-read-gather c =
 
 gather-requires : tie.Need-gather-requires Inv-loop μ-loop
 gather-requires c κs =
-    omega (arith, row-within (c .before .before .before .loop .t) (c .before .before .before .before .before .args .over) (c .before .before .before .before .before .args .s) (omega arith))
+    omega (arith, row-within (c .before .before .before .loop .t) (c .before .before .before .before .before .before .args .over) (c .before .before .before .before .before .before .args .s) (omega arith))
 
 mul-cells : tie.Need-mul-cells Inv-loop μ-loop
 mul-cells c =
@@ -46,7 +61,7 @@ slice-write-cells c =
 
 add-from : tie.Need-add-from Inv-loop μ-loop
 add-from c =
-    omega (arith, row-within (c .before .before .before .before .loop .t) (c .before .before .before .before .before .before .args .over) (c .before .before .before .before .before .before .args .s) (omega arith))
+    omega (arith, row-within (c .before .before .before .before .loop .t) (c .before .before .before .before .before .before .before .args .over) (c .before .before .before .before .before .before .before .args .s) (omega arith))
 
 add-t : tie.Need-add-t Inv-loop μ-loop
 add-t c =
@@ -57,17 +72,24 @@ loop-less c =
     search needs
 
 loop-again : tie.Need-loop-again Inv-loop μ-loop
-loop-again c =
-    (omega arith, c .before .before .before .before .loop .inv .1, c .before .before .before .before .loop .inv .2, omega (arith, c .before .before .before .before .loop .inv .3), length-set {A = ℕ} (c .before .before .before .before .loop .cells) (c .before .before .before .before .loop .t) (c .gather .result) ∙ c .before .before .before .before .loop .inv .4, ap (λ (l : List ℕ). set l (c .before .before .before .before .loop .t) (c .gather .result)) (c .before .before .before .before .loop .inv .5) ∙ merge-next (c .before .before .before .before .before .before .args .join) (c .before .before .before .before .before .before .args .s) (c .before .before .before .before .before .before .args .at) (c .before .before .before .before .loop .from) (c .before .before .before .before .loop .t) (c .gather .result) (c .before .before .before .before .before .before .args .cells .now) (omega arith) (omega arith) (c .before .before .before .before .loop .inv .3) (c .gather .ensures ∙ ap (λ (l : List ℕ). joinAll (c .before .before .before .before .before .before .args .join) (getD l (c .before .before .before .before .loop .t) 0) (take (c .before .before .before .before .before .before .args .s) (drop (c .before .before .before .before .loop .from) l))) (c .before .before .before .before .loop .inv .5)))
+loop-again c = (
+  omega arith,
+  c .before .before .before .before .loop .inv .1,
+  c .before .before .before .before .loop .inv .2,
+  omega (arith, c .before .before .before .before .loop .inv .3),
+  length-set {A = ℕ} (c .before .before .before .before .loop .cells) (c .before .before .before .before .loop .t) (c .gather .result) ∙ c .before .before .before .before .loop .inv .4,
+  ap (λ (l : List ℕ). set l (c .before .before .before .before .loop .t) (c .gather .result)) (c .before .before .before .before .loop .inv .5) ∙ merge-next (c .before .before .before .before .before .before .before .args .join) (c .before .before .before .before .before .before .before .args .s) (c .before .before .before .before .before .before .before .args .at) (c .before .before .before .before .loop .from) (c .before .before .before .before .loop .t) (c .gather .result) (c .before .before .before .before .before .before .before .args .cells .now) (omega arith) (omega arith) (c .before .before .before .before .loop .inv .3)
+      (c .gather .ensures ∙ ap (λ (l : List ℕ). joinAll (c .before .before .before .before .before .before .before .args .join) (getD l (c .before .before .before .before .loop .t) 0) (take (c .before .before .before .before .before .before .before .args .s) (drop (c .before .before .before .before .loop .from) l))) (c .before .before .before .before .loop .inv .5)),
+)
 
-same-length : tie.Need-same-length Inv-loop μ-loop
-same-length c =
+same-length-2 : tie.Need-same-length-2 Inv-loop μ-loop
+same-length-2 c =
     omega arith
 
-returns : tie.Need-returns Inv-loop μ-loop
+returns-2 : tie.Need-returns-2 Inv-loop μ-loop
 unfolding merged
-returns c =
-    let e : c .before .loop .t ≡ c .before .before .before .args .over = omega arith in c .before .loop .inv .5 ∙ ap (λ (m : ℕ). written (joinedAt (c .before .before .before .args .join) (c .before .before .before .args .s) (c .before .before .before .args .at) (c .before .before .before .args .cells .now)) m (c .before .before .before .args .cells .now)) e
+returns-2 c =
+    let e : c .before .loop .t ≡ c .before .before .before .before .args .over = omega arith in c .before .loop .inv .5 ∙ ap (λ (m : ℕ). written (joinedAt (c .before .before .before .before .args .join) (c .before .before .before .before .args .s) (c .before .before .before .before .args .at) (c .before .before .before .before .args .cells .now)) m (c .before .before .before .before .args .cells .now)) e
 
 pub merge-spec : {M : Type 1} → statement M
 merge-spec =
@@ -75,6 +97,9 @@ merge-spec =
     (tie.spec
     Inv-loop
     μ-loop
+    merge-row-requires
+    same-length
+    returns
     loop-holds
     mul-gather
     slice-read-gather
@@ -85,5 +110,5 @@ merge-spec =
     add-t
     loop-less
     loop-again
-    same-length
-    returns)
+    same-length-2
+    returns-2)
