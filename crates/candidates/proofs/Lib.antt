@@ -4,3 +4,4 @@ pub mod Stepping
 pub mod Fitting
 pub mod Listing
 pub mod Listed
+pub mod Copying

@@ -5,9 +5,10 @@ use esol::flip_port;
 use esol::has_port;
 ghost use mathlib.Core.Path.{_≡_};
 ghost use mathlib.Core.Bool.{true, not, _&&_};
-ghost use Prim.Native.Nat.{ℕ, _/_, _%_, _<_};
+ghost use Prim.Native.Nat.{ℕ, _/_, _%_, _≤_, _<_};
+ghost use mathlib.Core.List.{_++_};
 ghost use lib.Dec.{eqb};
-ghost use lib.ListN.{length, getD, set, take};
+ghost use lib.ListN.{length, getD, set, take, drop};
 ghost use Rattle.esol.specs.Configuration.{inMasks, flipPort};
 ghost use Rattle.esol.specs.Moves.{fits, moveKind, kindWeight, moveMasks};
 ghost use Rattle.candidates.specs.Candidates.{Fields, tEnd, qEnd, Says, SaysKnown, KnownOver, LegalOver, Suits, Begins, BeginsOver, SizedOver, Steps, StepsAny, fieldsAre, outset, GivesNext};
@@ -16,6 +17,25 @@ ghost use Rattle.candidates.specs.Candidates.{Fields, tEnd, qEnd, Says, 
 pub struct Next {
     pub found: bool,
     pub m: Move,
+}
+
+pub fn narrow(x: usize) -> u32
+    requires { ⌜ x ≤ 64 ⌝ }
+    ensures { λ r. ⌜ r ≡ x ⌝ }
+{
+    x as u32
+}
+
+// The first `sets` masks, copied.
+pub fn copy_masks(masks: &[u64], sets: usize, out: &mut [u64])
+    requires { ⌜ (sets ≤ length (now masks)) × (sets ≤ length (now out)) ⌝ }
+    ensures { λ _. ⌜ now (out .exit) ≡ take sets (now (masks .entry)) ++ drop sets (now (out .entry)) ⌝ }
+{
+    let mut s = 0;
+    while s < sets {
+        out[s] = masks[s];
+        s += 1;
+    }
 }
 
 // T and q stay below these, so that a field that its kind does not use is 0.

@@ -1,4 +1,4 @@
--- Grounds 14 and 15 as the code tries them, and masks copied. Assumes nothing.
+-- Grounds 14 and 15 as the code tries them, and the masks of a copy. Assumes nothing.
 use mathlib.Core.Path.{_≡_, refl, sym, ap, ap₂, _∙_}
 use mathlib.Core.Bool.{Bool, true, false, cond, not, _&&_}
 use mathlib.Core.List.{List, [], _∷_, _++_, append-assoc}
@@ -16,15 +16,6 @@ use Rattle.calls.specs.TrialCall.{ScratchAfter}
 use Rattle.candidates.specs.Candidates.{Fields, SaysKnown, KnownOver}
 use Rattle.candidates.proofs.Known.{known-fields}
 use Rattle.engine.specs.Judged.{MoveNumber, MoveReady}
-
--- a copied entry
-pub copy-next : (xs ys : List ℕ) (s : ℕ) → s < length xs → s < length ys → set (take s xs ++ drop s ys) s (getD xs s 0) ≡ take (s + 1) xs ++ drop (s + 1) ys
-copy-next xs ys s l m =
-    ap (λ (zs : List ℕ). set (take s xs ++ zs) s (getD xs s 0)) (drop-cons ys s 0 m)
-    ∙ set-at (take s xs) (getD ys s 0) (drop (suc s) ys) (getD xs s 0) s (length-take-le s xs (omega arith))
-    ∙ sym (append-assoc (take s xs) (getD xs s 0 ∷ []) (drop (suc s) ys))
-    ∙ ap₂ (λ (zs : List ℕ) (j : ℕ). zs ++ drop j ys) (sym (take-suc xs s 0 l)) (sym (add-one s))
-    ∙ ap (λ (j : ℕ). take j xs ++ drop (s + 1) ys) (sym (add-one s))
 
 module _ (ports sets u n : ℕ) (eu : u ≡ ports) (en : n ≡ sets) (m : Move) (masks : List ℕ) where
   -- 14 and 15 by the two tests
@@ -60,16 +51,6 @@ module _ (ports sets u n : ℕ) (eu : u ≡ ports) (en : n ≡ sets) (m : Move) 
       ports-high = omega (arith, r .ports64);
       masks-enough = omega (arith, r .own-masks);
     }
-
--- a part that is copied leaves the length
-pub copied-length : (xs ys zs : List ℕ) (s : ℕ) → zs ≡ take s xs ++ drop s ys → s ≤ length xs → s ≤ length ys → length zs ≡ length ys
-copied-length xs ys zs s h l m =
-    ap length h ∙ length-append (take s xs) (drop s ys)
-    ∙ (let e : length (take s xs) + length (drop s ys) ≡ length ys = omega (arith, length-take-le s xs l, length-drop s ys) in e)
-
-pub copied-next : (xs ys zs : List ℕ) (s v : ℕ) → zs ≡ take s xs ++ drop s ys → v ≡ getD xs s 0 → s < length xs → s < length ys
-    → set zs s v ≡ take (s + 1) xs ++ drop (s + 1) ys
-copied-next xs ys zs s v h e l m = ap₂ (λ (ws : List ℕ) (w : ℕ). set ws s w) h e ∙ copy-next xs ys s l m
 
 -- the first masks of a copy are those of the original
 pub copied-part : (xs ys zs : List ℕ) (s j : ℕ) → j ≡ s → zs ≡ take s xs ++ drop s ys → s ≤ length xs → take j zs ≡ take j xs

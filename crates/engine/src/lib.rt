@@ -1,8 +1,10 @@
 // The calls over a plan's tables: trial and the four moves. Paper 01, section One move.
 use calls::Moved;
+use candidates::copy_masks;
 use candidates::fits_move;
 use candidates::known_move;
 use candidates::masks_after;
+use candidates::narrow;
 use esol::Move;
 use hits::change_of;
 use moves::root_written;
@@ -18,13 +20,6 @@ ghost use Rattle.calls.specs.declared.Moved.the-variants.{Accepted};
 ghost use Rattle.calls.specs.MoveCall.{movedNumber, moves};
 ghost use Rattle.calls.specs.TrialCall.{trials, ScratchAfter};
 ghost use Rattle.engine.specs.Judged.{MoveNumber, MoveReady, CarryReady, Carries};
-
-fn narrow(x: usize) -> u32
-    requires { ⌜ x ≤ 64 ⌝ }
-    ensures { λ r. ⌜ r ≡ x ⌝ }
-{
-    x as u32
-}
 
 pub fn lesser(a: usize, b: usize) -> usize
     ensures { λ r. ⌜ r ≡ min a b ⌝ }
@@ -49,18 +44,6 @@ fn move_number(m: Move, ports: usize, sets: usize, masks: &[u64]) -> u8
         return 15;
     }
     0
-}
-
-// The first `sets` masks, copied.
-fn copy_masks(masks: &[u64], sets: usize, out: &mut [u64])
-    requires { ⌜ (sets ≤ length (now masks)) × (sets ≤ length (now out)) ⌝ }
-    ensures { λ _. ⌜ now (out .exit) ≡ take sets (now (masks .entry)) ++ drop sets (now (out .entry)) ⌝ }
-{
-    let mut s = 0;
-    while s < sets {
-        out[s] = masks[s];
-        s += 1;
-    }
 }
 
 // Root before, root after, and how many cells differ.

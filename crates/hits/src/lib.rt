@@ -1,5 +1,6 @@
 // Which cells a change touches: one word for a tuple, so that the test of a node is one `and`. Paper 01, section One move.
 use esol::Move;
+use plan::bit;
 ghost use mathlib.Core.Path.{_≡_};
 ghost use Prim.Native.Nat.{ℕ, _^_, _≤_, _<_};
 ghost use Rattle.hits.specs.Hits.{meets, level, otherLevels, atPort, firstWord, restWord, portWord, variableBits, sizeBit, changeAt, Tells};
@@ -78,13 +79,6 @@ pub fn port_word(c: Changed, word: u64, depth: usize, x: usize) -> u64
     ensures { λ r. ⌜ r ≡ portWord c word depth x ⌝ }
 {
     rest_word(word, depth) | (at_port(c, x) & level_of(depth))
-}
-
-fn bit(at: usize) -> u64
-    requires { ⌜ at < 64 ⌝ }
-    ensures { λ r. ⌜ r ≡ 2 ^ at ⌝ }
-{
-    1u64 << at
 }
 
 fn variable_bits(set: usize) -> u64

@@ -1,5 +1,4 @@
 pub mod Choosing
 pub mod Trying
-pub mod Copying
 pub mod Searching
 pub mod Answering

@@ -1,7 +1,9 @@
 // The choice of improve: the best of all candidates, by the root that each would leave. Nothing is written but the masks that
 // a candidate would leave, in a table of this crate's own. Paper 01, section One move.
+use candidates::copy_masks;
 use candidates::first_candidate;
 use candidates::masks_after;
+use candidates::narrow;
 use candidates::next_candidate;
 use esol::Move;
 use hits::change_of;
@@ -19,25 +21,6 @@ pub struct Choice {
     pub found: bool,
     pub m: Move,
     pub root: u32,
-}
-
-fn narrow(x: usize) -> u32
-    requires { ⌜ x ≤ 64 ⌝ }
-    ensures { λ r. ⌜ r ≡ x ⌝ }
-{
-    x as u32
-}
-
-// The first `sets` masks, copied.
-fn copy_masks(masks: &[u64], sets: usize, out: &mut [u64])
-    requires { ⌜ (sets ≤ length (now masks)) × (length (now out) ≡ sets) ⌝ }
-    ensures { λ r. ⌜ now (out .exit) ≡ take sets (now (masks .entry)) ⌝ }
-{
-    let mut s = 0;
-    while s < sets {
-        out[s] = masks[s];
-        s += 1;
-    }
 }
 
 // The root that a legal move would leave.

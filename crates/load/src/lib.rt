@@ -304,7 +304,7 @@ fn wide_cell(x: u32) -> usize
 }
 
 // Where the cells of node i begin; where the last node's end, if there is no node i.
-fn bound_of(firsts: &[u32], i: usize, nodes: usize, total: usize) -> usize
+pub fn bound_of(firsts: &[u32], i: usize, nodes: usize, total: usize) -> usize
     requires { ⌜ nodes ≤ length (now firsts) ⌝ }
     ensures { λ r. ⌜ r ≡ boundAt (now (firsts .entry)) i nodes total ⌝ }
 {

@@ -218,7 +218,8 @@ pub fn child_width(kind: u8, width: usize, ports: usize) -> usize
     width
 }
 
-fn bit(at: usize) -> u64
+// One bit of a word.
+pub fn bit(at: usize) -> u64
     requires { ⌜ at < 64 ⌝ }
     ensures { λ r. ⌜ r ≡ 2 ^ at ⌝ }
 {

@@ -8,6 +8,7 @@ use engine::trial;
 use esol::Move;
 use improving::improve;
 use load::Loaded;
+use load::bound_of;
 use load::load;
 use plan::check;
 use reader::Answer;
@@ -97,23 +98,6 @@ pub extern "C" fn vk_load(table: &[u8], masks: &[u64], cells: &mut [u32]) -> Loa
 {
     let a = load(table, masks, cells);
     load_fields(a)
-}
-
-fn wide_cell(x: u32) -> usize
-    ensures { λ r. ⌜ r ≡ x ⌝ }
-{
-    x as usize
-}
-
-// Where the cells of node i begin; where the last node's end, if there is no node i.
-fn bound_of(firsts: &[u32], i: usize, nodes: usize, total: usize) -> usize
-    requires { ⌜ nodes ≤ length (now firsts) ⌝ }
-    ensures { λ r. ⌜ r ≡ boundAt (now (firsts .entry)) i nodes total ⌝ }
-{
-    if i < nodes {
-        return wide_cell(firsts[i]);
-    }
-    total
 }
 
 // A node's cells, as a part of the caller's cell table: {0, 0} where 11, 12 or a node past the count applies.

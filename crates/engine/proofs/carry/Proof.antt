@@ -17,7 +17,7 @@ use Rattle.engine.proofs.carry.Tie as tie
 use Rattle.engine.proofs.carry.Reads as reads
 use Rattle.engine.proofs.carry.Lts as lts
 use Rattle.candidates.proofs.masks_after.Reads as masks-after-reads
-use Rattle.engine.proofs.narrow.Reads as narrow-reads
+use Rattle.candidates.proofs.narrow.Reads as narrow-reads
 use Rattle.hits.proofs.change_of.Reads as change-of-reads
 use Rattle.moves.proofs.root_written.Reads as root-written-reads
 

@@ -9,7 +9,7 @@ use Rattle.engine.proofs.move_number.Reads as reads
 use Rattle.engine.proofs.move_number.Lts as lts
 use Rattle.candidates.proofs.fits_move.Reads as fits-move-reads
 use Rattle.candidates.proofs.known_move.Reads as known-move-reads
-use Rattle.engine.proofs.narrow.Reads as narrow-reads
+use Rattle.candidates.proofs.narrow.Reads as narrow-reads
 
 narrow-requires : tie.Need-narrow-requires
 narrow-requires c κs = search needs

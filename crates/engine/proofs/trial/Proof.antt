@@ -20,10 +20,10 @@ use Rattle.engine.proofs.trial.Reads as reads
 use Rattle.engine.proofs.trial.Lts as lts
 use Rattle.candidates.proofs.masks_after.Reads as masks-after-reads
 use Rattle.engine.proofs.accepted.Reads as accepted-reads
-use Rattle.engine.proofs.copy_masks.Reads as copy-masks-reads
+use Rattle.candidates.proofs.copy_masks.Reads as copy-masks-reads
 use Rattle.engine.proofs.lesser.Reads as lesser-reads
 use Rattle.engine.proofs.move_number.Reads as move-number-reads
-use Rattle.engine.proofs.narrow.Reads as narrow-reads
+use Rattle.candidates.proofs.narrow.Reads as narrow-reads
 use Rattle.hits.proofs.change_of.Reads as change-of-reads
 use Rattle.trial.proofs.open_tables.Reads as open-tables-reads
 use Rattle.trial.proofs.root_after.Reads as root-after-reads

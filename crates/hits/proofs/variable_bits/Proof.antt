@@ -5,7 +5,7 @@ use Rattle.hits.proofs.variable_bits.Statement.{statement}
 use Rattle.hits.proofs.variable_bits.Tie as tie
 use Rattle.hits.proofs.variable_bits.Reads as reads
 use Rattle.hits.proofs.variable_bits.Lts as lts
-use Rattle.hits.proofs.bit.Reads as bit-reads
+use Rattle.plan.proofs.bit.Reads as bit-reads
 
 mul-bit : tie.Need-mul-bit
 mul-bit c = search needs

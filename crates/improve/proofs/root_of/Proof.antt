@@ -3,6 +3,7 @@ use mathlib.Core.Path.{ap, _∙_}
 use native.Mathlib.Omega.{arith}
 use Rattle.esol.specs.Moves.{moveMasks}
 use Rattle.improve.proofs.Trying.{ports-fit, sets-fit, masks-long, legal-over, sets-known, try-ready, root-is}
+use Rattle.candidates.proofs.Copying.{copied-whole}
 use borrow.Author.Needs.{needs}
 use Rattle.improve.proofs.root_of.Statement.{statement}
 use Rattle.improve.proofs.root_of.Tie as tie
@@ -10,13 +11,13 @@ use Rattle.improve.proofs.root_of.Reads as reads
 use Rattle.improve.proofs.root_of.Lts as lts
 use Rattle.candidates.proofs.masks_after.Reads as masks-after-reads
 use Rattle.hits.proofs.change_of.Reads as change-of-reads
-use Rattle.improve.proofs.copy_masks.Reads as copy-masks-reads
-use Rattle.improve.proofs.narrow.Reads as narrow-reads
+use Rattle.candidates.proofs.copy_masks.Reads as copy-masks-reads
+use Rattle.candidates.proofs.narrow.Reads as narrow-reads
 use Rattle.trial.proofs.root_after.Reads as root-after-reads
 
 copy-masks-requires : tie.Need-copy-masks-requires
 copy-masks-requires c κs =
-    (masks-long (c .before .before .before .before .before .before .before .before .args .ports) (c .before .before .before .before .before .before .before .before .args .sets) (now (c .before .before .before .before .before .before .before .before .args .table)) (now (c .before .before .before .before .before .before .before .before .args .firsts)) (now (c .before .before .before .before .before .before .before .before .args .ends)) (now (c .before .before .before .before .before .before .before .before .args .uses)) (now (c .before .before .before .before .before .before .before .before .args .masks)) (now (c .before .before .before .before .before .before .before .before .args .cells)) (c .before .before .before .before .before .before .before .before .pre .room .ready), c .before .before .before .before .before .before .before .before .pre .room .work-long)
+    (masks-long (c .before .before .before .before .before .before .before .before .args .ports) (c .before .before .before .before .before .before .before .before .args .sets) (now (c .before .before .before .before .before .before .before .before .args .table)) (now (c .before .before .before .before .before .before .before .before .args .firsts)) (now (c .before .before .before .before .before .before .before .before .args .ends)) (now (c .before .before .before .before .before .before .before .before .args .uses)) (now (c .before .before .before .before .before .before .before .before .args .masks)) (now (c .before .before .before .before .before .before .before .before .args .cells)) (c .before .before .before .before .before .before .before .before .pre .room .ready), omega (arith, c .before .before .before .before .before .before .before .before .pre .room .work-long))
 
 narrow-requires : tie.Need-narrow-requires
 narrow-requires c κs =
@@ -28,7 +29,7 @@ narrow-requires-2 c κs =
 
 masks-after-requires : tie.Need-masks-after-requires
 masks-after-requires c κs =
-    legal-over (c .before .before .before .before .before .before .before .before .before .before .before .before .before .before .args .ports) (c .before .before .before .before .before .before .before .before .before .before .before .before .before .before .args .sets) (now (c .before .before .before .before .before .before .before .before .before .before .before .before .before .before .args .table)) (now (c .before .before .before .before .before .before .before .before .before .before .before .before .before .before .args .firsts)) (now (c .before .before .before .before .before .before .before .before .before .before .before .before .before .before .args .ends)) (now (c .before .before .before .before .before .before .before .before .before .before .before .before .before .before .args .uses)) (now (c .before .before .before .before .before .before .before .before .before .before .before .before .before .before .args .masks)) (now (c .before .before .before .before .before .before .before .before .before .before .before .before .before .before .args .cells)) (c .before .before .before .before .before .before .before .before .before .before .before .before .before .before .pre .room .ready) _ _ (c .before .before .narrow .ensures) (c .before .narrow2 .ensures) (c .before .before .before .before .before .before .before .before .before .before .before .before .before .before .args .m) (c .before .before .before .before .before .before .before .before .before .before .before .before .before .before .pre .is-legal) _ (c .before .before .before .before .before .copy-masks .ensures)
+    legal-over (c .before .before .before .before .before .before .before .before .before .before .before .before .before .before .args .ports) (c .before .before .before .before .before .before .before .before .before .before .before .before .before .before .args .sets) (now (c .before .before .before .before .before .before .before .before .before .before .before .before .before .before .args .table)) (now (c .before .before .before .before .before .before .before .before .before .before .before .before .before .before .args .firsts)) (now (c .before .before .before .before .before .before .before .before .before .before .before .before .before .before .args .ends)) (now (c .before .before .before .before .before .before .before .before .before .before .before .before .before .before .args .uses)) (now (c .before .before .before .before .before .before .before .before .before .before .before .before .before .before .args .masks)) (now (c .before .before .before .before .before .before .before .before .before .before .before .before .before .before .args .cells)) (c .before .before .before .before .before .before .before .before .before .before .before .before .before .before .pre .room .ready) _ _ (c .before .before .narrow .ensures) (c .before .narrow2 .ensures) (c .before .before .before .before .before .before .before .before .before .before .before .before .before .before .args .m) (c .before .before .before .before .before .before .before .before .before .before .before .before .before .before .pre .is-legal) _ (copied-whole _ _ _ _ (c .before .before .before .before .before .copy-masks .ensures) (c .before .before .before .before .before .before .before .before .before .before .before .before .before .before .pre .room .work-long))
 
 change-of-requires : tie.Need-change-of-requires
 change-of-requires c κs =
@@ -36,14 +37,14 @@ change-of-requires c κs =
 
 root-after-requires : tie.Need-root-after-requires
 root-after-requires c κs =
-    try-ready (c .before .before .before .before .before .before .before .before .before .before .before .before .before .before .before .before .before .before .before .args .ports) (c .before .before .before .before .before .before .before .before .before .before .before .before .before .before .before .before .before .before .before .args .sets) (now (c .before .before .before .before .before .before .before .before .before .before .before .before .before .before .before .before .before .before .before .args .table)) (now (c .before .before .before .before .before .before .before .before .before .before .before .before .before .before .before .before .before .before .before .args .firsts)) (now (c .before .before .before .before .before .before .before .before .before .before .before .before .before .before .before .before .before .before .before .args .ends)) (now (c .before .before .before .before .before .before .before .before .before .before .before .before .before .before .before .before .before .before .before .args .uses)) (now (c .before .before .before .before .before .before .before .before .before .before .before .before .before .before .before .before .before .before .before .args .masks)) (now (c .before .before .before .before .before .before .before .before .before .before .before .before .before .before .before .before .before .before .before .args .cells)) (c .before .before .before .before .before .before .before .before .before .before .before .before .before .before .before .before .before .before .before .pre .room .ready) (c .before .before .before .before .before .before .before .before .before .before .before .before .before .before .before .before .before .before .before .args .m) (c .before .before .before .before .before .before .before .before .before .before .before .before .before .before .before .before .before .before .before .pre .is-legal) _ (c .change-of .ensures) _ (c .before .before .before .before .masks-after .ensures ∙ ap (moveMasks (c .before .before .before .before .before .before .before .before .before .before .before .before .before .before .before .before .before .before .before .args .m)) (c .before .before .before .before .before .before .before .before .before .before .copy-masks .ensures))
+    try-ready (c .before .before .before .before .before .before .before .before .before .before .before .before .before .before .before .before .before .before .before .args .ports) (c .before .before .before .before .before .before .before .before .before .before .before .before .before .before .before .before .before .before .before .args .sets) (now (c .before .before .before .before .before .before .before .before .before .before .before .before .before .before .before .before .before .before .before .args .table)) (now (c .before .before .before .before .before .before .before .before .before .before .before .before .before .before .before .before .before .before .before .args .firsts)) (now (c .before .before .before .before .before .before .before .before .before .before .before .before .before .before .before .before .before .before .before .args .ends)) (now (c .before .before .before .before .before .before .before .before .before .before .before .before .before .before .before .before .before .before .before .args .uses)) (now (c .before .before .before .before .before .before .before .before .before .before .before .before .before .before .before .before .before .before .before .args .masks)) (now (c .before .before .before .before .before .before .before .before .before .before .before .before .before .before .before .before .before .before .before .args .cells)) (c .before .before .before .before .before .before .before .before .before .before .before .before .before .before .before .before .before .before .before .pre .room .ready) (c .before .before .before .before .before .before .before .before .before .before .before .before .before .before .before .before .before .before .before .args .m) (c .before .before .before .before .before .before .before .before .before .before .before .before .before .before .before .before .before .before .before .pre .is-legal) _ (c .change-of .ensures) _ (c .before .before .before .before .masks-after .ensures ∙ ap (moveMasks (c .before .before .before .before .before .before .before .before .before .before .before .before .before .before .before .before .before .before .before .args .m)) (copied-whole _ _ _ _ (c .before .before .before .before .before .before .before .before .before .before .copy-masks .ensures) (c .before .before .before .before .before .before .before .before .before .before .before .before .before .before .before .before .before .before .before .pre .room .work-long)))
 
 same-length : tie.Need-same-length
 same-length c = search needs
 
 returns : tie.Need-returns
 returns c =
-    root-is (c .before .before .before .before .before .before .before .before .before .before .before .before .before .before .before .before .before .before .before .before .args .ports) (c .before .before .before .before .before .before .before .before .before .before .before .before .before .before .before .before .before .before .before .before .args .sets) (now (c .before .before .before .before .before .before .before .before .before .before .before .before .before .before .before .before .before .before .before .before .args .table)) (now (c .before .before .before .before .before .before .before .before .before .before .before .before .before .before .before .before .before .before .before .before .args .firsts)) (now (c .before .before .before .before .before .before .before .before .before .before .before .before .before .before .before .before .before .before .before .before .args .ends)) (now (c .before .before .before .before .before .before .before .before .before .before .before .before .before .before .before .before .before .before .before .before .args .uses)) (now (c .before .before .before .before .before .before .before .before .before .before .before .before .before .before .before .before .before .before .before .before .args .masks)) (now (c .before .before .before .before .before .before .before .before .before .before .before .before .before .before .before .before .before .before .before .before .args .cells)) (c .before .before .before .before .before .before .before .before .before .before .before .before .before .before .before .before .before .before .before .before .pre .room .ready) (c .before .before .before .before .before .before .before .before .before .before .before .before .before .before .before .before .before .before .before .before .args .m) (c .before .before .before .before .before .before .before .before .before .before .before .before .before .before .before .before .before .before .before .before .pre .is-legal) _ (c .before .change-of .ensures) _ (c .before .before .before .before .before .masks-after .ensures ∙ ap (moveMasks (c .before .before .before .before .before .before .before .before .before .before .before .before .before .before .before .before .before .before .before .before .args .m)) (c .before .before .before .before .before .before .before .before .before .before .before .copy-masks .ensures)) _ (c .root-after .ensures)
+    root-is (c .before .before .before .before .before .before .before .before .before .before .before .before .before .before .before .before .before .before .before .before .args .ports) (c .before .before .before .before .before .before .before .before .before .before .before .before .before .before .before .before .before .before .before .before .args .sets) (now (c .before .before .before .before .before .before .before .before .before .before .before .before .before .before .before .before .before .before .before .before .args .table)) (now (c .before .before .before .before .before .before .before .before .before .before .before .before .before .before .before .before .before .before .before .before .args .firsts)) (now (c .before .before .before .before .before .before .before .before .before .before .before .before .before .before .before .before .before .before .before .before .args .ends)) (now (c .before .before .before .before .before .before .before .before .before .before .before .before .before .before .before .before .before .before .before .before .args .uses)) (now (c .before .before .before .before .before .before .before .before .before .before .before .before .before .before .before .before .before .before .before .before .args .masks)) (now (c .before .before .before .before .before .before .before .before .before .before .before .before .before .before .before .before .before .before .before .before .args .cells)) (c .before .before .before .before .before .before .before .before .before .before .before .before .before .before .before .before .before .before .before .before .pre .room .ready) (c .before .before .before .before .before .before .before .before .before .before .before .before .before .before .before .before .before .before .before .before .args .m) (c .before .before .before .before .before .before .before .before .before .before .before .before .before .before .before .before .before .before .before .before .pre .is-legal) _ (c .before .change-of .ensures) _ (c .before .before .before .before .before .masks-after .ensures ∙ ap (moveMasks (c .before .before .before .before .before .before .before .before .before .before .before .before .before .before .before .before .before .before .before .before .args .m)) (copied-whole _ _ _ _ (c .before .before .before .before .before .before .before .before .before .before .before .copy-masks .ensures) (c .before .before .before .before .before .before .before .before .before .before .before .before .before .before .before .before .before .before .before .before .pre .room .work-long))) _ (c .root-after .ensures)
 
 pub root-of-spec : {M : Type 1} → statement M
 root-of-spec =

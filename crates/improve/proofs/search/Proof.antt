@@ -13,7 +13,7 @@ use Rattle.improve.proofs.search.Lts as lts
 use Rattle.candidates.proofs.first_candidate.Reads as first-candidate-reads
 use Rattle.candidates.proofs.next_candidate.Reads as next-candidate-reads
 use Rattle.improve.proofs.better.Reads as better-reads
-use Rattle.improve.proofs.narrow.Reads as narrow-reads
+use Rattle.candidates.proofs.narrow.Reads as narrow-reads
 use Rattle.improve.proofs.none_yet.Reads as none-yet-reads
 use Rattle.improve.proofs.root_of.Reads as root-of-reads
 

@@ -10,7 +10,7 @@ use Rattle.vuyekhang.proofs.vk_node_cells.Tie as tie
 use Rattle.vuyekhang.proofs.vk_node_cells.Reads as reads
 use Rattle.vuyekhang.proofs.vk_node_cells.Lts as lts
 use Rattle.plan.proofs.check.Reads as check-reads
-use Rattle.vuyekhang.proofs.bound_of.Reads as bound-of-reads
+use Rattle.load.proofs.bound_of.Reads as bound-of-reads
 
 slice-aggregate-check : tie.Need-slice-aggregate-check
 slice-aggregate-check c = search needs

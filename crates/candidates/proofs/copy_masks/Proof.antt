@@ -4,11 +4,11 @@ use Prim.Native.Nat.{ℕ, _-_, _≤_, _<_}
 use native.Mathlib.Omega.{arith}
 use lib.ListN.{length, getD, take, drop}
 use borrow.Author.Needs.{needs}
-use Rattle.engine.proofs.Judging.{copied-next, copied-length}
-use Rattle.engine.proofs.copy_masks.Statement.{statement}
-use Rattle.engine.proofs.copy_masks.Tie as tie
-use Rattle.engine.proofs.copy_masks.Reads as reads
-use Rattle.engine.proofs.copy_masks.Lts as lts
+use Rattle.candidates.proofs.Copying.{copied-next, copied-length}
+use Rattle.candidates.proofs.copy_masks.Statement.{statement}
+use Rattle.candidates.proofs.copy_masks.Tie as tie
+use Rattle.candidates.proofs.copy_masks.Reads as reads
+use Rattle.candidates.proofs.copy_masks.Lts as lts
 
 abbrev Inv-loop : tie.InvT-loop
 Inv-loop masks sets out₀ s₀ out s = (out ≡ take s masks ++ drop s out₀) × (s ≤ sets)
