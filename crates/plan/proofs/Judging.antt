@@ -12,7 +12,7 @@ use lib.ListN.{length, take, drop, set, length-append, length-take, length-drop,
 use lib.Seq.{take-append-seam, drop-append-add, drop-drop}
 use borrow.Author.Tests.{eqb-true, eq-eqb, leb-true}
 use Rattle.esol.specs.Formula.{Node, Forest, none, tree, kindNumber, nodeCount, childDepth}
-use Rattle.esol.specs.Cells.{cellCount, siblingFirst}
+use Rattle.esol.specs.Cells.{cellCount}
 use Rattle.esol.proofs.Lists.{and-true}
 use Rattle.plan.specs.declared.Checked.{Checked}
 use Rattle.plan.specs.declared.CheckedTree.{CheckedTree}
@@ -20,19 +20,23 @@ use Rattle.plan.specs.Bytes.{recordLength, kindField, relationField, aFi
 use Rattle.plan.specs.Rules.{everyNode, treeCount, arityRule, mayNest, nestingRule, depthRule, innerRule, nodeRule}
 use Rattle.plan.specs.Index.{firstCells, ends, nodeUses, forestUses, usesTable}
 use Rattle.plan.specs.Decode.{forestOf}
-use Rattle.plan.specs.Check.{fieldRule, recordRule, FieldIs, kindDepth, kindWidth, kindUses, laid, Placed, Sound, Indexed, Judged, FirstRecord, EndJudged, FirstTree, TreeJudged}
+use Rattle.plan.specs.Check.{fieldRule, recordRule, kindDepth, kindWidth, kindUses, laid, Placed, Sound, Indexed, Judged, FirstRecord, EndJudged, FirstTree, TreeJudged}
 use Rattle.plan.proofs.Conjunctions.{two-true, four-true}
-use Rattle.plan.proofs.Parts.{childrenOf, siblingsOf, rest-all, length-rest-all, cancel-le, cancel-children, no-record, span-within, length-children, parts-join, first-below, children-below, siblings-below}
+use Rattle.plan.proofs.Parts.{childrenOf, siblingsOf, cancel-le, cancel-children, no-record, span-within, length-children, parts-join, first-below, children-below}
 use Rattle.plan.proofs.Bytes.{record-pos, kind-of-record, relation-of-record, a-of-record, b-of-record, parent-of-record, end-of-record, record-is}
 use Rattle.plan.proofs.Encoding.{length-records, children-part, siblings-part, forest-of-records}
 use Rattle.plan.proofs.Fields.{NodeIs, fields-node, node-fields, kind-depth, kind-depth-le, kind-width, kind-uses}
 
--- the records of node i's children, as the code lends them, and of its later siblings, where its tree ends at e
+-- the records of node i's children and of its later siblings, where its tree ends at e; the siblings' also as the fill's code
+-- lends them
 abbrev pub kidsOf : List ℕ → ℕ → ℕ → List ℕ
 kidsOf l i e = childrenOf recordLength (e - i) l
 
+abbrev pub laterOf : List ℕ → ℕ → ℕ → List ℕ
+laterOf l i e = siblingsOf recordLength (e - i) l
+
 abbrev pub restOf : List ℕ → ℕ → ℕ → List ℕ
-restOf l i e = siblingsOf recordLength (e - i) l
+restOf l i e = take (length l - recordLength * (e - i)) (siblingsOf recordLength (e - i) l)
 
 -- What a sound part that is not empty begins with.
 pub record Opened (l : List ℕ) (i parent d sets above : ℕ) : Type 0 where
@@ -151,16 +155,16 @@ module _ (l : List ℕ) (i parent d sets above : ℕ) (some : length l ≡ 0 →
     pub cut-short : length l < recordLength * (e - i) → (f : Forest) → Sound l i parent d sets above f → ⊥
     cut-short h f s = let o = opened f s some .long in omega (arith, ap (λ (x : ℕ). recordLength * (x - i)) en)
 
-    rest-sound : (o : Opened l i parent d sets above) → Sound (restOf l i e) e parent d sets above (o .siblings)
+    rest-sound : (o : Opened l i parent d sets above) → Sound (laterOf l i e) e parent d sets above (o .siblings)
     rest-sound o =
         let k = o .rest in
         record {
-          is = ap (restOf l i) en ∙ k .is ∙ ap (λ (x : ℕ). records (o .siblings) x parent) (sym en);
+          is = ap (laterOf l i) en ∙ k .is ∙ ap (λ (x : ℕ). records (o .siblings) x parent) (sym en);
           rules = k .rules;
           nested = k .nested;
         }
 
-    pub bad-rest : ((g : Forest) → Sound (restOf l i e) e parent d sets above g → ⊥) → (f : Forest) → Sound l i parent d sets above f → ⊥
+    pub bad-rest : ((g : Forest) → Sound (laterOf l i e) e parent d sets above g → ⊥) → (f : Forest) → Sound l i parent d sets above f → ⊥
     bad-rest h f s = let o = opened f s some in h (o .siblings) (rest-sound o)
 
     module _ (kind : ℕ) (ki : kind ≡ kindField l) where
@@ -329,8 +333,8 @@ module _ (l : List ℕ) (i parent d sets above e : ℕ) (h : FirstRecord l i par
           is = record-here
               ∙ ap (λ (t : List ℕ). recordOf nodeHere parent e ++ t)
               (parts-join recordLength record-pos (e - i) l (h .within) some-here
-              ∙ ap (λ (t : List ℕ). t ++ restOf l i e) (kids .is ∙ ap (λ (j : ℕ). records c j i) (add-one i)))
-              ∙ (λ j. recordOf nodeHere parent (en j) ++ (records c (suc i) i ++ restOf l i (en j)));
+              ∙ ap (λ (t : List ℕ). t ++ laterOf l i e) (kids .is ∙ ap (λ (j : ℕ). records c j i) (add-one i)))
+              ∙ (λ j. recordOf nodeHere parent (en j) ++ (records c (suc i) i ++ laterOf l i (en j)));
           within = subst (λ (w : ℕ). recordLength * (w - i) ≤ length l) en (h .within);
           end-is = sym en ∙ end-here;
           rules = and-true _ _ (and-true _ _ (and-true _ _ (node-here .inner) (rules-here .1)) (ap (λ (w : ℕ). arityRule w (treeCount c)) k ∙ a))

@@ -1,17 +1,17 @@
 -- The check of siblings one tree after the other: what is left to check says what the whole part is. Assumes nothing.
 use mathlib.Core.Path.{_≡_, refl, sym, ap, ap₂, _∙_, subst}
-use mathlib.Core.Bool.{Bool, true, false, true≢false}
+use mathlib.Core.Bool.{true, false, true≢false}
 use mathlib.Core.List.{List, [], _∷_, _++_}
-use Prim.Native.Nat.{ℕ, zero, suc, _+_, _-_, _*_, _/_, _%_, _^_, _≤_, _<_, max}
+use Prim.Native.Nat.{ℕ, suc, _+_, _-_, _*_, _/_, _%_, _^_, _≤_, _<_, max}
 use native.Mathlib.Nat.{add-zero, zero-add}
 use native.Mathlib.Numerals.{add-one}
 use native.Mathlib.Omega.{arith}
 use lib.Arith.{bin-ind}
 use lib.Bits.{bitOr, or-step, or-zero-l, or-zero-r}
-use lib.ListN.{length, take, drop, set, length-drop}
+use lib.ListN.{length, take, drop, length-drop}
 use lib.Seq.{drop-drop}
 use borrow.Author.Tests.{leb-true}
-use Rattle.esol.specs.Formula.{Node, Forest, none, tree, kindNumber, nodeCount, childDepth}
+use Rattle.esol.specs.Formula.{Node, Forest, none, tree, kindNumber, childDepth}
 use Rattle.esol.specs.Cells.{cellCount, siblingFirst}
 use Rattle.esol.proofs.Lists.{and-true}
 use Rattle.plan.specs.declared.Checked.{Checked}
@@ -23,7 +23,7 @@ use Rattle.plan.specs.Check.{laid, Placed, Sound, Indexed, Judged, First
 use Rattle.plan.proofs.Conjunctions.{four-true}
 use Rattle.plan.proofs.Parts.{rest-all, one-fits, first-below, siblings-below}
 use Rattle.plan.proofs.Bytes.{record-pos, end-of-record}
-use Rattle.plan.proofs.Judging.{restOf, refuse, bad-rest, table-tree, laid-nothing, length-firsts, length-ends, length-uses, width-low, cells-few, placed-low}
+use Rattle.plan.proofs.Judging.{laterOf, refuse, bad-rest, table-tree, laid-nothing, length-firsts, length-ends, length-uses, width-low, cells-few}
 
 -- the halves and the last bits of a union
 or-half : (a b : ℕ) → bitOr a b / 2 ≡ bitOr (a / 2) (b / 2)
@@ -47,7 +47,7 @@ or-assoc = bin-ind (λ (n : ℕ). (b c : ℕ) → bitOr (bitOr n b) c ≡ bitOr 
 module _ (l : List ℕ) (i parent d ports sets above first : ℕ) (r : CheckedTree) (x y z x₁ y₁ z₁ : List ℕ) (n : Node) (c : Forest)
     (t : FirstTree l i parent d ports sets above first r x y z x₁ y₁ z₁ n c) where
   end-field : r .end ≡ endField l
-  end-field = sym (ap endField (t .is) ∙ end-of-record n parent (r .end) (records c (suc i) i ++ restOf l i (r .end)))
+  end-field = sym (ap endField (t .is) ∙ end-of-record n parent (r .end) (records c (suc i) i ++ laterOf l i (r .end)))
 
   some-ahead : recordLength ≤ recordLength * (r .end - i)
   some-ahead = one-fits recordLength record-pos (r .end - i) (omega (arith, t .end-is))
@@ -56,7 +56,7 @@ module _ (l : List ℕ) (i parent d ports sets above first : ℕ) (r : CheckedTr
   unfolding nodeRule depthRule
   depth-low = leb-true d 3 (four-true (innerRule sets n d) (depthRule d) (arityRule (kindNumber n) (treeCount c)) (nestingRule (kindNumber n) c) (t .rules) .1)
 
-  tree-sound : (s : Forest) → Sound (restOf l i (r .end)) (r .end) parent d sets above s → Sound l i parent d sets above (tree n c s)
+  tree-sound : (s : Forest) → Sound (laterOf l i (r .end)) (r .end) parent d sets above s → Sound l i parent d sets above (tree n c s)
   unfolding records everyNode nestingRule
   tree-sound s rest = record {
     is = t .is
@@ -66,7 +66,7 @@ module _ (l : List ℕ) (i parent d ports sets above first : ℕ) (r : CheckedTr
     nested = and-true _ _ (t .nested) (rest .nested);
   }
 
-  no-tree : ((s : Forest) → Sound (restOf l i (r .end)) (r .end) parent d sets above s → ⊥) → (f : Forest) → Sound l i parent d sets above f → ⊥
+  no-tree : ((s : Forest) → Sound (laterOf l i (r .end)) (r .end) parent d sets above s → ⊥) → (f : Forest) → Sound l i parent d sets above f → ⊥
   no-tree h f s =
       let some : length l ≡ 0 → ⊥ = λ q. omega (arith, q, t .within, some-ahead, record-pos) in
       bad-rest l i parent d sets above some (r .end) end-field h f s
@@ -103,7 +103,7 @@ module _ (l : List ℕ) (i parent d ports sets above first : ℕ) (r : CheckedTr
 
     -- where the later siblings stand
     placed-rest : length x₁ ≡ length x → length y₁ ≡ length y → length z₁ ≡ length z
-        → Placed (restOf l i (r .end)) (r .end) parent d ports sets width (first + r .cells) x₁ y₁ z₁
+        → Placed (laterOf l i (r .end)) (r .end) parent d ports sets width (first + r .cells) x₁ y₁ z₁
     placed-rest lx ly lz = record {
       few = rw (length-drop (recordLength * (r .end - i)) l)
           (siblings-below recordLength record-pos i (r .end) (length l) 512 (omega (arith, t .end-is)) (t .within) (place .few));
@@ -215,7 +215,7 @@ module _ (part : List ℕ) (i parent d ports sets above width first : ℕ) (x y 
             omega (arith, f .2 .within, length-drop at part, p .within),
           )
 
-      rest-is : restOf (drop at part) node (t .end) ≡ drop (at + far) part
+      rest-is : laterOf (drop at part) node (t .end) ≡ drop (at + far) part
       rest-is = drop-drop far at part
 
       pub passed-tree : length x₂ ≡ length x₁ → length y₂ ≡ length y₁ → length z₂ ≡ length z₁

@@ -329,9 +329,9 @@ fn check_tree(
         return broken_tree();
     }
     let kind = kind_of(part);
-    let kids = &part[RECORD..RECORD * (end - i)];
+    let children = &part[RECORD..RECORD * (end - i)];
     let c = check_children(
-        kids,
+        children,
         i,
         kind,
         depth,
@@ -359,7 +359,7 @@ fn check_tree(
     }
 }
 
-// Checks the children of node i, which are of a kind's children's depth and width. A node without any costs no call.
+// Checks the children of node i, a node of some kind. Most nodes have none: that is answered here, since a call costs more.
 fn check_children(
     part: &[u8],
     i: usize,
@@ -403,7 +403,8 @@ fn check_children(
 }
 
 // Checks the records of some trees, the first of them node i, and fills the index tables with what it finds. Each record is
-// visited once: the children are the part up to the record's end, the later siblings the part behind it.
+// visited once: the children are the part up to the record's end, the later siblings the part behind it. Siblings are taken in
+// a loop, since a call for each costs more than their check.
 fn check_forest(
     part: &[u8],
     i: usize,

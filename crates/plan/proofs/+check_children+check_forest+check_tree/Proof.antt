@@ -9,8 +9,7 @@ use Rattle.plan.proofs.Fields.{uses-fit}
 use Rattle.plan.proofs.Parts.{length-rest-all}
 use Rattle.plan.proofs.Judging.{refuse-tree, bad-kids, bad-arity, accept-tree, accept-none, placed-kids, length-kids, rules-here, depth-here, placed-low, counted-low}
 use Rattle.plan.proofs.Siblings.{Passed, passed-none, passed-all, passed-bad, passed-tree, placed-on, tree-ahead}
-use Prim.Native.Nat.{_+_, _-_, _*_}
-use Prim.Native.Nat.{ℕ, _<_}
+use Prim.Native.Nat.{ℕ, _+_, _-_, _*_, _<_}
 use borrow.Fn.Kinds.{In}
 use borrow.Fn.PlainCycle.{Measures, is, falls, and}
 use Rattle.plan.proofs.check_children.Reads as check-children
@@ -250,25 +249,25 @@ check-tree-kind-of-requires : (t : ℕ) → check-tree-lts.Need-kind-of-requires
 check-tree-kind-of-requires t c κs =
     (c .before .tree-end .ensures .accepts (c .if1 .left)) .long
 
-check-tree-sub-kids : (t : ℕ) → check-tree-lts.Need-sub-kids (check-tree-claims t) (check-tree-at t) check-tree.Post
-check-tree-sub-kids t c =
+check-tree-sub-children : (t : ℕ) → check-tree-lts.Need-sub-children (check-tree-claims t) (check-tree-at t) check-tree.Post
+check-tree-sub-children t c =
     omega (arith, (c .before .before .tree-end .ensures .accepts (c .before .if1 .left)) .after)
 
-check-tree-mul-kids : (t : ℕ) → check-tree-lts.Need-mul-kids (check-tree-claims t) (check-tree-at t) check-tree.Post
-check-tree-mul-kids t c =
+check-tree-mul-children : (t : ℕ) → check-tree-lts.Need-mul-children (check-tree-claims t) (check-tree-at t) check-tree.Post
+check-tree-mul-children t c =
     omega (arith, (c .before .before .tree-end .ensures .accepts (c .before .if1 .left)) .end-is .fits)
 
-check-tree-sub-kids-2 : (t : ℕ) → check-tree-lts.Need-sub-kids-2 (check-tree-claims t) (check-tree-at t) check-tree.Post
-check-tree-sub-kids-2 t c =
+check-tree-sub-children-2 : (t : ℕ) → check-tree-lts.Need-sub-children-2 (check-tree-claims t) (check-tree-at t) check-tree.Post
+check-tree-sub-children-2 t c =
     omega (arith, (c .before .before .tree-end .ensures .accepts (c .before .if1 .left)) .after)
 
-check-tree-part-kids-start : (t : ℕ) → check-tree-lts.Need-part-kids-start (check-tree-claims t) (check-tree-at t) check-tree.Post
-check-tree-part-kids-start t c =
+check-tree-part-children-start : (t : ℕ) → check-tree-lts.Need-part-children-start (check-tree-claims t) (check-tree-at t) check-tree.Post
+check-tree-part-children-start t c =
     omega (arith, (c .before .before .tree-end .ensures .accepts (c .before .if1 .left)) .after)
 
-check-tree-part-kids-end : (t : ℕ) → check-tree-lts.Need-part-kids-end (check-tree-claims t) (check-tree-at t) check-tree.Post
+check-tree-part-children-end : (t : ℕ) → check-tree-lts.Need-part-children-end (check-tree-claims t) (check-tree-at t) check-tree.Post
 unfolding recordLength
-check-tree-part-kids-end t c =
+check-tree-part-children-end t c =
     (c .before .before .tree-end .ensures .accepts (c .before .if1 .left)) .within
 
 check-tree-check-children-requires : (t : ℕ) → check-tree-lts.Need-check-children-requires (check-tree-claims t) (check-tree-at t) check-tree.Post
@@ -416,11 +415,11 @@ pub +check-children+check-forest+check-tree-spec : {M : Type 1} → statement M
     (check-tree-broken-tree-requires t)
     (check-tree-returns t)
     (check-tree-kind-of-requires t)
-    (check-tree-sub-kids t)
-    (check-tree-mul-kids t)
-    (check-tree-sub-kids-2 t)
-    (check-tree-part-kids-start t)
-    (check-tree-part-kids-end t)
+    (check-tree-sub-children t)
+    (check-tree-mul-children t)
+    (check-tree-sub-children-2 t)
+    (check-tree-part-children-start t)
+    (check-tree-part-children-end t)
     (check-tree-check-children-requires t)
     (check-tree-broken-tree-requires-2 t)
     (check-tree-same-length t)
