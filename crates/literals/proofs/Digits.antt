@@ -3,7 +3,7 @@ use mathlib.Core.Path.{_≡_, refl, sym, ap, _∙_}
 use mathlib.Core.Bool.{cond}
 use mathlib.Core.List.{List}
 use Prim.Native.Nat.{ℕ, zero, suc, _+_, _-_, _*_, _^_, _/_, _%_, _≤_, _<_}
-use native.Mathlib.Nat.{mod-lt, mod-eq-of-lt, mod-self, mod-add-mod, add-mod-right, add-div-right, mul-mod-left, div-one, div-div-eq-div-mul, div-add-mod', pow-zero, pow-suc, pow-succ', one-le-pow, mul-le-mul-right, suc-mul, zero-div, zero-mod, one-mul}
+use native.Mathlib.Nat.{mod-lt, mod-eq-of-lt, mod-self, mod-add-mod, add-mod-right, add-div-right, mul-mod-left, div-one, div-div-eq-div-mul, div-add-mod', pow-zero, pow-suc, pow-succ', one-le-pow, pow-le-pow-right, mul-le-mul-right, suc-mul, zero-div, zero-mod, one-mul}
 use native.Mathlib.Decide.{decLt}
 use native.Mathlib.Omega.{arith}
 use lib.Dec.{eqb}
@@ -48,18 +48,6 @@ pub digit-first : (u block : ℕ) → 0 ≡ digitAt u block 0
 unfolding digitAt
 digit-first u block = sym (ap (λ (x : ℕ). x % u) (zero-div block) ∙ zero-mod u)
 
--- within a run the port stays
-pub digit-same : (u block t i : ℕ) → t % block ≡ 0 → i < block → digitAt u block (t + i) ≡ digitAt u block t
-unfolding digitAt
-digit-same u block t i z l =
-    let e : t ≡ t / block * block = omega (arith, div-add-mod' t block) in
-    ap (λ (x : ℕ). x % u) (ap (λ (x : ℕ). (x + i) / block) e ∙ digits-div (t / block) l)
-
--- a run on, the port is the next, after the last the first
-pub digit-next : (u block t : ℕ) → 1 ≤ block → digitAt u block (t + block) ≡ (digitAt u block t + 1) % u
-unfolding digitAt
-digit-next u block t h = ap (λ (x : ℕ). x % u) (add-div-right t h) ∙ sym (mod-add-mod (t / block) u 1)
-
 -- the next port by a test
 pub next-within : (p u : ℕ) → p + 1 < u → p + 1 ≡ (p + 1) % u
 next-within p u h = sym (mod-eq-of-lt h)
@@ -69,12 +57,6 @@ next-round p u h l = let e : p + 1 ≡ u = omega arith in sym (ap (λ (x : ℕ).
 
 pub digit-start : (u block : ℕ) (d : Digit) → d .port ≡ 0 → d .left ≡ block → DigitIs u block 0 d
 digit-start u block d p l = record { port-is = p ∙ digit-first u block; left-is = omega (arith, zero-mod block) }
-
--- what the step to the next cell asks
-pub digit-asks : {u block t w : ℕ} {d : Digit} {cells : List ℕ} → DigitIs u block t d → RunsPlaced u block w cells
-    → (d .port < u) × (u ≤ 64) × (1 ≤ d .left)
-digit-asks {u} {block} {t} is h =
-    (rw (is .port-is) (digit-lt u block t (h .ports1)), h .ports64, omega (arith, is .left-is, mod-lt t (h .block1)))
 
 -- a cell on, within the run and past its last cell
 pub digit-stays : (u block t : ℕ) (d e : Digit) → 1 < d .left → e .port ≡ d .port → e .left + 1 ≡ d .left → DigitIs u block t d
@@ -118,6 +100,23 @@ block-whole u d v h =
     let e : d ≡ suc v + (d - 1 - v) = omega arith in
     ap (λ (x : ℕ). x % u ^ (d - 1 - v)) (ap (λ (x : ℕ). u ^ x) e ∙ pow-add u (suc v) (d - 1 - v))
     ∙ mul-mod-left (u ^ suc v) (u ^ (d - 1 - v))
+
+-- a larger block is whole rounds of a smaller one
+pub block-nested : (u d v w : ℕ) → 1 ≤ u → blockOf u d w < blockOf u d v → blockOf u d v % (u * blockOf u d w) ≡ 0
+unfolding blockOf
+block-nested u d v w h l = go (decLt (d - 1 - w) (d - 1 - v))
+  where
+    go : Dec (d - 1 - w < d - 1 - v) → u ^ (d - 1 - v) % (u * u ^ (d - 1 - w)) ≡ 0
+    go (yes k) =
+        let e : d - 1 - v ≡ d - 1 - v - suc (d - 1 - w) + suc (d - 1 - w) = omega arith in
+        ap (λ (x : ℕ). u ^ (d - 1 - v) % x) (sym (pow-succ' u (d - 1 - w)))
+        ∙ ap (λ (x : ℕ). x % u ^ suc (d - 1 - w)) (ap (λ (x : ℕ). u ^ x) e ∙ pow-add u (d - 1 - v - suc (d - 1 - w)) (suc (d - 1 - w)))
+        ∙ mul-mod-left (u ^ (d - 1 - v - suc (d - 1 - w))) (u ^ suc (d - 1 - w))
+    go (no k) = absurd (omega (arith, pow-le-pow-right {n = u} h {i = d - 1 - v} {j = d - 1 - w} (omega arith)))
+
+pub block-once : (u d v : ℕ) → 1 ≤ u → v < d → u * blockOf u d v ≤ u ^ d
+unfolding blockOf
+block-once u d v h l = rw (← (pow-succ' u (d - 1 - v))) (pow-le-pow-right {n = u} h {i = suc (d - 1 - v)} {j = d} (omega arith))
 
 -- a run that begins before the end of whole runs ends by it
 pub run-fits : {u block w : ℕ} {cells : List ℕ} → RunsPlaced u block w cells → (t : ℕ) → t % block ≡ 0 → t < w → t + block ≤ w

@@ -3,3 +3,4 @@ pub mod Digits
 pub mod Runs
 pub mod Penalties
 pub mod Rounds
+pub mod Nested

@@ -19,8 +19,8 @@ use Rattle.esol.proofs.Tables.{tabulate-cong}
 use Rattle.plan.specs.Bytes.{nodeOf}
 use Rattle.plan.specs.Check.{fieldRule}
 use Rattle.literals.specs.Literal.{literalOf, LiteralPlaced}
-use Rattle.literals.specs.Ports.{blockOf, digitAt, memberPenalty, RunsPlaced}
-use Rattle.literals.proofs.Digits.{port-digit, block-pos, block-whole}
+use Rattle.literals.specs.Ports.{blockOf, digitAt, memberPenalty, RunsPlaced, NestedPlaced, BlocksPlaced}
+use Rattle.literals.proofs.Digits.{port-digit, block-pos, block-whole, block-nested, block-once}
 
 -- The literal of a literal's record is what the plan table decodes it to.
 pub literal-node : (kind r a b : ℕ) → 5 ≤ kind → nodeOf kind r a b ≡ lit (literalOf kind r a b)
@@ -75,6 +75,21 @@ module _ {sets kind r a b ports depth width : ℕ} {masks cells : List ℕ} (p :
     whole = rw (e, p .width-is) (block-whole ports depth v h);
     room = p .room;
   }
+
+  -- Of two variables that with the larger block is the outer.
+  nested : (v w : ℕ) → v < depth → w < depth → blockOf ports depth w < blockOf ports depth v → NestedPlaced ports (blockOf ports depth v) (blockOf ports depth w) width cells
+  nested v w h k l = record {
+    ports1 = p .ports1;
+    ports64 = p .ports64;
+    block1 = block-pos ports depth v (p .ports1);
+    other1 = block-pos ports depth w (p .ports1);
+    nested = block-nested ports depth v w (p .ports1) l;
+    once = rw (p .width-is) (block-once ports depth v (p .ports1) h);
+    room = p .room;
+  }
+
+  pub blocks : (block other : ℕ) → a < depth → b < depth → block ≡ blockOf ports depth a → other ≡ blockOf ports depth b → BlocksPlaced ports block other width cells
+  blocks block other h k e f = rw (e, f) (record { first-outer = nested a b h k; second-outer = nested b a k h; room = p .room })
 
   -- it, from the digits of t, by the kind
   member-at : kind ≤ 6 → (t : ℕ)

@@ -34,7 +34,7 @@ pub copied : (to len : ℕ) (xs : List ℕ) → to + len ≤ length xs
 copied to len xs h = rw (take-tabulate len xs (omega arith))
 
 -- Whole periods on, a place is the same in its period.
-period-on : (t i p : ℕ) → t % p ≡ 0 → (t + i) % p ≡ i % p
+pub period-on : (t i p : ℕ) → t % p ≡ 0 → (t + i) % p ≡ i % p
 period-on t i p z = sym (mod-add-mod t p i) ∙ ap (λ (x : ℕ). (x + i) % p) z ∙ ap (λ (x : ℕ). x % p) (zero-add i)
 
 first-cell : (f : ℕ → ℕ) (n i : ℕ) (xs : List ℕ) → i < n → getD (tabulate n f ++ xs) i 0 ≡ f i
@@ -100,15 +100,18 @@ round-port u block port i h l = sym (ap (λ (x : ℕ). x % u) (digits-div port l
 pub round-fits : {u block w : ℕ} {cells : List ℕ} → RunsPlaced u block w cells → (port t : ℕ) → t ≡ port * block → t < w → t + block ≤ w
 round-fits {u} {block} p port t e l = run-fits p t (ap (λ (x : ℕ). x % block) e ∙ mul-mod-left port block) l
 
+-- after the last port the first comes again
+pub digit-period : (u block x : ℕ) → 1 ≤ u → 1 ≤ block → digitAt u block (x % (u * block)) ≡ digitAt u block x
+unfolding digitAt
+digit-period u block x u1 b1 =
+    ap (λ (m : ℕ). m / block % u) (mod-mul x u1 b1) ∙ ap (λ (m : ℕ). m % u) (digits-div (x / block % u) (mod-lt x b1)) ∙ mod-mod (x / block) u
+
 -- every port once
 pub round-whole : {u block w : ℕ} {cells : List ℕ} → RunsPlaced u block w cells → (t : ℕ) → t ≡ u * block → t < w → Round u block w t
-unfolding digitAt
 round-whole {u} {block} {w} p t e l = record {
   some = omega (arith, one-le-mul (p .ports1) (p .block1));
   within = omega arith;
-  again = λ x _. sym (
-      ap (λ (m : ℕ). x % m / block % u) e ∙ ap (λ (m : ℕ). m / block % u) (mod-mul x (p .ports1) (p .block1))
-      ∙ ap (λ (m : ℕ). m % u) (digits-div (x / block % u) (mod-lt x (p .block1))) ∙ mod-mod (x / block) u);
+  again = λ x _. sym (ap (λ (m : ℕ). digitAt u block (x % m)) e ∙ digit-period u block x (p .ports1) (p .block1));
 }
 
 -- all there are

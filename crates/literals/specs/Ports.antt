@@ -2,8 +2,8 @@
 use mathlib.Core.Path.{_≡_}
 use mathlib.Core.Bool.{Bool, cond, not}
 use mathlib.Core.List.{List, _++_}
-use Prim.Native.Nat.{ℕ, _+_, _-_, _/_, _%_, _^_, _≤_, _<_, min}
-use lib.Dec.{eqb}
+use Prim.Native.Nat.{ℕ, _+_, _-_, _*_, _/_, _%_, _^_, _≤_, _<_, min}
+use lib.Dec.{eqb, ltb}
 use lib.ListN.{length, getD, drop}
 use Rattle.esol.specs.Configuration.{indicator}
 use Rattle.esol.specs.Cells.{tabulate}
@@ -26,6 +26,10 @@ pub record DigitIs (ports block t : ℕ) (d : Digit) : Type 0 where
 unfoldable pub memberPenalty : ℕ → Bool → ℕ
 memberPenalty kind inside = indicator (cond (eqb kind 5) (not inside) inside)
 
+-- A number by whether port a is less than port b, the same or more.
+unfoldable pub byOrder : ℕ → ℕ → ℕ → ℕ → ℕ → ℕ
+byOrder less same more a b = cond (ltb a b) less (cond (eqb a b) same more)
+
 -- The first `width` cells are whole runs of `block` cells.
 pub record RunsPlaced (ports block width : ℕ) (cells : List ℕ) : Type 0 where
   pub ports1 : 1 ≤ ports
@@ -43,3 +47,19 @@ pub record Round (ports block width r : ℕ) : Type 0 where
   pub some : min 1 width ≤ r
   pub within : r ≤ width
   pub again : (t : ℕ) → t < width → digitAt ports block t ≡ digitAt ports block (t % r)
+
+-- Two variables, of which the outer stays over whole rounds of the inner's ports, and the cells, which have every port of both.
+pub record NestedPlaced (ports block other width : ℕ) (cells : List ℕ) : Type 0 where
+  pub ports1 : 1 ≤ ports
+  pub ports64 : ports ≤ 64
+  pub block1 : 1 ≤ block
+  pub other1 : 1 ≤ other
+  pub nested : block % (ports * other) ≡ 0
+  pub once : ports * block ≤ width
+  pub room : width ≤ length cells
+
+-- Two variables of a tuple, whichever is the outer; the same one has the same block.
+pub record BlocksPlaced (ports block other width : ℕ) (cells : List ℕ) : Type 0 where
+  pub first-outer : other < block → NestedPlaced ports block other width cells
+  pub second-outer : block < other → NestedPlaced ports other block width cells
+  pub room : width ≤ length cells

@@ -14,7 +14,7 @@ ghost use Rattle.esol.specs.Configuration.{indicator, portsIn, inMask, configur
 ghost use Rattle.esol.specs.Penalty.{compare, sizePenalty, literalPenalty};
 ghost use Rattle.esol.specs.Cells.{tupleAt, tabulate};
 ghost use Rattle.literals.specs.Literal.{literalOf, LiteralPlaced};
-ghost use Rattle.literals.specs.Ports.{blockOf, digitAt, DigitIs, memberPenalty, RunsPlaced, repeated, Round};
+ghost use Rattle.literals.specs.Ports.{blockOf, digitAt, DigitIs, memberPenalty, byOrder, RunsPlaced, repeated, Round, NestedPlaced, BlocksPlaced};
 
 // The port of a variable at a cell, and how many cells are left before it changes.
 struct Digit {
@@ -181,7 +181,41 @@ fn port_penalty(relation: u8, a: u32, b: u32) -> u32
     1
 }
 
-// The cells of kind 7, by the blocks of its two variables.
+// The cells of a comparison by whether the inner variable's port is less than the outer's, the same or more. The inner goes
+// through its ports while the outer stays: a round is a run of each, and with the outer's last port all begins again.
+fn put_nested(
+    less: u32,
+    same: u32,
+    more: u32,
+    ports: u32,
+    block: usize,
+    other: usize,
+    width: usize,
+    cells: &mut [u32],
+)
+    requires { ⌜ NestedPlaced ports block other width (now cells) ⌝ }
+    ensures { λ _. ⌜ now (cells .exit) ≡ tabulate width (λ t. byOrder less same more (digitAt ports other t) (digitAt ports block t)) ++ drop width (now (cells .entry)) ⌝ }
+{
+    let round = (ports as usize) * other;
+    let period = (ports as usize) * block;
+    let rounds = block / round;
+    let mut v = Digit {
+        port: 0,
+        left: rounds,
+    };
+    let mut t = 0;
+    while t < period {
+        let low = (v.port as usize) * other;
+        put_run(t, low, less, cells);
+        put_run(t + low, other, same, cells);
+        put_run(t + low + other, round - low - other, more, cells);
+        v = next_digit(v, rounds, ports);
+        t += round;
+    }
+    repeat_first(period, width, cells);
+}
+
+// The cells of kind 7, by the blocks of its two variables: the outer has the larger.
 fn put_comparison(
     relation: u8,
     ports: u32,
@@ -190,24 +224,21 @@ fn put_comparison(
     width: usize,
     cells: &mut [u32],
 )
-    requires { ⌜ RunsPlaced ports block width (now cells) × RunsPlaced ports other width (now cells) ⌝ }
+    requires { ⌜ BlocksPlaced ports block other width (now cells) ⌝ }
     ensures { λ _. ⌜ now (cells .exit) ≡ tabulate width (λ t. indicator (not (compare (relationOf relation) (digitAt ports block t) (digitAt ports other t)))) ++ drop width (now (cells .entry)) ⌝ }
 {
-    let mut v = Digit {
-        port: 0,
-        left: block,
-    };
-    let mut w = Digit {
-        port: 0,
-        left: other,
-    };
-    let mut t = 0;
-    while t < width {
-        cells[t] = port_penalty(relation, v.port, w.port);
-        v = next_digit(v, block, ports);
-        w = next_digit(w, other, ports);
-        t += 1;
+    let less = port_penalty(relation, 0, 1);
+    let same = port_penalty(relation, 0, 0);
+    let more = port_penalty(relation, 1, 0);
+    if other < block {
+        put_nested(more, same, less, ports, block, other, width, cells);
+        return;
     }
+    if block < other {
+        put_nested(less, same, more, ports, other, block, width, cells);
+        return;
+    }
+    put_run(0, width, same, cells);
 }
 
 // The cells of kind 8: the same at every tuple.

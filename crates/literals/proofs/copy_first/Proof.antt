@@ -1,8 +1,7 @@
-use mathlib.Core.Path.{_≡_, _∙_}
-use Prim.Native.Nat.{ℕ, _+_, _-_, _≤_}
-use native.Mathlib.Omega.{arith}
+use mathlib.Core.Path.{_∙_}
+use Prim.Native.Nat.{_-_}
 use borrow.Author.Needs.{needs}
-use lib.ListN.{length, getD}
+use lib.ListN.{getD}
 use Rattle.literals.proofs.Runs.{Written, start, one-more, done}
 use Rattle.literals.proofs.Rounds.{copy-more, copied}
 use Rattle.literals.proofs.copy_first.Statement.{statement}

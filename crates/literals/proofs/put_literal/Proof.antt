@@ -1,6 +1,6 @@
 use mathlib.Core.Path.{_≡_}
 use native.Mathlib.Omega.{arith}
-use Rattle.literals.proofs.Penalties.{member-fields, port-fields, size-fields, runs, member-cells, port-cells, size-cells}
+use Rattle.literals.proofs.Penalties.{member-fields, port-fields, size-fields, runs, blocks, member-cells, port-cells, size-cells}
 use borrow.Author.Needs.{needs}
 use Rattle.literals.proofs.put_literal.Statement.{statement}
 use Rattle.literals.proofs.put_literal.Tie as tie
@@ -59,10 +59,9 @@ block-of-requires-3 c κs =
     (c .before .before .before .before .before .before .before .pre .ports64, c .before .before .before .before .before .before .before .pre .depth3, omega (arith, c .wide4 .ensures .0, port-fields (c .before .before .before .before .before .before .before .pre) (c .before .before .before .if2 .taken) .1))
 
 put-comparison-requires : tie.Need-put-comparison-requires
-put-comparison-requires c κs = (
-  runs (c .before .before .before .before .before .before .before .before .before .pre) (c .before .before .before .before .before .before .before .before .before .args .a) _ (port-fields (c .before .before .before .before .before .before .before .before .before .pre) (c .before .before .before .before .before .if2 .taken) .0) (cc),
-  runs (c .before .before .before .before .before .before .before .before .before .pre) (c .before .before .before .before .before .before .before .before .before .args .b) _ (port-fields (c .before .before .before .before .before .before .before .before .before .pre) (c .before .before .before .before .before .if2 .taken) .1) (cc),
-)
+put-comparison-requires c κs =
+    let f = port-fields (c .before .before .before .before .before .before .before .before .before .pre) (c .before .before .before .before .before .if2 .taken) in
+    blocks (c .before .before .before .before .before .before .before .before .before .pre) _ _ (f .0) (f .1) (cc) (cc)
 
 same-length-2 : tie.Need-same-length-2
 same-length-2 c = search needs

@@ -1,6 +1,5 @@
-use mathlib.Core.Path.{_≡_, ap}
+use mathlib.Core.Path.{ap}
 use Prim.Native.Nat.{ℕ}
-use native.Mathlib.Omega.{arith}
 use Rattle.esol.specs.Configuration.{inMask}
 use Rattle.literals.specs.Ports.{digitAt, memberPenalty}
 use Rattle.literals.proofs.Rounds.{repeated-is}

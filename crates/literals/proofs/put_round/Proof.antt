@@ -1,12 +1,11 @@
-use mathlib.Core.Path.{_≡_, refl, sym, ap, _∙_}
-use Prim.Native.Nat.{ℕ, _+_, _-_, _*_, _%_, _≤_}
+use mathlib.Core.Path.{_≡_, sym, ap, _∙_}
+use Prim.Native.Nat.{ℕ, _+_, _-_, _*_, _≤_}
 use native.Mathlib.Nat.{suc-mul}
 use native.Mathlib.Omega.{arith}
 use borrow.Author.Needs.{needs}
-use lib.ListN.{length}
 use Rattle.esol.specs.Configuration.{inMask}
 use Rattle.literals.specs.Ports.{digitAt, memberPenalty}
-use Rattle.literals.proofs.Runs.{Written, start, run-more, done, from-first}
+use Rattle.literals.proofs.Runs.{Written, start, run-more, from-first}
 use Rattle.literals.proofs.Rounds.{round-fits, round-port, round-whole, round-all}
 use Rattle.literals.proofs.put_round.Statement.{statement}
 use Rattle.literals.proofs.put_round.Tie as tie

@@ -1,8 +1,6 @@
-use mathlib.Core.Path.{_≡_}
-use Prim.Native.Nat.{ℕ, _+_, _-_, _≤_, min}
+use Prim.Native.Nat.{_-_}
 use native.Mathlib.Omega.{arith}
 use borrow.Author.Needs.{needs}
-use lib.ListN.{length}
 use Rattle.literals.proofs.Rounds.{Repeating, repeat-start, repeat-more, repeat-all}
 use Rattle.literals.proofs.repeat_first.Statement.{statement}
 use Rattle.literals.proofs.repeat_first.Tie as tie
