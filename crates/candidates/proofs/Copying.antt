@@ -28,4 +28,4 @@ copied-next xs ys zs s v h e l m = ap₂ (λ (ws : List ℕ) (w : ℕ). set ws s
 
 -- a table of so many is the copy alone
 pub copied-whole : (xs ys zs : List ℕ) (s : ℕ) → zs ≡ take s xs ++ drop s ys → length ys ≡ s → zs ≡ take s xs
-copied-whole xs ys zs s h l = h ∙ ap (λ (ws : List ℕ). take s xs ++ ws) (drop-of-length-le ys (omega (arith, l))) ∙ append-nil (take s xs)
+copied-whole xs ys zs s h l = h ∙ ap (λ (ws : List ℕ). take s xs ++ ws) (drop-of-length-le ys {i = s} (omega (arith, l))) ∙ append-nil (take s xs)
