@@ -1,0 +1,2 @@
+//! What the program `bench` measures.
+pub mod plans;
