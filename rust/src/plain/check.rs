@@ -12,23 +12,21 @@ pub const SIZE: u8 = 8;
 
 const HEADER: usize = 9;
 const RECORD: usize = 8;
+const MOST_NODES: usize = 512;
 const MOST_CELLS: usize = 1 << 20;
 
-#[derive(Clone, Copy)]
+#[derive(Clone, Copy, Default)]
 pub struct Node {
     /// Four bits a set: bits 0 to 2 the variables by which membership literals at or below the node test it, bit 3 a size literal
     /// at or below.
     pub uses: u64,
     pub first: u32,
+    pub end: u16,
+    pub depth: u8,
     pub kind: u8,
     pub relation: u8,
     pub a: u8,
     pub b: u8,
-    pub end: u16,
-    parent: u16,
-    /// The end of the last child met so far: where the next child must stand.
-    next: u16,
-    pub depth: u8,
 }
 
 impl Node {
@@ -58,21 +56,6 @@ fn header(table: &[u8]) -> Option<(usize, usize, usize)> {
     (sound && table.len() >= HEADER + RECORD * count).then_some((u, n, count))
 }
 
-fn node_of(r: &[u8], i: usize) -> Node {
-    Node {
-        uses: 0,
-        first: 0,
-        kind: r[0],
-        relation: r[1],
-        a: r[2],
-        b: r[3],
-        parent: word(r, 4),
-        end: word(r, 6),
-        next: i as u16 + 1,
-        depth: 0,
-    }
-}
-
 /// What a node itself uses, or `None` where a field breaks a rule.
 fn own_uses(node: &Node, n: usize) -> Option<u64> {
     let variable = |v: u8| v < node.depth;
@@ -89,60 +72,72 @@ fn own_uses(node: &Node, n: usize) -> Option<u64> {
     sound.then_some(uses)
 }
 
+/// What is still to come while the records are gone through.
+struct Standing {
+    /// The end of a node's last child met so far: where its next child must stand.
+    next: [u16; MOST_NODES],
+    parent: [u16; MOST_NODES],
+}
+
 impl Tables {
     /// `None` where the table breaks a rule or is cut short.
     pub fn of(table: &[u8]) -> Option<Tables> {
         let (u, n, count) = header(table)?;
         let powers = [1, u, u * u, u * u * u];
-        let mut nodes: Vec<Node> = Vec::with_capacity(count);
+        let mut nodes = vec![Node::default(); count];
+        let mut standing = Standing { next: [0; MOST_NODES], parent: [0; MOST_NODES] };
         let mut cells = 0;
         for (i, record) in table[HEADER..HEADER + RECORD * count].chunks_exact(RECORD).enumerate() {
-            let mut node = node_of(record, i);
-            if i == 0 {
-                if node.kind != ROOT || node.parent != u16::MAX || usize::from(node.end) != count {
-                    return None;
-                }
-            } else {
-                node.depth = stand(&mut nodes, &node, i)?;
+            let depth = standing.depth(&nodes, i, record)?;
+            let node = &mut nodes[i];
+            (node.kind, node.relation, node.a, node.b) = (record[0], record[1], record[2], record[3]);
+            (node.end, node.depth, node.first) = (word(record, 6), depth, cells as u32);
+            node.uses = own_uses(node, n)?;
+            cells += powers[usize::from(depth)];
+        }
+        (cells <= MOST_CELLS && standing.gather(&mut nodes)).then_some(Tables { u, n, cells, nodes })
+    }
+}
+
+impl Standing {
+    /// The depth of a node that stands as the next child of its parent.
+    fn depth(&mut self, nodes: &[Node], i: usize, record: &[u8]) -> Option<u8> {
+        let (kind, parent, end) = (record[0], usize::from(word(record, 4)), word(record, 6));
+        self.next[i] = i as u16 + 1;
+        self.parent[i] = parent as u16;
+        if i == 0 {
+            return (kind == ROOT && parent == 0xFFFF && usize::from(end) == nodes.len()).then_some(0);
+        }
+        if parent >= i || usize::from(self.next[parent]) != i {
+            return None;
+        }
+        let above = &nodes[parent];
+        let depth = above.depth + u8::from(above.is_quantifier());
+        let merges = kind == above.kind && (kind == AND || kind == OR);
+        if usize::from(end) <= i || above.end < end || merges || kind == ROOT || depth > 3 {
+            return None;
+        }
+        self.next[parent] = end;
+        Some(depth)
+    }
+
+    /// Hands uses up to the parents, and says whether every node has as many children as its kind asks for.
+    fn gather(&self, nodes: &mut [Node]) -> bool {
+        for i in (0..nodes.len()).rev() {
+            let (kind, end, uses) = (nodes[i].kind, nodes[i].end, nodes[i].uses);
+            let first_end = nodes.get(i + 1).map_or(0, |child| child.end);
+            let children = match kind {
+                ROOT | ALL | SOME => first_end == end,
+                AND | OR => first_end < end && usize::from(end) > i + 1,
+                _ => usize::from(end) == i + 1,
+            };
+            if !children || self.next[i] != end {
+                return false;
             }
-            node.uses = own_uses(&node, n)?;
-            node.first = cells as u32;
-            cells += powers[usize::from(node.depth)];
-            nodes.push(node);
+            if i > 0 {
+                nodes[usize::from(self.parent[i])].uses |= uses;
+            }
         }
-        (cells <= MOST_CELLS && gather(&mut nodes)).then_some(Tables { u, n, cells, nodes })
+        true
     }
-}
-
-/// A node's depth, where it stands as the next child of its parent.
-fn stand(nodes: &mut [Node], node: &Node, i: usize) -> Option<u8> {
-    let parent = nodes.get_mut(usize::from(node.parent))?;
-    let depth = parent.depth + u8::from(parent.is_quantifier());
-    let merges = node.kind == parent.kind && (node.kind == AND || node.kind == OR);
-    let inside = i < usize::from(node.end) && node.end <= parent.end;
-    if usize::from(parent.next) != i || !inside || merges || node.kind == ROOT || depth > 3 {
-        return None;
-    }
-    parent.next = node.end;
-    Some(depth)
-}
-
-/// Hands uses up to the parents, and says whether every node has as many children as its kind asks for.
-fn gather(nodes: &mut [Node]) -> bool {
-    for i in (0..nodes.len()).rev() {
-        let node = nodes[i];
-        let first_end = nodes.get(i + 1).map_or(0, |child| child.end);
-        let children = match node.kind {
-            ROOT | ALL | SOME => first_end == node.end,
-            AND | OR => first_end < node.end && usize::from(node.end) > i + 1,
-            _ => usize::from(node.end) == i + 1,
-        };
-        if !children || node.next != node.end {
-            return false;
-        }
-        if i > 0 {
-            nodes[usize::from(node.parent)].uses |= node.uses;
-        }
-    }
-    true
 }

@@ -3,9 +3,8 @@ use super::check::{Node, Tables, ALL, AND, COMPARE, OR, ROOT, SIZE, SOME};
 use super::literal::{digit, member, penalty, related, with_digit};
 use super::walk::least_of;
 
-/// Up to so many ports a node's cells are done at once; above, the cells below one port of an outermost quantifier, so that what
-/// is read was written just before.
-const SMALL: usize = 16;
+/// A node of more cells is done by the parts below one port of an outermost quantifier, so that what is read was written just before.
+const LARGE: usize = 4096;
 
 /// The cells of each node whose tuples begin alike: the number of variables fixed, their digits, and the number of the prefix.
 #[derive(Clone, Copy)]
@@ -25,23 +24,29 @@ pub fn all(tables: &Tables, masks: &[u64], cells: &mut [u32]) {
     let u = tables.u;
     let filler = Filler { tables, masks, powers: [1, u, u * u, u * u * u] };
     let whole = Prefix { fixed: 0, digits: 0, place: 0 };
-    for k in (0..tables.nodes.len()).rev() {
-        let node = &tables.nodes[k];
-        if u <= SMALL || node.depth == 0 {
-            if u > SMALL && node.is_quantifier() {
-                filler.below(k, cells);
+    let mut k = tables.nodes.len();
+    // Behind `done` every cell is filled.
+    let mut done = k;
+    while k > 0 {
+        k -= 1;
+        if tables.nodes[k].depth == 0 {
+            if (k..done).any(|i| filler.length(i, whole) > LARGE) {
+                filler.below(k, done, cells);
+                filler.block(k, whole, cells);
+            } else {
+                (k..done).rev().for_each(|i| filler.block(i, whole, cells));
             }
-            filler.block(k, whole, cells);
+            done = k;
         }
     }
 }
 
 impl Filler<'_> {
-    /// All cells below an outermost quantifier, port by port.
-    fn below(&self, i: usize, cells: &mut [u32]) {
+    /// All cells below an outermost quantifier, up to its end, port by port.
+    fn below(&self, i: usize, end: usize, cells: &mut [u32]) {
         for port in 0..self.tables.u {
             let prefix = Prefix { fixed: 1, digits: with_digit(0, 0, port), place: port };
-            for k in (i + 1..usize::from(self.tables.nodes[i].end)).rev() {
+            for k in (i + 1..end).rev() {
                 self.block(k, prefix, cells);
             }
         }

@@ -1,0 +1,136 @@
+//! Each call on one plan: the archive, the plain engine, and recomputing every cell. Answers are compared before they are timed.
+use std::hint::black_box;
+use std::time::{Duration, Instant};
+
+use super::clock::{medians, timed};
+use super::plans::{opposite, Plan, KINDS};
+use super::state::State;
+use crate::moves::{self, ImproveAnswer, MoveRecord};
+use crate::{load, plain};
+
+/// Times in nanoseconds; zero where a call has no such time.
+pub struct Line {
+    pub call: String,
+    pub archive: f64,
+    pub plain: f64,
+    pub recompute: f64,
+    pub touched: usize,
+    pub changed: u32,
+}
+
+fn line(call: impl Into<String>, [archive, plain]: [f64; 2]) -> Line {
+    Line { call: call.into(), archive, plain, recompute: 0.0, touched: 0, changed: 0 }
+}
+
+/// An answer that the compiler must work out.
+fn keep<T>(answer: T) {
+    black_box(answer);
+}
+
+/// Every call on a plan, each printed as soon as it is measured.
+pub fn measure(plan: &Plan, state: &State, each: &mut dyn FnMut(&Line)) {
+    each(&loading(state));
+    each(&refusing(state));
+    let recompute = recomputing(state);
+    for (m, kind) in plan.moves.into_iter().zip(KINDS) {
+        each(&moving(state, m, kind, recompute));
+    }
+    for (m, kind) in plan.moves.into_iter().zip(KINDS) {
+        each(&trying(state, m, kind, recompute));
+    }
+    for (i, kind) in KINDS.into_iter().enumerate() {
+        each(&improving(state, 1 << i, kind));
+    }
+    each(&improving(state, 15, "all kinds"));
+}
+
+fn loading(state: &State) -> Line {
+    let (mut a, mut p) = (state.clone(), state.clone());
+    assert_eq!(load(&a.table, &a.masks, &mut a.cells), plain::load(&p.table, &p.masks, &mut p.cells));
+    a.same(&p);
+    let mut archive = |times| timed(times, || keep(load(&a.table, black_box(&a.masks), &mut a.cells)));
+    let mut plain = |times| timed(times, || keep(plain::load(&p.table, black_box(&p.masks), &mut p.cells)));
+    line("load", medians([&mut archive, &mut plain]))
+}
+
+fn recomputing(state: &State) -> f64 {
+    let mut own = state.clone();
+    let checked = plain::Checked::of(&own.table).expect("the table is sound");
+    let mut way = |times| timed(times, || keep(checked.recompute(black_box(&own.masks), &mut own.cells)));
+    medians([&mut way])[0]
+}
+
+/// A move of an unknown kind: what a call costs before it does anything, the check of the table above all.
+pub fn refusing(state: &State) -> Line {
+    let (mut a, mut p) = (state.clone(), state.clone());
+    let m = MoveRecord { kind: 0, s: 0, t: 0, p: 0, q: 0 };
+    let mut archive = |times| timed(times, || assert_eq!(made_by_archive(&mut a, m).number, 14));
+    let mut plain = |times| timed(times, || assert_eq!(made_by_plain(&mut p, m).number, 14));
+    line("refused (14)", medians([&mut archive, &mut plain]))
+}
+
+fn made_by_archive(state: &mut State, m: MoveRecord) -> moves::MoveAnswer {
+    moves::make_move(&state.table, &mut state.masks, &mut state.cells, black_box(m))
+}
+
+fn made_by_plain(state: &mut State, m: MoveRecord) -> moves::MoveAnswer {
+    plain::make_move(&state.table, &mut state.masks, &mut state.cells, black_box(m))
+}
+
+/// A move and its opposite in turn; the time is that of one of them.
+pub fn moving(state: &State, m: MoveRecord, kind: &str, recompute: f64) -> Line {
+    let (mut a, mut p) = (state.clone(), state.clone());
+    let touched = plain::touched(&p.table, &p.masks, &p.cells, m).expect("the move is legal");
+    let changed = made_by_archive(&mut a, m).changed;
+    assert_eq!(made_by_plain(&mut p, m).changed, changed);
+    a.same(&p);
+    assert_eq!(made_by_archive(&mut a, opposite(m)), made_by_plain(&mut p, opposite(m)));
+    a.same(&p);
+    let both = [m, opposite(m)];
+    let mut archive = |times| timed(times, || both.iter().for_each(|m| keep(made_by_archive(&mut a, *m)))) / 2;
+    let mut plain = |times| timed(times, || both.iter().for_each(|m| keep(made_by_plain(&mut p, *m)))) / 2;
+    let times = medians([&mut archive, &mut plain]);
+    a.same(&p);
+    Line { recompute, touched, changed, ..line(format!("move {kind}"), times) }
+}
+
+fn trying(state: &State, m: MoveRecord, kind: &str, recompute: f64) -> Line {
+    let (mut a, p) = (state.clone(), state.clone());
+    let mut by_archive = || moves::trial(&a.table, &a.masks, &a.cells, &mut a.scratch, black_box(m));
+    let by_plain = || plain::trial(&p.table, &p.masks, &p.cells, &p.scratch, black_box(m));
+    let changed = by_archive().changed;
+    assert_eq!(by_archive(), by_plain());
+    let mut archive = |times| timed(times, || keep(by_archive()));
+    let mut plain = |times| timed(times, || keep(by_plain()));
+    let times = medians([&mut archive, &mut plain]);
+    let touched = plain::touched(&p.table, &p.masks, &p.cells, m).expect("the move is legal");
+    Line { recompute, touched, changed, ..line(format!("trial {kind}"), times) }
+}
+
+/// Only the improve is timed; the move that it made is then taken back.
+fn improved(state: &mut State, times: usize, improve: &mut dyn FnMut(&mut State) -> ImproveAnswer) -> Duration {
+    let mut total = Duration::ZERO;
+    for _ in 0..times {
+        let start = Instant::now();
+        let answer = black_box(improve(state));
+        total += start.elapsed();
+        if answer.found == 1 {
+            made_by_plain(state, opposite(answer.chosen));
+        }
+    }
+    total
+}
+
+fn improving(state: &State, kinds: u32, name: &str) -> Line {
+    let (mut a, mut p) = (state.clone(), state.clone());
+    let mut by_archive = |s: &mut State| moves::improve(&s.table, &mut s.masks, &mut s.cells, &mut s.scratch, kinds);
+    let mut by_plain = |s: &mut State| plain::improve(&s.table, &mut s.masks, &mut s.cells, &s.scratch, kinds);
+    let answer = by_archive(&mut a);
+    assert_eq!(answer, by_plain(&mut p));
+    a.same(&p);
+    (a, p) = (state.clone(), state.clone());
+    let mut archive = |times| improved(&mut a, times, &mut by_archive);
+    let mut plain = |times| improved(&mut p, times, &mut by_plain);
+    let times = medians([&mut archive, &mut plain]);
+    Line { changed: answer.changed, ..line(format!("improve {name}"), times) }
+}
