@@ -1,7 +1,7 @@
 //! The plain engine answers as the archive does, and leaves the same masks and cells: over the measured plans and random ones.
 use vuyekhang::bench::plans::{opposite, plans};
 use vuyekhang::moves::{self, MoveRecord};
-use vuyekhang::random::{damage_table, masks as random_masks, text, Random};
+use vuyekhang::random::{any_text, damage_table, masks as random_masks, text, Random};
 use vuyekhang::{load, plain, read, with_stack};
 
 /// The tables of both engines.
@@ -115,4 +115,21 @@ fn one_plan(r: &mut Random) {
 #[test]
 fn random_plans() {
     with_stack(|| (1..=8_000).for_each(|seed| one_plan(&mut Random::new(seed))));
+}
+
+/// Sound texts and damaged ones, with room enough or too little.
+#[test]
+fn random_texts() {
+    with_stack(|| {
+        for seed in 1..=20_000 {
+            let mut r = Random::new(seed);
+            let (u, text) = any_text(&mut r);
+            let room = if r.chance(10) { r.below(200) } else { 4105 };
+            let mut tables = [vec![7; room], vec![7; room]];
+            let answer = read(u, &text, &mut tables[0]);
+            let told = || format!("u {u}, room {room}, text {:?}", String::from_utf8_lossy(&text));
+            assert_eq!(answer, plain::read(u, &text, &mut tables[1]), "{}", told());
+            assert_eq!(tables[0], tables[1], "{}", told());
+        }
+    });
 }

@@ -4,9 +4,9 @@ use std::time::{Duration, Instant};
 
 use super::clock::{medians, timed};
 use super::plans::{opposite, Plan, KINDS};
-use super::state::State;
+use super::state::{State, MOST_TABLE};
 use crate::moves::{self, ImproveAnswer, MoveRecord};
-use crate::{load, plain};
+use crate::{load, plain, read};
 
 /// Times in nanoseconds; zero where a call has no such time.
 pub struct Line {
@@ -29,6 +29,7 @@ fn keep<T>(answer: T) {
 
 /// Every call on a plan, each printed as soon as it is measured.
 pub fn measure(plan: &Plan, state: &State, each: &mut dyn FnMut(&Line)) {
+    each(&reading(plan));
     each(&loading(state));
     each(&refusing(state));
     let recompute = recomputing(state);
@@ -42,6 +43,16 @@ pub fn measure(plan: &Plan, state: &State, each: &mut dyn FnMut(&Line)) {
         each(&improving(state, 1 << i, kind));
     }
     each(&improving(state, 15, "all kinds"));
+}
+
+fn reading(plan: &Plan) -> Line {
+    let (mut by_archive, mut by_plain) = (vec![0; MOST_TABLE], vec![0; MOST_TABLE]);
+    let text = plan.text.as_bytes();
+    assert_eq!(read(plan.u, text, &mut by_archive), plain::read(plan.u, text, &mut by_plain));
+    assert_eq!(by_archive, by_plain, "plan tables differ");
+    let mut archive = |times| timed(times, || keep(read(plan.u, black_box(text), &mut by_archive)));
+    let mut plain = |times| timed(times, || keep(plain::read(plan.u, black_box(text), &mut by_plain)));
+    line("read", medians([&mut archive, &mut plain]))
 }
 
 fn loading(state: &State) -> Line {

@@ -10,8 +10,8 @@ pub const NOT_IN: u8 = 6;
 pub const COMPARE: u8 = 7;
 pub const SIZE: u8 = 8;
 
-const HEADER: usize = 9;
-const RECORD: usize = 8;
+pub const HEADER: usize = 9;
+pub const RECORD: usize = 8;
 const MOST_NODES: usize = 512;
 const MOST_CELLS: usize = 1 << 20;
 

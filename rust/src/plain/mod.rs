@@ -7,12 +7,17 @@ mod change;
 mod check;
 mod fill;
 mod literal;
+mod parse;
+mod read;
 mod row;
 mod store;
+mod tokens;
 mod walk;
 
 use crate::moves::{ImproveAnswer, MoveAnswer, MoveRecord};
 use crate::LoadAnswer;
+pub use read::read;
+
 use change::{after, candidates, Change};
 use check::Tables;
 use store::{Counts, Reads, Store, Writes};

@@ -47,7 +47,8 @@ impl<S: Store> Walk<'_, S> {
 
     /// A touched cell.
     pub fn cell(&mut self, i: usize, at: At) -> Step {
-        let node = self.nodes[i];
+        let nodes = self.nodes;
+        let node = &nodes[i];
         let here = node.first as usize + at.place;
         let old = self.store.get(here);
         let new = match node.kind {
@@ -56,7 +57,7 @@ impl<S: Store> Walk<'_, S> {
             OR => self.least_of_children(i, at),
             ALL => self.sum_of_ports(i, old, at),
             SOME => self.least_of_ports(i, at),
-            _ => penalty(&node, self.masks, at.digits),
+            _ => penalty(node, self.masks, at.digits),
         };
         self.changed += u32::from(old != new);
         self.store.put(here, new);
@@ -87,6 +88,7 @@ impl<S: Store> Walk<'_, S> {
     }
 
     /// The cell of a quantifier's child at one of the ports that change.
+    #[inline]
     pub fn at_port(&mut self, child: usize, row: At, depth: u8, port: usize) -> Step {
         let at = At { place: row.place + port, digits: with_digit(row.digits, depth, port), ..row };
         self.cell(child, at)
