@@ -32,12 +32,11 @@ pub fn measure(plan: &Plan, state: &State, each: &mut dyn FnMut(&Line)) {
     each(&reading(plan));
     each(&loading(state));
     each(&refusing(state));
-    let recompute = recomputing(state);
     for (m, kind) in plan.moves.into_iter().zip(KINDS) {
-        each(&moving(state, m, kind, recompute));
+        each(&moving(state, m, kind));
     }
     for (m, kind) in plan.moves.into_iter().zip(KINDS) {
-        each(&trying(state, m, kind, recompute));
+        each(&trying(state, m, kind));
     }
     for (i, kind) in KINDS.into_iter().enumerate() {
         each(&improving(state, 1 << i, kind));
@@ -64,19 +63,32 @@ fn loading(state: &State) -> Line {
     line("load", medians([&mut archive, &mut plain]))
 }
 
-fn recomputing(state: &State) -> f64 {
-    let mut own = state.clone();
-    let checked = plain::Checked::of(&own.table).expect("the table is sound");
-    let mut way = |times| timed(times, || keep(checked.recompute(black_box(&own.masks), &mut own.cells)));
-    medians([&mut way])[0]
+/// Every cell from scratch, over a state of its own: what a move saves.
+struct Recompute {
+    checked: plain::Checked,
+    masks: Vec<u64>,
+    cells: Vec<u32>,
 }
 
+impl Recompute {
+    fn of(state: &State) -> Self {
+        let checked = plain::Checked::of(&state.table).expect("the table is sound");
+        Recompute { checked, masks: state.masks.clone(), cells: state.cells.clone() }
+    }
+
+    fn timed(&mut self, times: usize) -> Duration {
+        timed(times, || keep(self.checked.recompute(black_box(&self.masks), &mut self.cells)))
+    }
+}
+
+const UNKNOWN: MoveRecord = MoveRecord { kind: 0, s: 0, t: 0, p: 0, q: 0 };
+
 /// A move of an unknown kind: what a call costs before it does anything, the check of the table above all.
-pub fn refusing(state: &State) -> Line {
+fn refusing(state: &State) -> Line {
     let (mut a, mut p) = (state.clone(), state.clone());
-    let m = MoveRecord { kind: 0, s: 0, t: 0, p: 0, q: 0 };
-    let mut archive = |times| timed(times, || assert_eq!(made_by_archive(&mut a, m).number, 14));
-    let mut plain = |times| timed(times, || assert_eq!(made_by_plain(&mut p, m).number, 14));
+    assert_eq!(made_by_archive(&mut a, UNKNOWN), made_by_plain(&mut p, UNKNOWN));
+    let mut archive = |times| timed(times, || keep(made_by_archive(&mut a, UNKNOWN)));
+    let mut plain = |times| timed(times, || keep(made_by_plain(&mut p, UNKNOWN)));
     line("refused (14)", medians([&mut archive, &mut plain]))
 }
 
@@ -88,34 +100,63 @@ fn made_by_plain(state: &mut State, m: MoveRecord) -> moves::MoveAnswer {
     plain::make_move(&state.table, &mut state.masks, &mut state.cells, black_box(m))
 }
 
-/// A move and its opposite in turn; the time is that of one of them.
-pub fn moving(state: &State, m: MoveRecord, kind: &str, recompute: f64) -> Line {
-    let (mut a, mut p) = (state.clone(), state.clone());
+/// Makes a move and its opposite with both and compares; says how many cells the move touches and changes.
+fn compared(a: &mut State, p: &mut State, m: MoveRecord) -> (usize, u32) {
     let touched = plain::touched(&p.table, &p.masks, &p.cells, m).expect("the move is legal");
-    let changed = made_by_archive(&mut a, m).changed;
-    assert_eq!(made_by_plain(&mut p, m).changed, changed);
-    a.same(&p);
-    assert_eq!(made_by_archive(&mut a, opposite(m)), made_by_plain(&mut p, opposite(m)));
-    a.same(&p);
+    let answer = made_by_archive(a, m);
+    assert_eq!(answer, made_by_plain(p, m));
+    a.same(p);
+    assert_eq!(made_by_archive(a, opposite(m)), made_by_plain(p, opposite(m)));
+    a.same(p);
+    (touched, answer.changed)
+}
+
+/// A move and its opposite in turn; the time is that of one of them.
+fn moving(state: &State, m: MoveRecord, kind: &str) -> Line {
+    let (mut a, mut p, mut r) = (state.clone(), state.clone(), Recompute::of(state));
+    let (touched, changed) = compared(&mut a, &mut p, m);
     let both = [m, opposite(m)];
     let mut archive = |times| timed(times, || both.iter().for_each(|m| keep(made_by_archive(&mut a, *m)))) / 2;
     let mut plain = |times| timed(times, || both.iter().for_each(|m| keep(made_by_plain(&mut p, *m)))) / 2;
-    let times = medians([&mut archive, &mut plain]);
+    let mut again = |times| r.timed(times);
+    let [archive, plain, recompute] = medians([&mut archive, &mut plain, &mut again]);
     a.same(&p);
-    Line { recompute, touched, changed, ..line(format!("move {kind}"), times) }
+    Line { recompute, touched, changed, ..line(format!("move {kind}"), [archive, plain]) }
 }
 
-fn trying(state: &State, m: MoveRecord, kind: &str, recompute: f64) -> Line {
-    let (mut a, p) = (state.clone(), state.clone());
+fn trying(state: &State, m: MoveRecord, kind: &str) -> Line {
+    let (mut a, mut p, mut r) = (state.clone(), state.clone(), Recompute::of(state));
+    let (touched, changed) = compared(&mut a, &mut p, m);
     let mut by_archive = || moves::trial(&a.table, &a.masks, &a.cells, &mut a.scratch, black_box(m));
     let by_plain = || plain::trial(&p.table, &p.masks, &p.cells, &p.scratch, black_box(m));
-    let changed = by_archive().changed;
     assert_eq!(by_archive(), by_plain());
     let mut archive = |times| timed(times, || keep(by_archive()));
     let mut plain = |times| timed(times, || keep(by_plain()));
-    let times = medians([&mut archive, &mut plain]);
-    let touched = plain::touched(&p.table, &p.masks, &p.cells, m).expect("the move is legal");
-    Line { recompute, touched, changed, ..line(format!("trial {kind}"), times) }
+    let mut again = |times| r.timed(times);
+    let [archive, plain, recompute] = medians([&mut archive, &mut plain, &mut again]);
+    Line { recompute, touched, changed, ..line(format!("trial {kind}"), [archive, plain]) }
+}
+
+/// A move beside a refused one, sampled in turn.
+pub struct Parts {
+    pub touched: usize,
+    pub archive: f64,
+    pub refused: f64,
+    pub plain: f64,
+    pub plain_refused: f64,
+}
+
+pub fn parts(state: &State, m: MoveRecord) -> Parts {
+    let (mut a, mut p) = (state.clone(), state.clone());
+    let (touched, _) = compared(&mut a, &mut p, m);
+    let (mut idle_a, mut idle_p) = (state.clone(), state.clone());
+    let both = [m, opposite(m)];
+    let mut archive = |times| timed(times, || both.iter().for_each(|m| keep(made_by_archive(&mut a, *m)))) / 2;
+    let mut refused = |times| timed(times, || keep(made_by_archive(&mut idle_a, UNKNOWN)));
+    let mut plain = |times| timed(times, || both.iter().for_each(|m| keep(made_by_plain(&mut p, *m)))) / 2;
+    let mut plain_refused = |times| timed(times, || keep(made_by_plain(&mut idle_p, UNKNOWN)));
+    let [archive, refused, plain, plain_refused] = medians([&mut archive, &mut refused, &mut plain, &mut plain_refused]);
+    Parts { touched, archive, refused, plain, plain_refused }
 }
 
 /// Only the improve is timed; the move that it made is then taken back.

@@ -1,6 +1,6 @@
 //! bench [PLAN..]: times of the archive beside the plain engine, as tables in markdown. Answers are compared; times are only
 //! printed. With names (B1 to B6), only the calls on these plans.
-use vuyekhang::bench::calls::{measure, moving, refusing, Line};
+use vuyekhang::bench::calls::{measure, parts, Line};
 use vuyekhang::bench::growth::{larger, more_touched, ADD};
 use vuyekhang::bench::plans::{plans, Plan};
 use vuyekhang::bench::state::State;
@@ -48,13 +48,15 @@ fn print_call(plan: &str, line: &Line) {
 
 fn print_growth(title: &str, plans: &[Plan]) {
     println!("\n{title}:\n");
-    println!("| nodes | cells | touched | archive | plain | archive/plain | of it refused (14) |\n|---|---|---|---|---|---|---|");
+    println!("| nodes | cells | touched | archive: move | refused (14) | the rest | rest by touched cell | plain: move | refused (14) | the rest |");
+    println!("|---|---|---|---|---|---|---|---|---|---|");
     for plan in plans {
         let (answer, state) = State::of(plan);
-        let line = moving(&state, ADD, "add", 0.0);
-        let fixed = refusing(&state);
-        let (archive, plain, ratio) = (time(line.archive), time(line.plain), ratio(line.archive / line.plain));
-        println!("| {} | {} | {} | {archive} | {plain} | {ratio} | {} |", answer.nodes, answer.cells, line.touched, time(fixed.archive));
+        let parts = parts(&state, ADD);
+        let (walk, plain_walk) = (parts.archive - parts.refused, parts.plain - parts.plain_refused);
+        let sizes = format!("{} | {} | {}", answer.nodes, answer.cells, parts.touched);
+        let times = [parts.archive, parts.refused, walk, walk / parts.touched as f64, parts.plain, parts.plain_refused, plain_walk];
+        println!("| {sizes} | {} |", times.map(time).join(" | "));
     }
 }
 
