@@ -12,6 +12,7 @@ mod read;
 mod row;
 mod store;
 mod tokens;
+mod tree;
 mod walk;
 
 use crate::moves::{ImproveAnswer, MoveAnswer, MoveRecord};

@@ -1,35 +1,11 @@
 //! The tree of a plan text, with the size of its core counted on the way: grounds 3 to 9.
 use super::check::{ALL, AND, COMPARE, IN, NOT_IN, OR, SIZE, SOME};
 use super::tokens::{Token, Tokens};
+use super::tree::{merges, Op, Tree, NOTHING};
 
 /// Numbers past every limit stay here: nested double arrows double the core each time.
 const PAST: u64 = 1 << 32;
 const UNKNOWN: u8 = u8::MAX;
-
-/// What a tree is in the text; `And` and `Or` are kinds of the core too, once negations have gone down.
-#[derive(Clone, Copy, PartialEq)]
-pub enum Op {
-    And,
-    Or,
-    Right,
-    Left,
-    Both,
-    Not,
-    Quantifier,
-    Literal,
-}
-
-/// A tree as it comes into the core, either as it is (0) or negated (1).
-pub struct Tree {
-    pub op: Op,
-    pub kind: [u8; 2],
-    pub relation: u8,
-    pub a: u8,
-    pub b: u8,
-    pub children: Vec<usize>,
-    nodes: [u64; 2],
-    cells: [u64; 2],
-}
 
 pub struct Parser<'a> {
     tokens: Tokens<'a>,
@@ -49,15 +25,11 @@ pub struct Outside;
 
 type Parsed<T> = Result<T, Outside>;
 
-pub fn opposite(relation: u8) -> u8 {
-    [4, 5, 3, 2, 0, 1][usize::from(relation)]
-}
-
 impl<'a> Parser<'a> {
     pub fn of(u: u64, text: &'a [u8]) -> Self {
         let tokens = Tokens::of(text);
         let (sets, variables, powers) = ([UNKNOWN; 26], [UNKNOWN; 26], [1, u, u * u, u * u * u]);
-        Parser { tokens, trees: Vec::new(), sets, set_count: 0, variables, powers, depth: 0, around: 0, ground: 0 }
+        Parser { tokens, trees: Vec::with_capacity(text.len() / 2), sets, set_count: 0, variables, powers, depth: 0, around: 0, ground: 0 }
     }
 
     fn met(&mut self, ground: u32) {
@@ -124,8 +96,9 @@ impl<'a> Parser<'a> {
         };
         self.tokens.advance();
         let right = self.joined(b'|')?;
+        self.trees[left].next = right;
         let kind = if op == Op::Both { [AND, OR] } else { [OR, AND] };
-        Ok(self.joint(op, kind, vec![left, right]))
+        Ok(self.joint(op, kind, left))
     }
 
     /// A disjunction or a conjunction.
@@ -135,12 +108,14 @@ impl<'a> Parser<'a> {
         if self.tokens.next != Token::Sign(sign) {
             return Ok(first);
         }
-        let mut children = vec![first];
+        let mut last = first;
         while self.takes(Token::Sign(sign)) {
-            children.push(part(self)?);
+            let next = part(self)?;
+            self.trees[last].next = next;
+            last = next;
         }
         let (op, kind) = if sign == b'|' { (Op::Or, [OR, AND]) } else { (Op::And, [AND, OR]) };
-        Ok(self.joint(op, kind, children))
+        Ok(self.joint(op, kind, first))
     }
 
     /// What stands inside of one more `(`, `~` or quantifier.
@@ -158,9 +133,9 @@ impl<'a> Parser<'a> {
         match self.take() {
             Token::Sign(b'~') => {
                 let child = self.inside(Self::unit)?;
-                let flip = |of: [u64; 2]| [of[1], of[0]];
-                let (nodes, cells, kind) = (flip(self.trees[child].nodes), flip(self.trees[child].cells), self.trees[child].kind);
-                Ok(self.put(Tree { op: Op::Not, kind: [kind[1], kind[0]], relation: 0, a: 0, b: 0, children: vec![child], nodes, cells }))
+                let Tree { kind, nodes, cells, .. } = self.trees[child];
+                let (kind, nodes, cells) = ([kind[1], kind[0]], [nodes[1], nodes[0]], [cells[1], cells[0]]);
+                Ok(self.put(Tree { op: Op::Not, kind, first: child, nodes, cells, ..NOTHING }))
             }
             Token::Sign(b'(') => {
                 let tree = self.inside(Self::formula)?;
@@ -192,7 +167,7 @@ impl<'a> Parser<'a> {
         let child = self.inside(Self::unit)?;
         self.depth -= 1;
         self.variables[letter] = outer;
-        Ok(self.joint(Op::Quantifier, kind, vec![child]))
+        Ok(self.joint(Op::Quantifier, kind, child))
     }
 
     fn set(&mut self) -> Parsed<u8> {
@@ -252,18 +227,18 @@ impl<'a> Parser<'a> {
 
     fn leaf(&mut self, kind: [u8; 2], relation: u8, a: u8, b: u8) -> usize {
         let cells = [self.width(); 2];
-        self.put(Tree { op: Op::Literal, kind, relation, a, b, children: Vec::new(), nodes: [1; 2], cells })
+        self.put(Tree { op: Op::Literal, kind, relation, a, b, nodes: [1; 2], cells, ..NOTHING })
     }
 
     /// A tree with children and what it comes to in the core, as it is and negated.
-    fn joint(&mut self, op: Op, kind: [u8; 2], children: Vec<usize>) -> usize {
-        let mut tree = Tree { op, kind, relation: 0, a: 0, b: 0, children, nodes: [0; 2], cells: [0; 2] };
+    fn joint(&mut self, op: Op, kind: [u8; 2], first: usize) -> usize {
+        let mut tree = Tree { op, kind, first, ..NOTHING };
         for way in 0..2 {
             let (mut nodes, mut cells) = (1, self.width());
             if op == Op::Both {
                 (nodes, cells) = (3 * nodes, 3 * cells);
             }
-            for (child, way, kind) in tree.parts(way) {
+            for (child, way, kind) in tree.parts(&self.trees, way) {
                 let below = &self.trees[child];
                 let merges = u64::from(merges(below.kind[way], kind));
                 nodes += below.nodes[way] - merges;
@@ -273,27 +248,5 @@ impl<'a> Parser<'a> {
             tree.cells[way] = cells.min(PAST);
         }
         self.put(tree)
-    }
-}
-
-/// Whether a node of a kind is merged into its parent.
-pub fn merges(kind: u8, parent: u8) -> bool {
-    kind == parent && (kind == AND || kind == OR)
-}
-
-impl Tree {
-    /// What stands below a tree's nodes in the core: a child, which way, and the kind of the node right above it. A double arrow
-    /// has two nodes in between, of two parts each.
-    pub fn parts(&self, way: usize) -> impl Iterator<Item = (usize, usize, u8)> + '_ {
-        let both = self.op == Op::Both;
-        let kind = self.kind[if both { 1 - way } else { way }];
-        let turns: &[usize] = match self.op {
-            Op::Right => &[1, 0],
-            Op::Left => &[0, 1],
-            Op::Both => &[1, 0, 0, 1],
-            _ => &[],
-        };
-        let count = if both { 4 } else { self.children.len() };
-        (0..count).map(move |i| (self.children[i % self.children.len()], way ^ turns.get(i).copied().unwrap_or(0), kind))
     }
 }

@@ -1,7 +1,8 @@
 //! Reading: a plan text's table, or the ground for refusal.
 use super::check::{HEADER, RECORD, ROOT};
-use super::parse::{merges, opposite, Op, Parser, Tree};
+use super::parse::Parser;
 use super::tokens::known;
+use super::tree::{merges, opposite, Op, Tree};
 use crate::ReadAnswer;
 
 const MOST_TEXT: usize = 4096;
@@ -63,7 +64,7 @@ impl Emitter<'_> {
         let tree = &trees[tree];
         let kind = tree.kind[way];
         match tree.op {
-            Op::Not => self.tree(tree.children[0], 1 - way, parent, above),
+            Op::Not => self.tree(tree.first, 1 - way, parent, above),
             Op::Literal => {
                 let turned = way == 1 && kind > super::check::NOT_IN;
                 let relation = if turned { opposite(tree.relation) } else { tree.relation };
@@ -81,7 +82,7 @@ impl Emitter<'_> {
 
     fn parts(&mut self, tree: &Tree, way: usize, parent: u16) {
         let mut inner = parent;
-        for (i, (child, way, kind)) in tree.parts(way).enumerate() {
+        for (i, (child, way, kind)) in tree.parts(self.trees, way).enumerate() {
             if tree.op == Op::Both && i % 2 == 0 {
                 inner = self.open([kind, 0, 0, 0], parent);
             }

@@ -17,11 +17,11 @@ pub enum Token {
     Number(u8),
 }
 
-const SIGNS: &[u8] = b"[]()@?~&|:/#";
-
 /// Whether a byte occurs in some token or is a blank (else ground 2).
 pub fn known(byte: u8) -> bool {
-    byte.is_ascii_alphanumeric() || matches!(byte, b' ' | b'\n' | b'<' | b'>' | b'=' | b'!' | b'-') || SIGNS.contains(&byte)
+    byte.is_ascii_alphanumeric()
+        || matches!(byte, b' ' | b'\n' | b'<' | b'>' | b'=' | b'!' | b'-')
+        || matches!(byte, b'[' | b']' | b'(' | b')' | b'@' | b'?' | b'~' | b'&' | b'|' | b':' | b'/' | b'#')
 }
 
 pub struct Tokens<'a> {
