@@ -81,6 +81,16 @@ impl Recompute {
     }
 }
 
+/// Recomputing a plan in two ways: every cell by rows, and the root by recursion as Definition 5 is written.
+pub fn recomputing(state: &State) -> [f64; 2] {
+    let mut r = Recompute::of(state);
+    let definition = plain::Checked::of(&state.table).expect("the table is sound");
+    assert_eq!(definition.root_by_definition(&state.masks), state.cells[0]);
+    let mut by_rows = |times| r.timed(times);
+    let mut by_recursion = |times| timed(times, || keep(definition.root_by_definition(black_box(&state.masks))));
+    medians([&mut by_rows, &mut by_recursion])
+}
+
 const UNKNOWN: MoveRecord = MoveRecord { kind: 0, s: 0, t: 0, p: 0, q: 0 };
 
 /// A move of an unknown kind: what a call costs before it does anything, the check of the table above all.

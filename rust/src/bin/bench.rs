@@ -1,6 +1,6 @@
 //! bench [PLAN..]: times of the archive beside the plain engine, as tables in markdown. Answers are compared; times are only
 //! printed. With names (B1 to B6), only the calls on these plans.
-use vuyekhang::bench::calls::{measure, parts, Line};
+use vuyekhang::bench::calls::{measure, parts, recomputing, Line};
 use vuyekhang::bench::growth::{larger, more_touched, ADD};
 use vuyekhang::bench::plans::{plans, Plan};
 use vuyekhang::bench::state::State;
@@ -20,11 +20,13 @@ fn main() {
 }
 
 fn print_plans() {
-    println!("| plan | u | sets | text bytes | nodes | cells | root |\n|---|---|---|---|---|---|---|");
+    println!("| plan | u | sets | text bytes | nodes | cells | root | every cell, by rows | the root, by recursion |");
+    println!("|---|---|---|---|---|---|---|---|---|");
     for plan in plans() {
         let (answer, state) = State::of(&plan);
         let (name, u, sets, bytes) = (plan.name, plan.u, plan.masks.len(), plan.text.len());
-        println!("| {name} | {u} | {sets} | {bytes} | {} | {} | {} |", answer.nodes, answer.cells, state.cells[0]);
+        let sizes = format!("{} | {} | {}", answer.nodes, answer.cells, state.cells[0]);
+        println!("| {name} | {u} | {sets} | {bytes} | {sizes} | {} |", recomputing(&state).map(time).join(" | "));
     }
 }
 

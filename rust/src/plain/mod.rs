@@ -5,6 +5,7 @@
 //! the touched cells only, and where every port below a quantifier is touched its cells are done as one row.
 mod change;
 mod check;
+mod definition;
 mod fill;
 mod literal;
 mod parse;
@@ -70,7 +71,12 @@ impl Checked {
         Tables::of(table).map(Checked)
     }
 
-    /// Definition 5 from scratch for every cell: what a move saves.
+    /// The root by Definition 5 as it is written, with no cells kept.
+    pub fn root_by_definition(&self, masks: &[u64]) -> u32 {
+        definition::root(&self.0, masks)
+    }
+
+    /// Definition 5 from scratch for every cell, by rows: what a move saves.
     pub fn recompute(&self, masks: &[u64], cells: &mut [u32]) -> u32 {
         fill::all(&self.0, masks, cells);
         cells[0]

@@ -5,11 +5,11 @@ use super::store::Store;
 use super::walk::{At, Walk};
 
 /// What a row's cells go into, port by port: a sum takes new minus old, a minimum the new number.
-type Into = [u32; 64];
+type Row = [u32; 64];
 
 impl<S: Store> Walk<'_, S> {
     /// `row` is the place of port 0, the digits outside, and the word of a port that changes.
-    pub fn row(&mut self, k: usize, row: At, sum: bool, into: &mut Into) {
+    pub fn row(&mut self, k: usize, row: At, sum: bool, into: &mut Row) {
         let node = self.nodes[k];
         let at = node.first as usize + row.place;
         match node.kind {
@@ -30,7 +30,7 @@ impl<S: Store> Walk<'_, S> {
         }
     }
 
-    fn row_of_quantifiers(&mut self, k: usize, row: At, sum: bool, into: &mut Into) {
+    fn row_of_quantifiers(&mut self, k: usize, row: At, sum: bool, into: &mut Row) {
         let outer = self.nodes[k].depth - 1;
         for (port, cell) in into[..self.u].iter_mut().enumerate() {
             let word = self.change.word_at(row.word, outer, port);
@@ -39,7 +39,7 @@ impl<S: Store> Walk<'_, S> {
         }
     }
 
-    fn children(&mut self, k: usize, row: At, sum: bool, own: &mut Into) {
+    fn children(&mut self, k: usize, row: At, sum: bool, own: &mut Row) {
         let nodes = self.nodes;
         let rest = self.change.rest(row.word, nodes[k].depth - 1);
         let mut c = k + 1;
@@ -58,7 +58,7 @@ impl<S: Store> Walk<'_, S> {
     }
 
     /// A child of a sum that is touched at the changed ports only.
-    fn changed_ports(&mut self, c: usize, row: At, own: &mut Into) {
+    fn changed_ports(&mut self, c: usize, row: At, own: &mut Row) {
         let (outer, low, high) = (self.nodes[c].depth - 1, self.change.low, self.change.high);
         own[low] = self.at_port(c, row, outer, low).added_to(own[low]);
         if low < high {
@@ -67,7 +67,7 @@ impl<S: Store> Walk<'_, S> {
     }
 
     /// A child of a minimum that is touched at the changed ports only, or nowhere.
-    fn partly(&mut self, c: usize, row: At, own: &mut Into) {
+    fn partly(&mut self, c: usize, row: At, own: &mut Row) {
         let (low, high) = (self.change.low, self.change.high);
         let kept = (own[low], own[high]);
         let first = self.nodes[c].first as usize;
@@ -82,7 +82,7 @@ impl<S: Store> Walk<'_, S> {
     }
 
     /// Writes a row's new numbers and hands them on.
-    fn close(&mut self, at: usize, own: &Into, sum: bool, into: &mut Into) {
+    fn close(&mut self, at: usize, own: &Row, sum: bool, into: &mut Row) {
         let new = &own[..self.u];
         let old = self.store.row(at, self.u);
         self.changed += old.iter().zip(new).fold(0, |count, (o, n)| count + u32::from(o != n));
@@ -97,7 +97,7 @@ impl<S: Store> Walk<'_, S> {
     }
 }
 
-fn least_into(into: &mut Into, cells: &[u32]) {
+fn least_into(into: &mut Row, cells: &[u32]) {
     for (least, c) in into.iter_mut().zip(cells) {
         *least = (*least).min(*c);
     }
