@@ -1,8 +1,8 @@
 //! Each call on one plan: the archive, the plain engine, and recomputing every cell. Answers are compared before they are timed.
 use std::hint::black_box;
-use std::time::{Duration, Instant};
+use std::time::Duration;
 
-use super::clock::{medians, timed};
+use super::clock::{medians, now, timed};
 use super::plans::{opposite, Plan, KINDS};
 use super::state::{State, MOST_TABLE};
 use crate::moves::{self, ImproveAnswer, MoveRecord};
@@ -13,13 +13,15 @@ pub struct Line {
     pub call: String,
     pub archive: f64,
     pub plain: f64,
-    pub recompute: f64,
+    /// Every cell from scratch by rows, and the root alone by recursion as Definition 5 is written.
+    pub by_rows: f64,
+    pub by_recursion: f64,
     pub touched: usize,
     pub changed: u32,
 }
 
 fn line(call: impl Into<String>, [archive, plain]: [f64; 2]) -> Line {
-    Line { call: call.into(), archive, plain, recompute: 0.0, touched: 0, changed: 0 }
+    Line { call: call.into(), archive, plain, by_rows: 0.0, by_recursion: 0.0, touched: 0, changed: 0 }
 }
 
 /// An answer that the compiler must work out.
@@ -63,7 +65,7 @@ fn loading(state: &State) -> Line {
     line("load", medians([&mut archive, &mut plain]))
 }
 
-/// Every cell from scratch, over a state of its own: what a move saves.
+/// Recomputing, over a state of its own: what a move saves.
 struct Recompute {
     checked: plain::Checked,
     masks: Vec<u64>,
@@ -73,22 +75,17 @@ struct Recompute {
 impl Recompute {
     fn of(state: &State) -> Self {
         let checked = plain::Checked::of(&state.table).expect("the table is sound");
+        assert_eq!(checked.root_by_definition(&state.masks), state.cells[0]);
         Recompute { checked, masks: state.masks.clone(), cells: state.cells.clone() }
     }
 
-    fn timed(&mut self, times: usize) -> Duration {
+    fn by_rows(&mut self, times: usize) -> Duration {
         timed(times, || keep(self.checked.recompute(black_box(&self.masks), &mut self.cells)))
     }
-}
 
-/// Recomputing a plan in two ways: every cell by rows, and the root by recursion as Definition 5 is written.
-pub fn recomputing(state: &State) -> [f64; 2] {
-    let mut r = Recompute::of(state);
-    let definition = plain::Checked::of(&state.table).expect("the table is sound");
-    assert_eq!(definition.root_by_definition(&state.masks), state.cells[0]);
-    let mut by_rows = |times| r.timed(times);
-    let mut by_recursion = |times| timed(times, || keep(definition.root_by_definition(black_box(&state.masks))));
-    medians([&mut by_rows, &mut by_recursion])
+    fn by_recursion(&self, times: usize) -> Duration {
+        timed(times, || keep(self.checked.root_by_definition(black_box(&self.masks))))
+    }
 }
 
 const UNKNOWN: MoveRecord = MoveRecord { kind: 0, s: 0, t: 0, p: 0, q: 0 };
@@ -123,28 +120,28 @@ fn compared(a: &mut State, p: &mut State, m: MoveRecord) -> (usize, u32) {
 
 /// A move and its opposite in turn; the time is that of one of them.
 fn moving(state: &State, m: MoveRecord, kind: &str) -> Line {
-    let (mut a, mut p, mut r) = (state.clone(), state.clone(), Recompute::of(state));
+    let (mut a, mut p, mut rows, recursion) = (state.clone(), state.clone(), Recompute::of(state), Recompute::of(state));
     let (touched, changed) = compared(&mut a, &mut p, m);
     let both = [m, opposite(m)];
     let mut archive = |times| timed(times, || both.iter().for_each(|m| keep(made_by_archive(&mut a, *m)))) / 2;
     let mut plain = |times| timed(times, || both.iter().for_each(|m| keep(made_by_plain(&mut p, *m)))) / 2;
-    let mut again = |times| r.timed(times);
-    let [archive, plain, recompute] = medians([&mut archive, &mut plain, &mut again]);
+    let (mut by_rows, mut by_recursion) = (|times| rows.by_rows(times), |times| recursion.by_recursion(times));
+    let [archive, plain, by_rows, by_recursion] = medians([&mut archive, &mut plain, &mut by_rows, &mut by_recursion]);
     a.same(&p);
-    Line { recompute, touched, changed, ..line(format!("move {kind}"), [archive, plain]) }
+    Line { by_rows, by_recursion, touched, changed, ..line(format!("move {kind}"), [archive, plain]) }
 }
 
 fn trying(state: &State, m: MoveRecord, kind: &str) -> Line {
-    let (mut a, mut p, mut r) = (state.clone(), state.clone(), Recompute::of(state));
+    let (mut a, mut p, mut rows, recursion) = (state.clone(), state.clone(), Recompute::of(state), Recompute::of(state));
     let (touched, changed) = compared(&mut a, &mut p, m);
     let mut by_archive = || moves::trial(&a.table, &a.masks, &a.cells, &mut a.scratch, black_box(m));
     let by_plain = || plain::trial(&p.table, &p.masks, &p.cells, &p.scratch, black_box(m));
     assert_eq!(by_archive(), by_plain());
     let mut archive = |times| timed(times, || keep(by_archive()));
     let mut plain = |times| timed(times, || keep(by_plain()));
-    let mut again = |times| r.timed(times);
-    let [archive, plain, recompute] = medians([&mut archive, &mut plain, &mut again]);
-    Line { recompute, touched, changed, ..line(format!("trial {kind}"), [archive, plain]) }
+    let (mut by_rows, mut by_recursion) = (|times| rows.by_rows(times), |times| recursion.by_recursion(times));
+    let [archive, plain, by_rows, by_recursion] = medians([&mut archive, &mut plain, &mut by_rows, &mut by_recursion]);
+    Line { by_rows, by_recursion, touched, changed, ..line(format!("trial {kind}"), [archive, plain]) }
 }
 
 /// A move beside a refused one, sampled in turn.
@@ -173,9 +170,9 @@ pub fn parts(state: &State, m: MoveRecord) -> Parts {
 fn improved(state: &mut State, times: usize, improve: &mut dyn FnMut(&mut State) -> ImproveAnswer) -> Duration {
     let mut total = Duration::ZERO;
     for _ in 0..times {
-        let start = Instant::now();
+        let start = now();
         let answer = black_box(improve(state));
-        total += start.elapsed();
+        total += now() - start;
         if answer.found == 1 {
             made_by_plain(state, opposite(answer.chosen));
         }

@@ -1,6 +1,6 @@
 //! bench [PLAN..]: times of the archive beside the plain engine, as tables in markdown. Answers are compared; times are only
 //! printed. With names (B1 to B6), only the calls on these plans.
-use vuyekhang::bench::calls::{measure, parts, recomputing, Line};
+use vuyekhang::bench::calls::{measure, parts, Line};
 use vuyekhang::bench::growth::{larger, more_touched, ADD};
 use vuyekhang::bench::plans::{plans, Plan};
 use vuyekhang::bench::state::State;
@@ -20,19 +20,19 @@ fn main() {
 }
 
 fn print_plans() {
-    println!("| plan | u | sets | text bytes | nodes | cells | root | every cell, by rows | the root, by recursion |");
-    println!("|---|---|---|---|---|---|---|---|---|");
+    println!("| plan | u | sets | text bytes | nodes | cells | root |\n|---|---|---|---|---|---|---|");
     for plan in plans() {
         let (answer, state) = State::of(&plan);
         let (name, u, sets, bytes) = (plan.name, plan.u, plan.masks.len(), plan.text.len());
-        let sizes = format!("{} | {} | {}", answer.nodes, answer.cells, state.cells[0]);
-        println!("| {name} | {u} | {sets} | {bytes} | {sizes} | {} |", recomputing(&state).map(time).join(" | "));
+        println!("| {name} | {u} | {sets} | {bytes} | {} | {} | {} |", answer.nodes, answer.cells, state.cells[0]);
     }
 }
 
 fn print_calls(asked: impl Fn(&str) -> bool) {
-    println!("\n| plan | call | archive | plain | archive/plain | recompute | recompute/archive | touched | changed |");
-    println!("|---|---|---|---|---|---|---|---|---|");
+    println!(
+        "\n| plan | call | archive | plain | archive/plain | rows | rows/archive | recursion | recursion/archive | touched | changed |"
+    );
+    println!("|---|---|---|---|---|---|---|---|---|---|---|");
     for plan in plans().into_iter().filter(|plan| asked(plan.name)) {
         let state = State::of(&plan).1;
         measure(&plan, &state, &mut |line| print_call(plan.name, line));
@@ -40,12 +40,11 @@ fn print_calls(asked: impl Fn(&str) -> bool) {
 }
 
 fn print_call(plan: &str, line: &Line) {
-    let Line { call, archive, plain, recompute, touched, changed } = line;
-    let (again, saved) = if *recompute > 0.0 { (time(*recompute), ratio(recompute / archive)) } else { Default::default() };
-    let touched = if *touched > 0 { touched.to_string() } else { String::new() };
-    let changed = if *changed > 0 { changed.to_string() } else { String::new() };
-    let (ours, theirs, ratio) = (time(*archive), time(*plain), ratio(archive / plain));
-    println!("| {plan} | {call} | {ours} | {theirs} | {ratio} | {again} | {saved} | {touched} | {changed} |");
+    let against = |again: f64| if again > 0.0 { format!("{} | {}", time(again), ratio(again / line.archive)) } else { " | ".to_string() };
+    let count = |of: usize| if of > 0 { of.to_string() } else { String::new() };
+    let times = format!("{} | {} | {}", time(line.archive), time(line.plain), ratio(line.archive / line.plain));
+    let again = format!("{} | {}", against(line.by_rows), against(line.by_recursion));
+    println!("| {plan} | {} | {times} | {again} | {} | {} |", line.call, count(line.touched), count(line.changed as usize));
 }
 
 fn print_growth(title: &str, plans: &[Plan]) {
