@@ -2,9 +2,11 @@
 //!
 //! The archive's functions have no `requires`: no value of an argument is an error. What Rust must see to is that each slice is
 //! one, and that a table that is written is lent to nothing else; Rust's references say both.
+pub mod bench;
 pub mod compare;
 pub mod lists;
 pub mod moves;
+pub mod plain;
 pub mod random;
 pub mod second;
 

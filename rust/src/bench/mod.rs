@@ -1,0 +1,6 @@
+//! What the program `bench` measures: the archive beside the plain engine, sampled in turn in one run.
+pub mod calls;
+pub mod clock;
+pub mod growth;
+pub mod plans;
+pub mod state;
