@@ -2,7 +2,8 @@
 use mathlib.Core.Path.{_≡_, refl, sym, ap, ap₂, _∙_}
 use mathlib.Core.List.{List, [], _∷_, _++_}
 use Prim.Native.Nat.{ℕ, zero, suc, _+_, _-_, _*_, _/_, _%_, _≤_, _<_, min}
-use native.Mathlib.Nat.{mod-lt, mod-eq-of-lt, mod-self, mod-mod, mod-add-mod, zero-add, one-le-mul, mul-mod-left}
+use native.Mathlib.Nat.{div-one, mod-lt, mod-eq-of-lt, mod-self, mod-mod, mod-add-mod, zero-add, one-le-mul, mul-mod-left}
+use native.Mathlib.Decide.{decLt}
 use native.Mathlib.Omega.{arith}
 use lib.Arith.{digits-div, mod-mul}
 use lib.ListN.{length, take, drop, getD, List·getD-append, take-append-drop}
@@ -121,3 +122,15 @@ round-all u block w t e = record {
   within = omega arith;
   again = λ x l. ap (digitAt u block) (sym (ap (λ (m : ℕ). x % m) e ∙ mod-eq-of-lt l));
 }
+
+-- the first row of the innermost variable
+pub row-port : (u t : ℕ) → t < u → t ≡ digitAt u 1 t
+unfolding digitAt
+row-port u t h = sym (ap (λ (x : ℕ). x % u) (div-one t) ∙ mod-eq-of-lt h)
+
+pub round-row : {u w : ℕ} {cells : List ℕ} → RunsPlaced u 1 w cells → (t : ℕ) → t ≡ min u w → Round u 1 w t
+round-row {u} {w} p t e = go (decLt t w)
+  where
+    go : Dec (t < w) → Round u 1 w t
+    go (yes l) = round-whole p t (omega arith) l
+    go (no l) = round-all u 1 w t (omega arith)

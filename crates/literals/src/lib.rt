@@ -136,6 +136,20 @@ fn repeat_first(period: usize, width: usize, cells: &mut [u32])
     }
 }
 
+// `put_round` for the innermost variable: each cell has a port of its own, so that none costs a loop.
+fn put_row(kind: u8, mask: u64, ports: u32, width: usize, cells: &mut [u32]) -> usize
+    requires { ⌜ RunsPlaced ports 1 width (now cells) ⌝ }
+    ensures { λ r. ⌜ Round ports 1 width r × (now (cells .exit) ≡ tabulate r (λ t. memberPenalty kind (inMask mask (digitAt ports 1 t))) ++ drop r (now (cells .entry))) ⌝ }
+{
+    let row = lesser(ports as usize, width);
+    let mut t = 0;
+    while t < row {
+        cells[t] = member_penalty(kind, mask, t as u32);
+        t += 1;
+    }
+    t
+}
+
 // The cells of kinds 5 and 6 for each port once, or as far as they go; says how many they are. The port stays the same over a
 // run of cells.
 fn put_round(
@@ -149,6 +163,9 @@ fn put_round(
     requires { ⌜ RunsPlaced ports block width (now cells) ⌝ }
     ensures { λ r. ⌜ Round ports block width r × (now (cells .exit) ≡ tabulate r (λ t. memberPenalty kind (inMask mask (digitAt ports block t))) ++ drop r (now (cells .entry))) ⌝ }
 {
+    if block == 1 {
+        return put_row(kind, mask, ports, width, cells);
+    }
     let mut t = 0;
     let mut port = 0;
     while t < width {

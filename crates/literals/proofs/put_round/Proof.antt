@@ -12,6 +12,7 @@ use Rattle.literals.proofs.put_round.Tie as tie
 use Rattle.literals.proofs.put_round.Reads as reads
 use Rattle.literals.proofs.put_round.Lts as lts
 use Rattle.literals.proofs.member_penalty.Reads as member-penalty-reads
+use Rattle.literals.proofs.put_row.Reads as put-row-reads
 use Rattle.literals.proofs.put_run.Reads as put-run-reads
 
 abbrev Inv-loop : tie.InvT-loop
@@ -20,9 +21,9 @@ Inv-loop kind mask ports block width cells₀ t₀ port₀ cells t port = Writte
 abbrev μ-loop : tie.MeasureT-loop
 μ-loop kind mask ports block width cells₀ t₀ port₀ cells t port = width - t
 
-loop-holds : tie.Need-loop-holds Inv-loop μ-loop
-loop-holds c =
-    (start _ _ _ _, omega arith, omega arith)
+put-row-requires : tie.Need-put-row-requires Inv-loop μ-loop
+put-row-requires c κs =
+    rw (c .before .if1 .taken) at (c .before .before .before .pre)
 
 same-length : tie.Need-same-length Inv-loop μ-loop
 same-length c =
@@ -30,36 +31,11 @@ same-length c =
 
 returns : tie.Need-returns Inv-loop μ-loop
 returns c =
-    (round-whole (c .before .before .before .before .pre) (c .before .before .loop .t) (c .before .before .loop .inv .1 ∙ ap (λ (x : ℕ). x * c .before .before .before .before .args .block) (c .if1 .taken)) (c .before .loop-test .taken), c .before .before .loop .inv .0 .is ∙ from-first _ _ _)
+    rw (c .before .before .before .before .if1 .taken) (c .before .before .put-row .ensures)
 
-member-penalty-requires : tie.Need-member-penalty-requires Inv-loop μ-loop
-member-penalty-requires c κs =
-    omega (arith, c .before .before .before .before .pre .ports64, c .before .before .loop .inv .2)
-
-put-run-requires : tie.Need-put-run-requires Inv-loop μ-loop
-put-run-requires c κs =
-    omega (arith, round-fits (c .before .before .before .before .before .before .pre) (c .before .before .before .before .loop .port) (c .before .before .before .before .loop .t) (c .before .before .before .before .loop .inv .1) (c .before .before .before .loop-test .taken), c .before .before .before .before .before .before .pre .room, c .before .before .before .before .loop .inv .0 .same-length)
-
-add-t : tie.Need-add-t Inv-loop μ-loop
-add-t c =
-    omega (arith, round-fits (c .before .before .before .before .before .before .before .before .before .pre) (c .before .before .before .before .before .before .before .loop .port) (c .before .before .before .before .before .before .before .loop .t) (c .before .before .before .before .before .before .before .loop .inv .1) (c .before .before .before .before .before .before .loop-test .taken), c .before .before .before .before .before .before .before .before .before .pre .room, c .before .before .before .before .before .before .before .loop .inv .0 .same-length)
-
-add-port : tie.Need-add-port Inv-loop μ-loop
-add-port c =
-    omega (arith, c .before .before .before .before .before .before .before .before .before .pre .ports64, c .before .before .before .before .before .before .before .loop .inv .2)
-
-loop-less : tie.Need-loop-less Inv-loop μ-loop
-loop-less c =
-    omega (arith, c .before .before .before .before .before .before .before .before .before .pre .block1)
-
-loop-again : tie.Need-loop-again Inv-loop μ-loop
-loop-again c = (
-  run-more _ _ _ _ _ _ _ _ (c .before .before .before .before .before .before .before .loop .inv .0) (round-fits (c .before .before .before .before .before .before .before .before .before .pre) (c .before .before .before .before .before .before .before .loop .port) (c .before .before .before .before .before .before .before .loop .t) (c .before .before .before .before .before .before .before .loop .inv .1) (c .before .before .before .before .before .before .loop-test .taken)) (c .before .before .before .before .before .before .before .before .before .pre .room)
-      (λ i l. c .before .before .before .before .member-penalty .ensures ∙ ap (λ (x : ℕ). memberPenalty (c .before .before .before .before .before .before .before .before .before .args .kind) (inMask (c .before .before .before .before .before .before .before .before .before .args .mask) x)) (round-port (c .before .before .before .before .before .before .before .before .before .args .ports) (c .before .before .before .before .before .before .before .before .before .args .block) (c .before .before .before .before .before .before .before .loop .port) i (omega arith) l ∙ ap (λ (x : ℕ). digitAt (c .before .before .before .before .before .before .before .before .before .args .ports) (c .before .before .before .before .before .before .before .before .before .args .block) (x + i)) (sym (c .before .before .before .before .before .before .before .loop .inv .1))))
-      (c .before .before .put-run .ensures),
-  omega (arith, c .before .before .before .before .before .before .before .loop .inv .1, suc-mul (c .before .before .before .before .before .before .before .loop .port) (c .before .before .before .before .before .before .before .before .before .args .block)),
-  omega arith,
-)
+loop-holds : tie.Need-loop-holds Inv-loop μ-loop
+loop-holds c =
+    (start _ _ _ _, omega arith, omega arith)
 
 same-length-2 : tie.Need-same-length-2 Inv-loop μ-loop
 same-length-2 c =
@@ -67,7 +43,44 @@ same-length-2 c =
 
 returns-2 : tie.Need-returns-2 Inv-loop μ-loop
 returns-2 c =
-    let e : c .before .loop .t ≡ c .before .before .before .args .width = omega (arith, c .before .loop .inv .0 .within) in
+    (round-whole (c .before .before .before .before .before .pre) (c .before .before .loop .t) (c .before .before .loop .inv .1 ∙ ap (λ (x : ℕ). x * c .before .before .before .before .before .args .block) (c .if2 .taken)) (c .before .loop-test .taken), c .before .before .loop .inv .0 .is ∙ from-first _ _ _)
+
+member-penalty-requires : tie.Need-member-penalty-requires Inv-loop μ-loop
+member-penalty-requires c κs =
+    omega (arith, c .before .before .before .before .before .pre .ports64, c .before .before .loop .inv .2)
+
+put-run-requires : tie.Need-put-run-requires Inv-loop μ-loop
+put-run-requires c κs =
+    omega (arith, round-fits (c .before .before .before .before .before .before .before .pre) (c .before .before .before .before .loop .port) (c .before .before .before .before .loop .t) (c .before .before .before .before .loop .inv .1) (c .before .before .before .loop-test .taken), c .before .before .before .before .before .before .before .pre .room, c .before .before .before .before .loop .inv .0 .same-length)
+
+add-t : tie.Need-add-t Inv-loop μ-loop
+add-t c =
+    omega (arith, round-fits (c .before .before .before .before .before .before .before .before .before .before .pre) (c .before .before .before .before .before .before .before .loop .port) (c .before .before .before .before .before .before .before .loop .t) (c .before .before .before .before .before .before .before .loop .inv .1) (c .before .before .before .before .before .before .loop-test .taken), c .before .before .before .before .before .before .before .before .before .before .pre .room, c .before .before .before .before .before .before .before .loop .inv .0 .same-length)
+
+add-port : tie.Need-add-port Inv-loop μ-loop
+add-port c =
+    omega (arith, c .before .before .before .before .before .before .before .before .before .before .pre .ports64, c .before .before .before .before .before .before .before .loop .inv .2)
+
+loop-less : tie.Need-loop-less Inv-loop μ-loop
+loop-less c =
+    omega (arith, c .before .before .before .before .before .before .before .before .before .before .pre .block1)
+
+loop-again : tie.Need-loop-again Inv-loop μ-loop
+loop-again c = (
+  run-more _ _ _ _ _ _ _ _ (c .before .before .before .before .before .before .before .loop .inv .0) (round-fits (c .before .before .before .before .before .before .before .before .before .before .pre) (c .before .before .before .before .before .before .before .loop .port) (c .before .before .before .before .before .before .before .loop .t) (c .before .before .before .before .before .before .before .loop .inv .1) (c .before .before .before .before .before .before .loop-test .taken)) (c .before .before .before .before .before .before .before .before .before .before .pre .room)
+      (λ i l. c .before .before .before .before .member-penalty .ensures ∙ ap (λ (x : ℕ). memberPenalty (c .before .before .before .before .before .before .before .before .before .before .args .kind) (inMask (c .before .before .before .before .before .before .before .before .before .before .args .mask) x)) (round-port (c .before .before .before .before .before .before .before .before .before .before .args .ports) (c .before .before .before .before .before .before .before .before .before .before .args .block) (c .before .before .before .before .before .before .before .loop .port) i (omega arith) l ∙ ap (λ (x : ℕ). digitAt (c .before .before .before .before .before .before .before .before .before .before .args .ports) (c .before .before .before .before .before .before .before .before .before .before .args .block) (x + i)) (sym (c .before .before .before .before .before .before .before .loop .inv .1))))
+      (c .before .before .put-run .ensures),
+  omega (arith, c .before .before .before .before .before .before .before .loop .inv .1, suc-mul (c .before .before .before .before .before .before .before .loop .port) (c .before .before .before .before .before .before .before .before .before .before .args .block)),
+  omega arith,
+)
+
+same-length-3 : tie.Need-same-length-3 Inv-loop μ-loop
+same-length-3 c =
+    search needs
+
+returns-3 : tie.Need-returns-3 Inv-loop μ-loop
+returns-3 c =
+    let e : c .before .loop .t ≡ c .before .before .before .before .args .width = omega (arith, c .before .loop .inv .0 .within) in
     (round-all _ _ _ (c .before .loop .t) e, c .before .loop .inv .0 .is ∙ from-first _ _ _)
 
 pub put-round-spec : {M : Type 1} → statement M
@@ -76,14 +89,17 @@ put-round-spec =
     (tie.spec
     Inv-loop
     μ-loop
-    loop-holds
+    put-row-requires
     same-length
     returns
+    loop-holds
+    same-length-2
+    returns-2
     member-penalty-requires
     put-run-requires
     add-t
     add-port
     loop-less
     loop-again
-    same-length-2
-    returns-2)
+    same-length-3
+    returns-3)
