@@ -21,8 +21,9 @@ answerNumber (moveAnswered r) = movedNumber r
 answerNumber (trialAnswered r) = movedNumber r
 answerNumber (improveAnswered r) = improvedNumber r
 
--- One call: it is lent the front of scratch as the last call left it, writes of that what `ScratchAfter` allows, and nothing
--- behind it.
+-- "Trial returns the same three numbers and writes only a scratch table of at least as many cells" (paper 01, section One move);
+-- improve likewise. One call: it is lent the front of scratch as the last call left it, writes of that what `ScratchAfter` allows,
+-- and nothing behind it.
 pub record ScratchOne (d : Decoded) (call : Call) (answer : Answer) (before after : List ℕ) : Type 0 where
   pub front : take (length (lentTo call)) before ≡ lentTo call
   pub written : ScratchAfter d (answerNumber answer) (lentTo call) (take (length (lentTo call)) after)

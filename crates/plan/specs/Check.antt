@@ -121,6 +121,7 @@ pub record FirstTree (l : List ℕ) (i parent d ports sets above first : ℕ) (r
   pub ends-are : ends″ ≡ set (laid ends′ (suc i) (ends c (suc i))) i (r .end)
   pub uses-are : uses′ ≡ set (laid uses (suc i) (usesTable c)) i (r .uses)
 
+-- Ground 11 for a part's first tree: accepted it is a tree that keeps the rules, refused no forest that keeps them begins so.
 pub record TreeJudged (l : List ℕ) (i parent d ports sets above first : ℕ) (r : CheckedTree) (firsts ends uses firsts′ ends′ uses′ : List ℕ) : Type 0 where
   pub accepts : r .ok ≡ true
       → (n : Node) × (c : Forest) × FirstTree l i parent d ports sets above first r firsts ends uses firsts′ ends′ uses′ n c
