@@ -1,8 +1,8 @@
 // Inputs of planroot, whole and cut in two, and the lines for them: what it prints is held to the file stdout.
-use input::start;
-use input::step;
-use root_line::Line;
-use root_line::finish;
+use planroot_input::start;
+use planroot_input::step;
+use planroot_line::Line;
+use planroot_line::finish;
 ghost use mathlib.Core.Path.{_≡_};
 ghost use Prim.Native.Nat.{min};
 

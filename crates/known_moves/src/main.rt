@@ -1,12 +1,12 @@
 // Plan A of paper 01 from its text, then B: port 1 dropped from T, first tried and then made. What it prints is held to stdout.
-use calls::Moved;
-use engine::make_move;
-use engine::trial;
-use esol::Move;
-use load::Loaded;
-use load::load;
-use reader::Answer;
-use reader::read;
+use call_load::load;
+use call_move::make_move;
+use call_move::trial;
+use call_read::read;
+use contracts::Answer;
+use contracts::Loaded;
+use contracts::Moved;
+use logic::Move;
 
 fn wide(x: u32) -> u64 {
     x as u64

@@ -1,7 +1,7 @@
 // Known plans of paper 01 through load, and a node's cells: what it prints is held to the file stdout.
-use load::Loaded;
-use load::load;
-use load::node_cells;
+use call_load::load;
+use call_node::node_cells;
+use contracts::Loaded;
 
 fn wide(x: u32) -> u64 {
     x as u64

@@ -1,8 +1,8 @@
 // Texts of paper 01 through read and load, each ground at its boundary: what it prints is held to the file stdout.
-use load::Loaded;
-use load::load;
-use reader::Answer;
-use reader::read;
+use call_load::load;
+use call_read::read;
+use contracts::Answer;
+use contracts::Loaded;
 ghost use Prim.Native.Nat.{_≤_, _<_};
 
 // j, or 0 behind the last of n places.

@@ -1,2 +1,2 @@
--- Laws of the program.
+-- Laws.
 pub mod Passing

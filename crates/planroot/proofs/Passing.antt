@@ -1,9 +1,9 @@
 -- An input that is passed piece by piece. Assumes nothing.
 use mathlib.Core.List.{List, [], _++_}
 use Prim.Native.Nat.{ℕ}
-use Rattle.input.specs.declared.Scan.{Scan}
-use Rattle.input.specs.Scans.{Scanned, Starts, Steps}
-use Rattle.planroot.specs.Known.{Known}
+use Rattle.planroot_input.specs.declared.Scan.{Scan}
+use Rattle.planroot_input.specs.inner.Scans.{Starts, Steps}
+use Rattle.planroot.specs.inner.Known.{Known}
 
 pub known-start : (s : Scan) (ms tx : List ℕ) → Starts s → Known s ms tx
 unfolding Starts

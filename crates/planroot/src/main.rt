@@ -1,12 +1,12 @@
 // planroot: reads u, masks and a text from standard input and prints the root's penalty and the cell total, or the number of a
 // refusal. Paper 01, section Known plans.
-use input::Scan;
-use input::start;
-use input::step;
-use root_line::Line;
-use root_line::finish;
-ghost use Rattle.input.specs.Scans.{Room};
-ghost use Rattle.planroot.specs.Known.{Known};
+use planroot_input::Scan;
+use planroot_input::start;
+use planroot_input::step;
+use planroot_line::Line;
+use planroot_line::finish;
+ghost use Rattle.planroot_input.specs.inner.Scans.{Room};
+ghost use Rattle.planroot.specs.inner.Known.{Known};
 
 // Passes standard input to its end. Nothing says that it ends, so the turns are counted: 2^64 - 1 of them suffice.
 fn pass_input(masks: &mut [u64], text: &mut [u8]) -> Scan

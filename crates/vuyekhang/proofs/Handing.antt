@@ -1,20 +1,19 @@
 -- What vk_move, vk_trial and vk_improve give, from what the calls below them give. Assumes nothing.
-use mathlib.Core.Path.{_≡_, refl, sym, ap, subst, _∙_}
+use mathlib.Core.Path.{_≡_, sym, ap, subst, _∙_}
 use mathlib.Core.List.{List}
 use Prim.Native.Nat.{ℕ}
 use lib.ListN.{length}
-use Rattle.esol.specs.declared.Move.{Move}
-use Rattle.plan.specs.Decode.{Decoded}
-use Rattle.calls.specs.declared.Moved.{Moved}
-use Rattle.calls.specs.declared.Improved.{Improved}
-use Rattle.calls.specs.MoveCall.{movedNumber, moves}
-use Rattle.calls.specs.TrialCall.{trials, ScratchAfter}
-use Rattle.calls.specs.declared.Improved.the-variants.{Made, NoBetter, Refused}
-use Rattle.calls.specs.ImproveCall.{improvedNumber, improvedFound, improvedMove, noMove, improvedBefore, improvedAfter, improvedChanged, Improves}
-use Rattle.vuyekhang.specs.declared.MoveRecord.{MoveRecord}
-use Rattle.vuyekhang.specs.declared.MoveAnswer.{MoveAnswer}
-use Rattle.vuyekhang.specs.declared.ImproveAnswer.{ImproveAnswer}
-use Rattle.vuyekhang.specs.Moving.{moveOf, MoveFields, MoveGives, TrialGives, ImproveFields, ImproveGives}
+use Rattle.logic.specs.declared.Move.{Move}
+use Rattle.table_format.specs.Decode.{Decoded}
+use Rattle.contracts.specs.declared.Moved.{Moved}
+use Rattle.contracts.specs.declared.Improved.{Improved}
+use Rattle.contracts.specs.MoveCall.{movedNumber, moves}
+use Rattle.contracts.specs.TrialCall.{trials, ScratchAfter}
+use Rattle.contracts.specs.ImproveCall.{improvedNumber, Improves}
+use Rattle.answers.specs.declared.MoveRecord.{MoveRecord}
+use Rattle.answers.specs.declared.MoveAnswer.{MoveAnswer}
+use Rattle.answers.specs.declared.ImproveAnswer.{ImproveAnswer}
+use Rattle.answers.specs.Moving.{moveOf, MoveFields, MoveGives, TrialGives, ImproveFields, ImproveGives}
 
 -- the C record's move, and the answer field by field
 pub move-gives : (d : Decoded) (n : MoveRecord) (m : Move) (masks cells masks′ cells′ : List ℕ) (a : Moved) (r : MoveAnswer) → m ≡ moveOf n
@@ -48,25 +47,3 @@ improve-gives d kinds masks cells scratch masks′ cells′ scratch′ a r i s f
       improves = i;
       scratch-is = subst (λ (x : ℕ). ScratchAfter d x scratch scratch′) (sym (f .number-is)) s;
     }
-
--- the struct of each answer of improve
-pub fields-made : (a : Improved) (m : Move) (n : MoveRecord) (x y z : ℕ) → a ≡ Made m x y z → moveOf n ≡ m
-    → ImproveFields a (record { number = 0; found = 1; chosen = n; before = x; after = y; changed = z })
-unfolding improvedNumber improvedFound improvedMove improvedBefore improvedAfter improvedChanged
-fields-made a m n x y z e p =
-    subst (λ (b : Improved). ImproveFields b (record { number = 0; found = 1; chosen = n; before = x; after = y; changed = z })) (sym e)
-    (record { number-is = refl; found-is = refl; move-is = p; before-is = refl; after-is = refl; changed-is = refl })
-
-pub fields-none : (a : Improved) (n : MoveRecord) (x : ℕ) → a ≡ NoBetter x → moveOf n ≡ noMove
-    → ImproveFields a (record { number = 0; found = 0; chosen = n; before = x; after = x; changed = 0 })
-unfolding improvedNumber improvedFound improvedMove improvedBefore improvedAfter improvedChanged
-fields-none a n x e p =
-    subst (λ (b : Improved). ImproveFields b (record { number = 0; found = 0; chosen = n; before = x; after = x; changed = 0 })) (sym e)
-    (record { number-is = refl; found-is = refl; move-is = p; before-is = refl; after-is = refl; changed-is = refl })
-
-pub fields-refused : (a : Improved) (n : MoveRecord) (x : ℕ) → a ≡ Refused x → moveOf n ≡ noMove
-    → ImproveFields a (record { number = x; found = 0; chosen = n; before = 0; after = 0; changed = 0 })
-unfolding improvedNumber improvedFound improvedMove improvedBefore improvedAfter improvedChanged
-fields-refused a n x e p =
-    subst (λ (b : Improved). ImproveFields b (record { number = x; found = 0; chosen = n; before = 0; after = 0; changed = 0 })) (sym e)
-    (record { number-is = refl; found-is = refl; move-is = p; before-is = refl; after-is = refl; changed-is = refl })

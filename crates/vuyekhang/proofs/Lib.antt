@@ -1,3 +1,3 @@
--- Laws of the boundary.
-pub mod Parts
+-- Laws.
 pub mod Handing
+pub mod Parts

@@ -1,27 +1,25 @@
 -- What the exported functions give, from what the calls below them give. Assumes nothing.
-use mathlib.Core.Path.{_≡_, refl, sym, ap, subst, _∙_}
+use mathlib.Core.Path.{_≡_, sym, ap, subst, _∙_}
 use mathlib.Core.List.{List, []}
 use Prim.Native.Nat.{ℕ, _+_, _-_, _≤_, _<_}
 use native.Mathlib.Omega.{arith}
-use lib.Dec.{leb, ltb}
-use lib.ListN.{length, getD, take, drop}
+use lib.ListN.{length, getD}
 use borrow.Author.Tests.{lt-ltb, le-ltb, le-leb, lt-leb}
-use Rattle.esol.specs.Formula.{Plan, nodeCount}
-use Rattle.esol.specs.Cells.{cellCount, ownCells}
-use Rattle.plan.specs.Decode.{Decoded, broken, sound, decode}
-use Rattle.plan.specs.Check.{laid}
-use Rattle.plan.specs.Index.{firstCells}
-use Rattle.load.specs.NodeCells.{widths, nodeCells}
-use Rattle.load.proofs.NodeParts.{NodeBounds, bound-read, node-bounds}
-use Rattle.load.proofs.NodeAnswers.{node-broken, node-short, node-past, node-found}
-use Rattle.reader.specs.declared.Answer.{Answer}
-use Rattle.load.specs.declared.Loaded.{Loaded}
-use Rattle.load.specs.Fill.{boundAt}
-use Rattle.load.proofs.Loading.{own-count}
-use Rattle.vuyekhang.specs.declared.ReadAnswer.{ReadAnswer}
-use Rattle.vuyekhang.specs.declared.LoadAnswer.{LoadAnswer}
-use Rattle.vuyekhang.specs.declared.Part.{Part}
-use Rattle.vuyekhang.specs.Boundary.{ReadFields, ReadGives, LoadFields, LoadGives, partOf, PartGives}
+use Rattle.logic.specs.Formula.{Plan, nodeCount}
+use Rattle.logic.specs.Cells.{ownCells, firstCells}
+use Rattle.table_format.specs.Decode.{Decoded, broken, sound, decode}
+use Rattle.table_format.specs.inner.Index.{laid}
+use Rattle.contracts.specs.NodeCells.{widths, nodeCells}
+use Rattle.contracts.proofs.NodeParts.{NodeBounds, node-bounds}
+use Rattle.call_node.proofs.Bounds.{bound-read}
+use Rattle.contracts.proofs.NodeAnswers.{node-broken, node-short, node-past, node-found}
+use Rattle.contracts.specs.declared.Answer.{Answer}
+use Rattle.contracts.specs.declared.Loaded.{Loaded}
+use Rattle.call_node.specs.inner.Bounds.{boundAt}
+use Rattle.table_format.proofs.Ready.{own-count}
+use Rattle.answers.specs.declared.ReadAnswer.{ReadAnswer}
+use Rattle.answers.specs.declared.LoadAnswer.{LoadAnswer}
+use Rattle.answers.specs.Boundary.{ReadFields, ReadGives, LoadFields, LoadGives, partOf, PartGives}
 
 -- an answer handed on field by field
 pub read-gives : (a : Answer) (t : List ℕ) (given : Answer × List ℕ) (r : ReadAnswer) → (a, t) ≡ given → ReadFields a r → ReadGives given r t

@@ -1,69 +1,32 @@
 // The C boundary: every call of the engine as an exported function over slices and numbers. include/vuyekhang.h declares them
 // for C. None has a `requires`, so no caller can break one; each contract gives every field by the answer definitions of the
 // call that it hands on to, and every table that it may write.
-use calls::Improved;
-use calls::Moved;
-use engine::make_move;
-use engine::trial;
-use esol::Move;
-use improving::improve;
-use load::Loaded;
-use load::bound_of;
-use load::load;
-use plan::check;
-use reader::Answer;
-use reader::read;
-ghost use mathlib.Core.Path.{_≡_};
-ghost use Prim.Native.Nat.{ℕ, _≤_};
+use answers::ImproveAnswer;
+use answers::LoadAnswer;
+use answers::MoveAnswer;
+use answers::MoveRecord;
+use answers::Part;
+use answers::ReadAnswer;
+use answers::improve_fields;
+use answers::load_fields;
+use answers::move_fields;
+use answers::move_of;
+use answers::read_fields;
+use call_improve::improve;
+use call_load::load;
+use call_move::make_move;
+use call_move::trial;
+use call_node::bound_of;
+use call_read::read;
+use table_check::check;
 ghost use lib.ListN.{length};
-ghost use Rattle.plan.specs.Decode.{decode};
-ghost use Rattle.reader.specs.Read.{reads};
-ghost use Rattle.load.specs.Load.{loads};
-ghost use Rattle.load.specs.Fill.{boundAt};
-ghost use Rattle.calls.specs.MoveCall.{moves};
-ghost use Rattle.calls.specs.TrialCall.{trials};
-ghost use Rattle.vuyekhang.specs.Boundary.{ReadFields, ReadGives, LoadFields, LoadGives, PartGives};
-ghost use Rattle.vuyekhang.specs.Moving.{moveOf, MoveFields, MoveGives, TrialGives, ImproveFields, ImproveGives};
-
-// vk_read_answer: 0 or the ground's number, node count, cell total.
-#[repr(C)]
-pub struct ReadAnswer {
-    pub number: u32,
-    pub nodes: u32,
-    pub cells: u32,
-}
-
-// vk_load_answer: 0 or the ground's number, the root's penalty, cell total.
-#[repr(C)]
-pub struct LoadAnswer {
-    pub number: u32,
-    pub root: u32,
-    pub cells: u32,
-}
-
-// vk_part: a part of the caller's cell table. A slice cannot be handed back to C, so the part is said by place and length.
-#[repr(C)]
-pub struct Part {
-    pub first: usize,
-    pub count: usize,
-}
-
-fn read_fields(a: Answer) -> ReadAnswer
-    ensures { λ r. ⌜ ReadFields a r ⌝ }
-{
-    match a {
-        Answer::Accepted { nodes, cells } => ReadAnswer {
-            number: 0,
-            nodes,
-            cells,
-        },
-        Answer::Refused(number) => ReadAnswer {
-            number: number as u32,
-            nodes: 0,
-            cells: 0,
-        },
-    }
-}
+ghost use Rattle.table_format.specs.Decode.{decode};
+ghost use Rattle.contracts.specs.Read.{reads};
+ghost use Rattle.contracts.specs.Load.{loads};
+ghost use Rattle.contracts.specs.MoveCall.{moves};
+ghost use Rattle.contracts.specs.TrialCall.{trials};
+ghost use Rattle.answers.specs.Boundary.{ReadGives, LoadGives, PartGives};
+ghost use Rattle.answers.specs.Moving.{moveOf, MoveGives, TrialGives, ImproveGives};
 
 // Reads a plan text and writes its plan table.
 #[no_mangle]
@@ -72,23 +35,6 @@ pub extern "C" fn vk_read(u: u64, text: &[u8], table: &mut [u8]) -> ReadAnswer
 {
     let a = read(u, text, table);
     read_fields(a)
-}
-
-fn load_fields(a: Loaded) -> LoadAnswer
-    ensures { λ r. ⌜ LoadFields a r ⌝ }
-{
-    match a {
-        Loaded::Accepted { root, cells } => LoadAnswer {
-            number: 0,
-            root,
-            cells,
-        },
-        Loaded::Refused(number) => LoadAnswer {
-            number: number as u32,
-            root: 0,
-            cells: 0,
-        },
-    }
 }
 
 // Checks the tables and fills every cell.
@@ -128,83 +74,6 @@ pub extern "C" fn vk_node_cells(table: &[u8], cells: &[u32], node: usize) -> Par
     }
 }
 
-// vk_move_record: a move as a C caller gives it and improve hands it back.
-#[repr(C)]
-pub struct MoveRecord {
-    pub kind: u32,
-    pub s: u32,
-    pub t: u32,
-    pub p: u32,
-    pub q: u32,
-}
-
-// vk_move_answer: 0 or the ground's number, root before, root after, how many cells differ.
-#[repr(C)]
-pub struct MoveAnswer {
-    pub number: u32,
-    pub before: u32,
-    pub after: u32,
-    pub changed: u32,
-}
-
-// vk_improve_answer: 0 or the ground's number, whether a move was made, that move, and the three numbers.
-#[repr(C)]
-pub struct ImproveAnswer {
-    pub number: u32,
-    pub found: u32,
-    pub chosen: MoveRecord,
-    pub before: u32,
-    pub after: u32,
-    pub changed: u32,
-}
-
-fn move_of(m: MoveRecord) -> Move
-    ensures { λ r. ⌜ r ≡ moveOf m ⌝ }
-{
-    Move {
-        kind: m.kind,
-        s: m.s,
-        t: m.t,
-        p: m.p,
-        q: m.q,
-    }
-}
-
-fn record_of(chosen: Move) -> MoveRecord
-    ensures { λ r. ⌜ moveOf r ≡ chosen ⌝ }
-{
-    MoveRecord {
-        kind: chosen.kind,
-        s: chosen.s,
-        t: chosen.t,
-        p: chosen.p,
-        q: chosen.q,
-    }
-}
-
-fn move_fields(a: Moved) -> MoveAnswer
-    ensures { λ r. ⌜ MoveFields a r ⌝ }
-{
-    match a {
-        Moved::Accepted {
-            before,
-            after,
-            changed,
-        } => MoveAnswer {
-            number: 0,
-            before,
-            after,
-            changed,
-        },
-        Moved::Refused(number) => MoveAnswer {
-            number: number as u32,
-            before: 0,
-            after: 0,
-            changed: 0,
-        },
-    }
-}
-
 // Makes a move: writes its masks and the touched cells in place.
 #[no_mangle]
 pub extern "C" fn vk_move(
@@ -232,54 +101,6 @@ pub extern "C" fn vk_trial(
 {
     let a = trial(table, masks, cells, scratch, move_of(m));
     move_fields(a)
-}
-
-fn improve_fields(a: Improved) -> ImproveAnswer
-    ensures { λ r. ⌜ ImproveFields a r ⌝ }
-{
-    match a {
-        Improved::Made {
-            chosen,
-            before,
-            after,
-            changed,
-        } => ImproveAnswer {
-            number: 0,
-            found: 1,
-            chosen: record_of(chosen),
-            before,
-            after,
-            changed,
-        },
-        Improved::NoBetter { root } => ImproveAnswer {
-            number: 0,
-            found: 0,
-            chosen: MoveRecord {
-                kind: 0,
-                s: 0,
-                t: 0,
-                p: 0,
-                q: 0,
-            },
-            before: root,
-            after: root,
-            changed: 0,
-        },
-        Improved::Refused(number) => ImproveAnswer {
-            number: number as u32,
-            found: 0,
-            chosen: MoveRecord {
-                kind: 0,
-                s: 0,
-                t: 0,
-                p: 0,
-                q: 0,
-            },
-            before: 0,
-            after: 0,
-            changed: 0,
-        },
-    }
 }
 
 // Makes a move of some kinds that leaves the least root, if that is smaller than now.

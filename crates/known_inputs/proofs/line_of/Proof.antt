@@ -1,18 +1,10 @@
 use native.Mathlib.Omega.{arith}
 use borrow.Author.Needs.{needs}
-use Rattle.plan.specs.Bytes.{headerLength}
-use Rattle.root_line.specs.Pieces.{started, stepped}
-use Rattle.root_line.proofs.Pieces.{passed-scanned}
-use borrow.Author.Needs.{needs}
+use Rattle.table_format.specs.Bytes.{headerLength}
+use Rattle.planroot_line.specs.inner.Pieces.{started, stepped}
+use Rattle.planroot_line.proofs.Pieces.{passed-scanned}
 use Rattle.known_inputs.proofs.line_of.Statement.{statement}
 use Rattle.known_inputs.proofs.line_of.Tie as tie
-use Rattle.known_inputs.proofs.line_of.Reads as reads
-use Rattle.known_inputs.proofs.line_of.Lts as lts
-use Rattle.input.proofs.start.Reads as start-reads
-use Rattle.input.proofs.step.Reads as step-reads
-use Rattle.known_inputs.proofs.least.Reads as least-reads
-use Rattle.known_inputs.proofs.room.Reads as room-reads
-use Rattle.root_line.proofs.finish.Reads as finish-reads
 
 least-requires : tie.Need-least-requires
 least-requires c κs = search needs

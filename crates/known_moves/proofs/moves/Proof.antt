@@ -1,15 +1,7 @@
 use native.Mathlib.Omega.{arith}
 use borrow.Author.Needs.{needs}
-use borrow.Author.Needs.{needs}
 use Rattle.known_moves.proofs.moves.Statement.{statement}
 use Rattle.known_moves.proofs.moves.Tie as tie
-use Rattle.known_moves.proofs.moves.Reads as reads
-use Rattle.known_moves.proofs.moves.Lts as lts
-use Rattle.engine.proofs.make_move.Reads as make-move-reads
-use Rattle.engine.proofs.trial.Reads as trial-reads
-use Rattle.known_moves.proofs.a_move.Reads as a-move-reads
-use Rattle.known_moves.proofs.say_moved.Reads as say-moved-reads
-use Rattle.known_moves.proofs.show.Reads as show-reads
 
 a-move-requires : tie.Need-a-move-requires
 a-move-requires c κs = search needs

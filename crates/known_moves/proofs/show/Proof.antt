@@ -1,13 +1,9 @@
 use Prim.Native.Nat.{_≤_, _-_}
 use native.Mathlib.Omega.{arith}
-use borrow.Author.Needs.{needs}
 use lib.ListN.{length}
+use borrow.Author.Needs.{needs}
 use Rattle.known_moves.proofs.show.Statement.{statement}
 use Rattle.known_moves.proofs.show.Tie as tie
-use Rattle.known_moves.proofs.show.Reads as reads
-use Rattle.known_moves.proofs.show.Lts as lts
-use Rattle.io.proofs.write_all.Reads as write-all-reads
-use Rattle.known_moves.proofs.number.Reads as number-reads
 
 abbrev Inv-loop : tie.InvT-loop
 Inv-loop cells i₀ t3 i = i ≤ length cells

@@ -1,13 +1,10 @@
-use Prim.Native.Nat.{_-_}
 use mathlib.Core.Path.{_≡_, refl}
+use Prim.Native.Nat.{_-_}
 use native.Mathlib.Omega.{arith}
-use borrow.Author.Needs.{needs}
 use lib.ListN.{length, length-set}
+use borrow.Author.Needs.{needs}
 use Rattle.known_texts.proofs.lay.Statement.{statement}
 use Rattle.known_texts.proofs.lay.Tie as tie
-use Rattle.known_texts.proofs.lay.Reads as reads
-use Rattle.known_texts.proofs.lay.Lts as lts
-use Rattle.known_texts.proofs.wrapped.Reads as wrapped-reads
 
 abbrev Inv-loop : tie.InvT-loop
 Inv-loop out₀ from to piece i₀ j₀ out i j = length out ≡ length out₀

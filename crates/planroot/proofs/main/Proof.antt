@@ -1,15 +1,8 @@
-use Rattle.plan.specs.Bytes.{headerLength}
 use native.Mathlib.Omega.{arith}
 use borrow.Author.Needs.{needs}
-use borrow.Author.Needs.{needs}
+use Rattle.table_format.specs.Bytes.{headerLength}
 use Rattle.planroot.proofs.main.Statement.{statement}
 use Rattle.planroot.proofs.main.Tie as tie
-use Rattle.planroot.proofs.main.Reads as reads
-use Rattle.planroot.proofs.main.Lts as lts
-use Rattle.planroot.proofs.pass_input.Reads as pass-input-reads
-use Rattle.planroot.proofs.room.Reads as room-reads
-use Rattle.planroot.proofs.say.Reads as say-reads
-use Rattle.root_line.proofs.finish.Reads as finish-reads
 
 slice-aggregate-pass-input : tie.Need-slice-aggregate-pass-input
 slice-aggregate-pass-input c = search needs

@@ -1,19 +1,11 @@
-use Prim.Native.Nat.{_≤_, _<_}
-use mathlib.Core.Path.{_≡_, refl, sym, ap, _∙_}
-use mathlib.Core.List.{[], _++_}
+use mathlib.Core.Path.{_≡_, refl, sym, _∙_}
 use native.Mathlib.Omega.{arith}
-use borrow.Author.Needs.{needs}
 use lib.ListN.{length}
-use Rattle.planroot.specs.Known.{Known}
+use borrow.Author.Needs.{needs}
+use Rattle.planroot.specs.inner.Known.{Known}
 use Rattle.planroot.proofs.Passing.{known-start, known-step}
 use Rattle.planroot.proofs.pass_input.Statement.{statement}
 use Rattle.planroot.proofs.pass_input.Tie as tie
-use Rattle.planroot.proofs.pass_input.Reads as reads
-use Rattle.planroot.proofs.pass_input.Lts as lts
-use Rattle.input.proofs.start.Reads as start-reads
-use Rattle.input.proofs.step.Reads as step-reads
-use Rattle.io.proofs.buffer.Reads as buffer-reads
-use Rattle.io.proofs.read_full.Reads as read-full-reads
 
 abbrev Inv-loop : tie.InvT-loop
 Inv-loop masks₀ text₀ s₀ piece₀ left₀ masks text s piece left = Known s masks text × (length masks ≡ length masks₀) × (length text ≡ length text₀) × (length piece ≡ 4096)

@@ -1,11 +1,7 @@
-use Rattle.vuyekhang.proofs.Handing.{improve-gives}
 use borrow.Author.Needs.{needs}
+use Rattle.vuyekhang.proofs.Handing.{improve-gives}
 use Rattle.vuyekhang.proofs.vk_improve.Statement.{statement}
 use Rattle.vuyekhang.proofs.vk_improve.Tie as tie
-use Rattle.vuyekhang.proofs.vk_improve.Reads as reads
-use Rattle.vuyekhang.proofs.vk_improve.Lts as lts
-use Rattle.improving.proofs.improve.Reads as improve-reads
-use Rattle.vuyekhang.proofs.improve_fields.Reads as improve-fields-reads
 
 improve-requires : tie.Need-improve-requires
 improve-requires c κs = search needs

@@ -1,11 +1,7 @@
-use Rattle.vuyekhang.proofs.Parts.{load-gives}
 use borrow.Author.Needs.{needs}
+use Rattle.vuyekhang.proofs.Parts.{load-gives}
 use Rattle.vuyekhang.proofs.vk_load.Statement.{statement}
 use Rattle.vuyekhang.proofs.vk_load.Tie as tie
-use Rattle.vuyekhang.proofs.vk_load.Reads as reads
-use Rattle.vuyekhang.proofs.vk_load.Lts as lts
-use Rattle.load.proofs.load.Reads as load-reads
-use Rattle.vuyekhang.proofs.load_fields.Reads as load-fields-reads
 
 load-requires : tie.Need-load-requires
 load-requires c κs = search needs

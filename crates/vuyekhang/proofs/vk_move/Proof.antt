@@ -1,12 +1,7 @@
-use Rattle.vuyekhang.proofs.Handing.{move-gives}
 use borrow.Author.Needs.{needs}
+use Rattle.vuyekhang.proofs.Handing.{move-gives}
 use Rattle.vuyekhang.proofs.vk_move.Statement.{statement}
 use Rattle.vuyekhang.proofs.vk_move.Tie as tie
-use Rattle.vuyekhang.proofs.vk_move.Reads as reads
-use Rattle.vuyekhang.proofs.vk_move.Lts as lts
-use Rattle.engine.proofs.make_move.Reads as make-move-reads
-use Rattle.vuyekhang.proofs.move_fields.Reads as move-fields-reads
-use Rattle.vuyekhang.proofs.move_of.Reads as move-of-reads
 
 move-of-requires : tie.Need-move-of-requires
 move-of-requires c κs = search needs

@@ -1,16 +1,10 @@
-use mathlib.Core.Path.{_∙_}
-use Prim.Native.Nat.{_+_}
 use native.Mathlib.Omega.{arith}
 use borrow.Author.Tests.{not-true, not-false}
-use Rattle.load.proofs.Loading.{ready, own-count}
-use Rattle.vuyekhang.proofs.Parts.{part-broken, part-short, part-past, part-found, bounds-of}
 use borrow.Author.Needs.{needs}
+use Rattle.table_format.proofs.Ready.{ready}
+use Rattle.vuyekhang.proofs.Parts.{part-broken, part-short, part-past, part-found, bounds-of}
 use Rattle.vuyekhang.proofs.vk_node_cells.Statement.{statement}
 use Rattle.vuyekhang.proofs.vk_node_cells.Tie as tie
-use Rattle.vuyekhang.proofs.vk_node_cells.Reads as reads
-use Rattle.vuyekhang.proofs.vk_node_cells.Lts as lts
-use Rattle.plan.proofs.check.Reads as check-reads
-use Rattle.load.proofs.bound_of.Reads as bound-of-reads
 
 slice-aggregate-check : tie.Need-slice-aggregate-check
 slice-aggregate-check c = search needs

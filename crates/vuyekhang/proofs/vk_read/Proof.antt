@@ -1,11 +1,7 @@
-use Rattle.vuyekhang.proofs.Parts.{read-gives}
 use borrow.Author.Needs.{needs}
+use Rattle.vuyekhang.proofs.Parts.{read-gives}
 use Rattle.vuyekhang.proofs.vk_read.Statement.{statement}
 use Rattle.vuyekhang.proofs.vk_read.Tie as tie
-use Rattle.vuyekhang.proofs.vk_read.Reads as reads
-use Rattle.vuyekhang.proofs.vk_read.Lts as lts
-use Rattle.reader.proofs.read.Reads as read-reads
-use Rattle.vuyekhang.proofs.read_fields.Reads as read-fields-reads
 
 read-requires : tie.Need-read-requires
 read-requires c κs = search needs

@@ -1,12 +1,7 @@
-use Rattle.vuyekhang.proofs.Handing.{trial-gives}
 use borrow.Author.Needs.{needs}
+use Rattle.vuyekhang.proofs.Handing.{trial-gives}
 use Rattle.vuyekhang.proofs.vk_trial.Statement.{statement}
 use Rattle.vuyekhang.proofs.vk_trial.Tie as tie
-use Rattle.vuyekhang.proofs.vk_trial.Reads as reads
-use Rattle.vuyekhang.proofs.vk_trial.Lts as lts
-use Rattle.engine.proofs.trial.Reads as trial-reads
-use Rattle.vuyekhang.proofs.move_fields.Reads as move-fields-reads
-use Rattle.vuyekhang.proofs.move_of.Reads as move-of-reads
 
 move-of-requires : tie.Need-move-of-requires
 move-of-requires c κs = search needs

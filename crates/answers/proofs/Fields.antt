@@ -1,0 +1,31 @@
+-- The fields of improve's struct. Assumes nothing.
+use mathlib.Core.Path.{_≡_, refl, sym, subst}
+use Prim.Native.Nat.{ℕ}
+use Rattle.logic.specs.declared.Move.{Move}
+use Rattle.contracts.specs.declared.Improved.{Improved}
+use Rattle.contracts.specs.declared.Improved.the-variants.{Made, NoBetter, Refused}
+use Rattle.contracts.specs.ImproveCall.{improvedNumber, improvedFound, improvedMove, noMove, improvedBefore, improvedAfter, improvedChanged}
+use Rattle.answers.specs.declared.MoveRecord.{MoveRecord}
+use Rattle.answers.specs.Moving.{moveOf, ImproveFields}
+
+-- the struct of each answer of improve
+pub fields-made : (a : Improved) (m : Move) (n : MoveRecord) (x y z : ℕ) → a ≡ Made m x y z → moveOf n ≡ m
+    → ImproveFields a (record { number = 0; found = 1; chosen = n; before = x; after = y; changed = z })
+unfolding improvedNumber improvedFound improvedMove improvedBefore improvedAfter improvedChanged
+fields-made a m n x y z e p =
+    subst (λ (b : Improved). ImproveFields b (record { number = 0; found = 1; chosen = n; before = x; after = y; changed = z })) (sym e)
+    (record { number-is = refl; found-is = refl; move-is = p; before-is = refl; after-is = refl; changed-is = refl })
+
+pub fields-none : (a : Improved) (n : MoveRecord) (x : ℕ) → a ≡ NoBetter x → moveOf n ≡ noMove
+    → ImproveFields a (record { number = 0; found = 0; chosen = n; before = x; after = x; changed = 0 })
+unfolding improvedNumber improvedFound improvedMove improvedBefore improvedAfter improvedChanged
+fields-none a n x e p =
+    subst (λ (b : Improved). ImproveFields b (record { number = 0; found = 0; chosen = n; before = x; after = x; changed = 0 })) (sym e)
+    (record { number-is = refl; found-is = refl; move-is = p; before-is = refl; after-is = refl; changed-is = refl })
+
+pub fields-refused : (a : Improved) (n : MoveRecord) (x : ℕ) → a ≡ Refused x → moveOf n ≡ noMove
+    → ImproveFields a (record { number = x; found = 0; chosen = n; before = 0; after = 0; changed = 0 })
+unfolding improvedNumber improvedFound improvedMove improvedBefore improvedAfter improvedChanged
+fields-refused a n x e p =
+    subst (λ (b : Improved). ImproveFields b (record { number = x; found = 0; chosen = n; before = 0; after = 0; changed = 0 })) (sym e)
+    (record { number-is = refl; found-is = refl; move-is = p; before-is = refl; after-is = refl; changed-is = refl })

@@ -1,0 +1,26 @@
+use borrow.Author.Needs.{needs}
+use Rattle.contracts.specs.MoveCall.{movedNumber, movedBefore, movedAfter, movedChanged}
+use Rattle.answers.proofs.move_fields.Statement.{statement}
+use Rattle.answers.proofs.move_fields.Tie as tie
+
+enum-known-a : tie.Need-enum-known-a
+enum-known-a c = search needs
+
+enum-known-a-2 : tie.Need-enum-known-a-2
+enum-known-a-2 c = search needs
+
+cast-t7 : tie.Need-cast-t7
+cast-t7 c = search needs
+
+returns : tie.Need-returns
+unfolding movedNumber movedBefore movedAfter movedChanged
+returns c =
+    search needs
+
+returns-2 : tie.Need-returns-2
+unfolding movedNumber movedBefore movedAfter movedChanged
+returns-2 c =
+    search needs
+
+pub move-fields-spec : {M : Type 1} → statement M
+move-fields-spec = tie.close (tie.spec enum-known-a enum-known-a-2 cast-t7 returns returns-2)

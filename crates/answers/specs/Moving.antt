@@ -1,0 +1,55 @@
+-- What vk_move, vk_trial and vk_improve give: the fields of the C structs by the answer definitions of the calls, and the tables
+-- afterwards.
+use mathlib.Core.Path.{_≡_}
+use mathlib.Core.List.{List}
+use Prim.Native.Nat.{ℕ}
+use lib.ListN.{length}
+use Rattle.logic.specs.declared.Move.{Move}
+use Rattle.table_format.specs.Decode.{Decoded}
+use Rattle.contracts.specs.declared.Moved.{Moved}
+use Rattle.contracts.specs.declared.Improved.{Improved}
+use Rattle.contracts.specs.MoveCall.{movedNumber, movedBefore, movedAfter, movedChanged}
+use Rattle.contracts.specs.TrialCall.{ScratchAfter}
+use Rattle.contracts.specs.ImproveCall.{improvedNumber, improvedFound, improvedMove, improvedBefore, improvedAfter, improvedChanged, Improves}
+use Rattle.answers.specs.declared.MoveRecord.{MoveRecord}
+use Rattle.answers.specs.declared.MoveAnswer.{MoveAnswer}
+use Rattle.answers.specs.declared.ImproveAnswer.{ImproveAnswer}
+
+-- The move that a C record is: the same five numbers.
+unfoldable pub moveOf : MoveRecord → Move
+moveOf m = record { kind = m .kind; s = m .s; t = m .t; p = m .p; q = m .q }
+
+-- "The answer is the number with all other fields 0", and the three numbers of an accepted move: each field by the call's own
+-- definitions.
+pub record MoveFields (a : Moved) (r : MoveAnswer) : Type 0 where
+  pub number-is : r .number ≡ movedNumber a
+  pub before-is : r .before ≡ movedBefore a
+  pub after-is : r .after ≡ movedAfter a
+  pub changed-is : r .changed ≡ movedChanged a
+
+-- The struct, every mask and every cell afterwards.
+pub record MoveGives (given : Moved × List ℕ × List ℕ) (r : MoveAnswer) (masks cells : List ℕ) : Type 0 where
+  pub fields : MoveFields (given .0) r
+  pub masks-are : masks ≡ given .1
+  pub cells-are : cells ≡ given .2
+
+-- The struct, and scratch afterwards: on refusal as it was, and never written past the plan's own cells.
+pub record TrialGives (d : Decoded) (given : Moved) (r : MoveAnswer) (scratch scratch′ : List ℕ) : Type 0 where
+  pub fields : MoveFields given r
+  pub scratch-is : ScratchAfter d (r .number) scratch scratch′
+
+pub record ImproveFields (a : Improved) (r : ImproveAnswer) : Type 0 where
+  pub number-is : r .number ≡ improvedNumber a
+  pub found-is : r .found ≡ improvedFound a
+  pub move-is : moveOf (r .chosen) ≡ improvedMove a
+  pub before-is : r .before ≡ improvedBefore a
+  pub after-is : r .after ≡ improvedAfter a
+  pub changed-is : r .changed ≡ improvedChanged a
+
+-- The struct is one of the answers that improve may give, with every mask, every cell and scratch afterwards. Its fields leave one
+-- answer alone: found tells a move from none, and a refusal of `Improves` has no number 0.
+pub record ImproveGives (d : Decoded) (kinds : ℕ) (masks cells scratch : List ℕ) (r : ImproveAnswer) (masks′ cells′ scratch′ : List ℕ) : Type 0 where
+  pub answer : Improved
+  pub fields : ImproveFields answer r
+  pub improves : Improves d kinds masks cells (length scratch) answer masks′ cells′
+  pub scratch-is : ScratchAfter d (r .number) scratch scratch′

@@ -1,0 +1,217 @@
+// What the calls answer, as C structs: the structs, and the conversions by the paper's numbers and values.
+use cells_sum::After;
+use contracts::Answer;
+use contracts::Improved;
+use contracts::Loaded;
+use contracts::Moved;
+use logic::Move;
+ghost use mathlib.Core.Path.{_≡_};
+ghost use Rattle.contracts.specs.declared.Moved.the-variants.{Accepted};
+ghost use Rattle.contracts.specs.declared.Improved.the-variants.{Made};
+ghost use Rattle.answers.specs.Boundary.{ReadFields, LoadFields};
+ghost use Rattle.answers.specs.Moving.{moveOf, MoveFields, ImproveFields};
+
+// Root before, root after, and how many cells differ.
+pub fn accepted(r: After) -> Moved
+    ensures { λ x. ⌜ x ≡ Accepted (r .old) (r .value) (r .changed) ⌝ }
+{
+    Moved::Accepted {
+        before: r.old,
+        after: r.value,
+        changed: r.changed,
+    }
+}
+
+// The move that was made, with its three numbers.
+pub fn made(m: Move, a: After) -> Improved
+    ensures { λ x. ⌜ x ≡ Made m (a .old) (a .value) (a .changed) ⌝ }
+{
+    Improved::Made {
+        chosen: m,
+        before: a.old,
+        after: a.value,
+        changed: a.changed,
+    }
+}
+
+// vk_read_answer: 0 or the ground's number, node count, cell total.
+#[repr(C)]
+pub struct ReadAnswer {
+    pub number: u32,
+    pub nodes: u32,
+    pub cells: u32,
+}
+
+// vk_load_answer: 0 or the ground's number, the root's penalty, cell total.
+#[repr(C)]
+pub struct LoadAnswer {
+    pub number: u32,
+    pub root: u32,
+    pub cells: u32,
+}
+
+// vk_part: a part of the caller's cell table. A slice cannot be handed back to C, so the part is said by place and length.
+#[repr(C)]
+pub struct Part {
+    pub first: usize,
+    pub count: usize,
+}
+
+pub fn read_fields(a: Answer) -> ReadAnswer
+    ensures { λ r. ⌜ ReadFields a r ⌝ }
+{
+    match a {
+        Answer::Accepted { nodes, cells } => ReadAnswer {
+            number: 0,
+            nodes,
+            cells,
+        },
+        Answer::Refused(number) => ReadAnswer {
+            number: number as u32,
+            nodes: 0,
+            cells: 0,
+        },
+    }
+}
+
+pub fn load_fields(a: Loaded) -> LoadAnswer
+    ensures { λ r. ⌜ LoadFields a r ⌝ }
+{
+    match a {
+        Loaded::Accepted { root, cells } => LoadAnswer {
+            number: 0,
+            root,
+            cells,
+        },
+        Loaded::Refused(number) => LoadAnswer {
+            number: number as u32,
+            root: 0,
+            cells: 0,
+        },
+    }
+}
+
+// vk_move_record: a move as a C caller gives it and improve hands it back.
+#[repr(C)]
+pub struct MoveRecord {
+    pub kind: u32,
+    pub s: u32,
+    pub t: u32,
+    pub p: u32,
+    pub q: u32,
+}
+
+// vk_move_answer: 0 or the ground's number, root before, root after, how many cells differ.
+#[repr(C)]
+pub struct MoveAnswer {
+    pub number: u32,
+    pub before: u32,
+    pub after: u32,
+    pub changed: u32,
+}
+
+// vk_improve_answer: 0 or the ground's number, whether a move was made, that move, and the three numbers.
+#[repr(C)]
+pub struct ImproveAnswer {
+    pub number: u32,
+    pub found: u32,
+    pub chosen: MoveRecord,
+    pub before: u32,
+    pub after: u32,
+    pub changed: u32,
+}
+
+pub fn move_of(m: MoveRecord) -> Move
+    ensures { λ r. ⌜ r ≡ moveOf m ⌝ }
+{
+    Move {
+        kind: m.kind,
+        s: m.s,
+        t: m.t,
+        p: m.p,
+        q: m.q,
+    }
+}
+
+fn record_of(chosen: Move) -> MoveRecord
+    ensures { λ r. ⌜ moveOf r ≡ chosen ⌝ }
+{
+    MoveRecord {
+        kind: chosen.kind,
+        s: chosen.s,
+        t: chosen.t,
+        p: chosen.p,
+        q: chosen.q,
+    }
+}
+
+pub fn move_fields(a: Moved) -> MoveAnswer
+    ensures { λ r. ⌜ MoveFields a r ⌝ }
+{
+    match a {
+        Moved::Accepted {
+            before,
+            after,
+            changed,
+        } => MoveAnswer {
+            number: 0,
+            before,
+            after,
+            changed,
+        },
+        Moved::Refused(number) => MoveAnswer {
+            number: number as u32,
+            before: 0,
+            after: 0,
+            changed: 0,
+        },
+    }
+}
+
+pub fn improve_fields(a: Improved) -> ImproveAnswer
+    ensures { λ r. ⌜ ImproveFields a r ⌝ }
+{
+    match a {
+        Improved::Made {
+            chosen,
+            before,
+            after,
+            changed,
+        } => ImproveAnswer {
+            number: 0,
+            found: 1,
+            chosen: record_of(chosen),
+            before,
+            after,
+            changed,
+        },
+        Improved::NoBetter { root } => ImproveAnswer {
+            number: 0,
+            found: 0,
+            chosen: MoveRecord {
+                kind: 0,
+                s: 0,
+                t: 0,
+                p: 0,
+                q: 0,
+            },
+            before: root,
+            after: root,
+            changed: 0,
+        },
+        Improved::Refused(number) => ImproveAnswer {
+            number: number as u32,
+            found: 0,
+            chosen: MoveRecord {
+                kind: 0,
+                s: 0,
+                t: 0,
+                p: 0,
+                q: 0,
+            },
+            before: 0,
+            after: 0,
+            changed: 0,
+        },
+    }
+}

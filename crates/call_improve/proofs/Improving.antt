@@ -1,0 +1,138 @@
+-- The answers of improve, by the grounds in the order in which the code tries them. Assumes nothing.
+use mathlib.Core.Path.{_≡_, refl, sym, ap, ap₂, _∙_, subst}
+use mathlib.Core.Bool.{Bool, true, false, cond, not, _||_}
+use mathlib.Core.List.{List, [], _∷_, _++_}
+use Prim.Native.Nat.{ℕ, zero, suc, min}
+use native.Mathlib.Omega.{arith}
+use lib.Dec.{ltb}
+use lib.ListN.{length, take, drop, take-append-drop}
+use Rattle.logic.specs.Formula.{Plan}
+use Rattle.logic.specs.Configuration.{inMasks, ownMasks, allWithin}
+use Rattle.logic.specs.Cells.{ownCells}
+use Rattle.logic.specs.Moves.{refusal, moveGrounds, moveMasks, known, legal, kindsKnown}
+use Rattle.logic.proofs.Lists.{and-left}
+use Rattle.table_format.specs.Decode.{Decoded, broken, sound}
+use Rattle.contracts.specs.declared.Improved.{Improved}
+use Rattle.contracts.specs.declared.Improved.the-variants.{Made, NoBetter, Refused}
+use Rattle.contracts.specs.MoveCall.{tableGrounds, moveAnswer, cellsAfter, movedBefore, movedAfter, movedChanged}
+use Rattle.contracts.specs.ImproveCall.{improveGrounds, rootNow, rootAfter, Chosen, ImprovesOr, ImprovesPlan, OwnAfter, Improves}
+use Rattle.cells_sum.specs.declared.After.{After}
+use Rattle.call_open.specs.inner.Opening.{openGrounds, openNumber}
+use Rattle.move_make.specs.inner.Judged.{Carried}
+use Rattle.move_make.proofs.Answering.{two-lengths}
+use Rattle.move_best.specs.declared.Choice.{Choice}
+use Rattle.move_best.specs.inner.Choosing.{FoundOr}
+use Rattle.move_best.proofs.Answering.{best-found, made-best, none-better}
+
+module _ (P : Plan) (kinds : ℕ) (own : List ℕ) (masks-length x y : ℕ) where
+  abbrev short : Bool
+  short = ltb masks-length (ownMasks P) || ltb (min x y) (ownCells P)
+
+  abbrev above : Bool
+  above = not (allWithin (P .ports) own)
+
+  all-grounds : refusal (improveGrounds P own masks-length (x ∷ y ∷ []) kinds) ≡ cond short 12 (cond above 13 (cond (not (kindsKnown kinds)) 14 0))
+  unfolding improveGrounds tableGrounds refusal
+  all-grounds = ap (λ (b : Bool). cond (ltb masks-length (ownMasks P) || b) 12 (cond above 13 (cond (not (kindsKnown kinds)) 14 0))) (sym (two-lengths P x y))
+
+  open-grounds : refusal (openGrounds P own masks-length (min x y)) ≡ cond short 12 (cond above 13 0)
+  unfolding openGrounds refusal
+  open-grounds = refl
+
+  closed-first : (g : ℕ) → suc g ≡ refusal (openGrounds P own masks-length (min x y)) → refusal (improveGrounds P own masks-length (x ∷ y ∷ []) kinds) ≡ suc g
+  closed-first g h = all-grounds ∙ go short above (h ∙ open-grounds)
+    where
+      go : (a b : Bool) → suc g ≡ cond a 12 (cond b 13 0) → cond a 12 (cond b 13 (cond (not (kindsKnown kinds)) 14 0)) ≡ suc g
+      go true b q = sym q
+      go false true q = sym q
+      go false false q = absurd (omega arith)
+
+  open-then : (k : Bool) → kindsKnown kinds ≡ k → refusal (openGrounds P own masks-length (min x y)) ≡ 0
+      → refusal (improveGrounds P own masks-length (x ∷ y ∷ []) kinds) ≡ cond (not k) 14 0
+  open-then k e h = all-grounds ∙ go short above (sym open-grounds ∙ h) ∙ ap (λ (b : Bool). cond (not b) 14 0) e
+    where
+      go : (a b : Bool) → _≡_ {A = ℕ} (cond a 12 (cond b 13 0)) 0
+          → _≡_ {A = ℕ} (cond a 12 (cond b 13 (cond (not (kindsKnown kinds)) 14 0))) (cond (not (kindsKnown kinds)) 14 0)
+      go true b q = absurd (omega arith)
+      go false true q = absurd (omega arith)
+      go false false q = refl
+
+-- a refusal leaves the tables
+refused-own : (P : Plan) (kinds : ℕ) (masks cells : List ℕ) (s g : ℕ)
+    → refusal (improveGrounds P (take (ownMasks P) masks) (length masks) (length cells ∷ s ∷ []) kinds) ≡ suc g → OwnAfter P kinds masks cells s (Refused (suc g)) masks cells
+unfolding ImprovesPlan ImprovesOr
+refused-own P kinds masks cells s g h = record {
+  own-masks = take (ownMasks P) masks;
+  own-cells = take (ownCells P) cells;
+  improves = subst (λ (n : ℕ). ImprovesOr n P kinds (take (ownMasks P) masks) (take (ownCells P) cells) (Refused (suc g)) (take (ownMasks P) masks) (take (ownCells P) cells)) (sym h) (refl, refl, refl);
+  masks-are = sym (take-append-drop (ownMasks P) masks);
+  cells-are = sym (take-append-drop (ownCells P) cells);
+}
+
+pub improve-shut : (d : Decoded) (kinds : ℕ) (masks cells : List ℕ) (s n : ℕ) → (n ≡ 0 → ⊥) → n ≡ openNumber d masks (min (length cells) s)
+    → Improves d kinds masks cells s (Refused n) masks cells
+unfolding openNumber Improves
+improve-shut broken kinds masks cells s n h q = (ap Refused q, refl, refl)
+improve-shut (sound P) kinds masks cells s zero h q = absurd (h refl)
+improve-shut (sound P) kinds masks cells s (suc g) h q =
+    refused-own P kinds masks cells s g (closed-first P kinds (take (ownMasks P) masks) (length masks) (length cells) s g q)
+
+module _ (d : Decoded) (P : Plan) (e : d ≡ sound P) (kinds : ℕ) (masks cells : List ℕ) (s : ℕ) (opens : openNumber d masks (min (length cells) s) ≡ 0) where
+  abbrev own : List ℕ
+  own = take (ownMasks P) masks
+
+  abbrev before : List ℕ
+  before = take (ownCells P) cells
+
+  number : (k : Bool) → kindsKnown kinds ≡ k → refusal (improveGrounds P own (length masks) (length cells ∷ s ∷ []) kinds) ≡ cond (not k) 14 0
+  unfolding openNumber
+  number k h = open-then P kinds own (length masks) (length cells) s k h (ap (λ (x : Decoded). openNumber x masks (min (length cells) s)) (sym e) ∙ opens)
+
+  pub improve-unknown : kindsKnown kinds ≡ false → Improves d kinds masks cells s (Refused 14) masks cells
+  unfolding Improves
+  improve-unknown h =
+      subst (λ (x : Decoded). Improves x kinds masks cells s (Refused 14) masks cells) (sym e) (refused-own P kinds masks cells s 13 (number false h))
+
+  -- an accepted answer
+  accepted : kindsKnown kinds ≡ true → (r : Improved) (own′ after masks′ cells′ : List ℕ) → Chosen P kinds own before r own′ after
+      → masks′ ≡ own′ ++ drop (ownMasks P) masks → cells′ ≡ after ++ drop (ownCells P) cells → Improves d kinds masks cells s r masks′ cells′
+  unfolding Improves ImprovesPlan ImprovesOr
+  accepted h r own′ after masks′ cells′ c m x =
+      subst (λ (y : Decoded). Improves y kinds masks cells s r masks′ cells′) (sym e) record {
+        own-masks = own′;
+        own-cells = after;
+        improves = subst (λ (n : ℕ). ImprovesOr n P kinds own before r own′ after) (sym (number true h)) c;
+        masks-are = m;
+        cells-are = x;
+      }
+
+  module _ (known-kinds : kindsKnown kinds ≡ true) (c : Choice) (chooses : FoundOr (c .found) P kinds own before c) where
+    pub improve-none : c .found ≡ false → Improves d kinds masks cells s (NoBetter (c .root)) masks cells
+    unfolding Chosen
+    improve-none f =
+        accepted known-kinds (NoBetter (c .root)) own before masks cells (none-better P kinds own before c chooses f) (sym (take-append-drop (ownMasks P) masks)) (sym (take-append-drop (ownCells P) cells))
+
+    -- the chosen move meets neither 14 nor 15
+    pub chosen-free : c .found ≡ true → refusal (moveGrounds P (inMasks own) (c .m)) ≡ 0
+    unfolding refusal moveGrounds legal
+    chosen-free f =
+        let l = best-found P kinds own before c chooses f .candidate .is-legal in
+        ap₂ (λ (a b : Bool). cond (not a) 14 (cond (not b) 15 0)) (and-left (known P (c .m)) _ l) l
+
+    pub improve-made : c .found ≡ true → (r : After) (masks′ cells′ : List ℕ) → Carried P (c .m) masks cells r masks′ cells′
+        → Improves d kinds masks cells s (Made (c .m) (r .old) (r .value) (r .changed)) masks′ cells′
+    unfolding Chosen moveAnswer rootNow rootAfter movedBefore movedAfter movedChanged
+    improve-made f r masks′ cells′ carried =
+        let b = made-best P kinds own before c chooses f in
+        let a = carried .answer-is in
+        accepted known-kinds (Made (c .m) (r .old) (r .value) (r .changed)) (moveMasks (c .m) own) (cellsAfter P (c .m) own before) masks′ cells′
+        record {
+          candidate = b .candidate;
+          smaller = b .smaller;
+          least = b .least;
+          before-is = ap movedBefore a;
+          after-is = ap movedAfter a;
+          changed-is = ap movedChanged a;
+          masks-are = refl;
+          cells-are = refl;
+        } (carried .masks-are) (carried .cells-are)

@@ -1,0 +1,133 @@
+use mathlib.Core.Path.{sym, _∙_}
+use native.Mathlib.Omega.{arith}
+use borrow.Author.Needs.{needs}
+use borrow.Author.Tests.{not-true, not-false}
+use Rattle.logic.specs.Change.{modulus}
+use Rattle.cells_walk.specs.inner.Visit.{CellsFit}
+use Rattle.move_best.specs.inner.Choosing.{Chooses}
+use Rattle.move_best.proofs.Answering.{search-ready}
+use Rattle.move_make.specs.inner.Judged.{Carries}
+use Rattle.move_make.proofs.Accepting.{reopen}
+use Rattle.contracts.proofs.Scratch.{scratch-kept}
+use Rattle.call_improve.proofs.Improving.{improve-shut, improve-unknown, improve-none, chosen-free, improve-made}
+use Rattle.call_improve.proofs.improve.Statement.{statement}
+use Rattle.call_improve.proofs.improve.Tie as tie
+
+lesser-requires : tie.Need-lesser-requires
+lesser-requires c κs = search needs
+
+slice-aggregate-open-tables : tie.Need-slice-aggregate-open-tables
+slice-aggregate-open-tables c = search needs
+
+slice-aggregate-open-tables-2 : tie.Need-slice-aggregate-open-tables-2
+slice-aggregate-open-tables-2 c = search needs
+
+slice-aggregate-open-tables-3 : tie.Need-slice-aggregate-open-tables-3
+slice-aggregate-open-tables-3 c = search needs
+
+open-tables-requires : tie.Need-open-tables-requires
+open-tables-requires c κs = search needs
+
+same-length : tie.Need-same-length
+same-length c = search needs
+
+returns : tie.Need-returns
+returns c =
+    (improve-shut _ _ _ _ _ _ (c .if1 .taken) (rw (c .before .before .before .before .before .before .before .before .before .before .lesser .ensures) at (c .before .before .before .before .before .open-tables .ensures .number-is)), scratch-kept _ _ _)
+
+kinds-known-requires : tie.Need-kinds-known-requires
+kinds-known-requires c κs = search needs
+
+same-length-2 : tie.Need-same-length-2
+same-length-2 c = search needs
+
+returns-2 : tie.Need-returns-2
+returns-2 c =
+    let o = c .before .before .before .before .before .before .before .open-tables .ensures .opens (c .before .before .if1 .left) in
+    (improve-unknown _ (o .plan) (o .decodes) _ _ _ _ (sym (rw (c .before .before .before .before .before .before .before .before .before .before .before .before .lesser .ensures) at (c .before .before .before .before .before .before .before .open-tables .ensures .number-is)) ∙ c .before .before .if1 .left) (sym (c .before .kinds-known .ensures) ∙ not-true _ (c .if2 .taken)), scratch-kept _ _ _)
+
+slice-aggregate-choose : tie.Need-slice-aggregate-choose
+slice-aggregate-choose c = search needs
+
+slice-aggregate-choose-2 : tie.Need-slice-aggregate-choose-2
+slice-aggregate-choose-2 c = search needs
+
+slice-aggregate-choose-3 : tie.Need-slice-aggregate-choose-3
+slice-aggregate-choose-3 c = search needs
+
+choose-requires : tie.Need-choose-requires
+unfolding CellsFit modulus
+choose-requires c κs =
+    search-ready _ _ _ _ _ _ _ _ (c .before .before .before .before .before .before .before .before .before .before .before .before .open-tables .ensures .opens (c .before .before .before .before .before .before .before .if1 .left)) (omega (arith, c .before .before .before .before .before .before .before .before .before .before .before .before .before .before .before .before .before .lesser .ensures)) (λ j. omega (arith, c .before .before .before .before .before .before .before .before .before .before .before .before .before .before .before .before .before .before .before .slice-known2 .given j)) record { firsts-long = omega (arith, c .before .before .before .before .before .before .before .before .before .before .before .before .open-tables .kept .1 .1 .1 .0); ends-long = omega (arith, c .before .before .before .before .before .before .before .before .before .before .before .before .open-tables .kept .1 .1 .1 .1 .0); uses-long = omega (arith, c .before .before .before .before .before .before .before .before .before .before .before .before .open-tables .kept .1 .1 .1 .1 .1 .0) }
+
+same-length-3 : tie.Need-same-length-3
+same-length-3 c = search needs
+
+same-length-4 : tie.Need-same-length-4
+same-length-4 c = search needs
+
+returns-3 : tie.Need-returns-3
+unfolding Chooses
+returns-3 c =
+    let o = c .before .before .before .before .before .before .before .before .before .before .before .before .before .before .before .open-tables .ensures .opens (c .before .before .before .before .before .before .before .before .before .before .if1 .left) in
+    (improve-none _ (o .plan) (o .decodes) _ _ _ _ (sym (rw (c .before .before .before .before .before .before .before .before .before .before .before .before .before .before .before .before .before .before .before .before .lesser .ensures) at (c .before .before .before .before .before .before .before .before .before .before .before .before .before .before .before .open-tables .ensures .number-is)) ∙ c .before .before .before .before .before .before .before .before .before .before .if1 .left) (sym (c .before .before .before .before .before .before .before .before .before .kinds-known .ensures) ∙ not-false _ (c .before .before .before .before .before .before .before .before .if2 .left)) _ (c .before .before .choose .ensures (o .plan) (o .decodes)) (not-true _ (c .if3 .taken)), scratch-kept _ _ _)
+
+slice-aggregate-carry : tie.Need-slice-aggregate-carry
+slice-aggregate-carry c = search needs
+
+slice-aggregate-carry-2 : tie.Need-slice-aggregate-carry-2
+slice-aggregate-carry-2 c = search needs
+
+slice-aggregate-carry-3 : tie.Need-slice-aggregate-carry-3
+slice-aggregate-carry-3 c = search needs
+
+carry-requires : tie.Need-carry-requires
+unfolding CellsFit modulus reopen Chooses
+carry-requires c κs =
+    let o = c .before .before .before .before .before .before .before .before .before .before .before .before .before .before .before .before .before .before .before .before .open-tables .ensures .opens (c .before .before .before .before .before .before .before .before .before .before .before .before .before .before .before .if1 .left) in
+    record { shortest = _; opened = reopen _ _ _ _ _ _ _ o; room = omega (arith, c .before .before .before .before .before .before .before .before .before .before .before .before .before .before .before .before .before .before .before .before .before .before .before .before .before .lesser .ensures); fit = (λ j. omega (arith, c .before .before .before .before .before .before .before .before .before .before .before .before .before .before .before .before .before .before .before .before .before .before .before .before .before .before .before .slice-known2 .given j)); long = record { firsts-long = omega (arith, c .before .before .before .before .before .before .before .before .before .before .before .before .before .before .before .before .before .before .before .before .open-tables .kept .1 .1 .1 .0); ends-long = omega (arith, c .before .before .before .before .before .before .before .before .before .before .before .before .before .before .before .before .before .before .before .before .open-tables .kept .1 .1 .1 .1 .0); uses-long = omega (arith, c .before .before .before .before .before .before .before .before .before .before .before .before .before .before .before .before .before .before .before .before .open-tables .kept .1 .1 .1 .1 .1 .0) }; free = chosen-free _ (o .plan) (o .decodes) _ _ _ _ (sym (rw (c .before .before .before .before .before .before .before .before .before .before .before .before .before .before .before .before .before .before .before .before .before .before .before .before .before .lesser .ensures) at (c .before .before .before .before .before .before .before .before .before .before .before .before .before .before .before .before .before .before .before .before .open-tables .ensures .number-is)) ∙ c .before .before .before .before .before .before .before .before .before .before .before .before .before .before .before .if1 .left) (sym (c .before .before .before .before .before .before .before .before .before .before .before .before .before .before .kinds-known .ensures) ∙ not-false _ (c .before .before .before .before .before .before .before .before .before .before .before .before .before .if2 .left)) _ (c .before .before .before .before .before .before .before .choose .ensures (o .plan) (o .decodes)) (not-false _ (c .before .before .before .before .before .if3 .left)) }
+
+made-requires : tie.Need-made-requires
+made-requires c κs = search needs
+
+same-length-5 : tie.Need-same-length-5
+same-length-5 c = search needs
+
+same-length-6 : tie.Need-same-length-6
+same-length-6 c = search needs
+
+returns-4 : tie.Need-returns-4
+unfolding Chooses Carries
+returns-4 c =
+    let o = c .before .before .before .before .before .before .before .before .before .before .before .before .before .before .before .before .before .before .before .before .before .before .before .before .before .before .open-tables .ensures .opens (c .before .before .before .before .before .before .before .before .before .before .before .before .before .before .before .before .before .before .before .before .before .if1 .left) in
+    rw (c .made .ensures) (improve-made _ (o .plan) (o .decodes) _ _ _ _ (sym (rw (c .before .before .before .before .before .before .before .before .before .before .before .before .before .before .before .before .before .before .before .before .before .before .before .before .before .before .before .before .before .before .before .lesser .ensures) at (c .before .before .before .before .before .before .before .before .before .before .before .before .before .before .before .before .before .before .before .before .before .before .before .before .before .before .open-tables .ensures .number-is)) ∙ c .before .before .before .before .before .before .before .before .before .before .before .before .before .before .before .before .before .before .before .before .before .if1 .left) (sym (c .before .before .before .before .before .before .before .before .before .before .before .before .before .before .before .before .before .before .before .before .kinds-known .ensures) ∙ not-false _ (c .before .before .before .before .before .before .before .before .before .before .before .before .before .before .before .before .before .before .before .if2 .left)) _ (c .before .before .before .before .before .before .before .before .before .before .before .before .before .choose .ensures (o .plan) (o .decodes)) (not-false _ (c .before .before .before .before .before .before .before .before .before .before .before .if3 .left)) _ _ _ (c .before .before .before .before .before .carry .ensures (o .plan) (o .decodes)), scratch-kept _ _ _)
+
+pub improve-spec : {M : Type 1} → statement M
+improve-spec =
+    tie.close
+    (tie.spec
+    lesser-requires
+    slice-aggregate-open-tables
+    slice-aggregate-open-tables-2
+    slice-aggregate-open-tables-3
+    open-tables-requires
+    same-length
+    returns
+    kinds-known-requires
+    same-length-2
+    returns-2
+    slice-aggregate-choose
+    slice-aggregate-choose-2
+    slice-aggregate-choose-3
+    choose-requires
+    same-length-3
+    same-length-4
+    returns-3
+    slice-aggregate-carry
+    slice-aggregate-carry-2
+    slice-aggregate-carry-3
+    carry-requires
+    made-requires
+    same-length-5
+    same-length-6
+    returns-4)

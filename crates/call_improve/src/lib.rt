@@ -1,0 +1,82 @@
+// The call improve: the best legal move of some kinds, made if it leaves a smaller root than now. Paper 01, section One move.
+use answers::made;
+use call_open::lesser;
+use call_open::open_tables;
+use contracts::Improved;
+use move_best::choose;
+use move_make::carry;
+ghost use mathlib.Core.Path.{_≡_};
+ghost use lib.ListN.{length};
+ghost use Rattle.logic.specs.Moves.{kindsKnown};
+ghost use Rattle.table_format.specs.Decode.{decode};
+ghost use Rattle.contracts.specs.TrialCall.{ScratchAfter};
+ghost use Rattle.contracts.specs.ImproveCall.{improvedNumber, Improves};
+
+// Whether 14 does not apply to a kinds sum.
+fn kinds_known(kinds: u32) -> bool
+    ensures { λ r. ⌜ r ≡ kindsKnown kinds ⌝ }
+{
+    if 1 <= kinds {
+        return kinds <= 15;
+    }
+    false
+}
+
+// Improve: tries 11 to 14; chooses and makes.
+pub fn improve(
+    table: &[u8],
+    masks: &mut [u64],
+    cells: &mut [u32],
+    scratch: &mut [u32],
+    kinds: u32,
+) -> Improved
+    ensures answer { λ r. ⌜ Improves (decode (now (table .entry))) kinds (now (masks .entry)) (now (cells .entry)) (length (now (scratch .entry))) r (now (masks .exit)) (now (cells .exit)) ⌝ }
+    ensures lent { λ r. ⌜ ScratchAfter (decode (now (table .entry))) (improvedNumber r) (now (scratch .entry)) (now (scratch .exit)) ⌝ }
+{
+    let mut firsts = [0u32; 512];
+    let mut ends = [0u16; 512];
+    let mut uses = [0u64; 512];
+    let shortest = lesser(cells.len(), scratch.len());
+    let o = open_tables(
+        table,
+        &masks[..],
+        shortest,
+        &mut firsts,
+        &mut ends,
+        &mut uses,
+    );
+    if o.number != 0 {
+        return Improved::Refused(o.number);
+    }
+    if !kinds_known(kinds) {
+        return Improved::Refused(14);
+    }
+    let c = choose(
+        table,
+        &firsts,
+        &ends,
+        &uses,
+        &masks[..],
+        &cells[..],
+        o.ports,
+        o.sets,
+        kinds,
+    );
+    if !c.found {
+        return Improved::NoBetter { root: c.root };
+    }
+    made(
+        c.m,
+        carry(
+            table,
+            &firsts,
+            &ends,
+            &uses,
+            masks,
+            cells,
+            o.ports,
+            o.sets,
+            c.m,
+        ),
+    )
+}

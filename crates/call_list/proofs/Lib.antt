@@ -1,0 +1,4 @@
+-- Laws.
+pub mod Extending
+pub mod Scratch
+pub mod Telling

@@ -1,0 +1,92 @@
+-- Laws of the scratch table through a list of calls. Assumes nothing.
+use mathlib.Core.Path.{_≡_, refl, sym, ap, ap₂, _∙_, subst}
+use mathlib.Core.List.{List, [], _∷_, _++_}
+use Prim.Native.Nat.{ℕ, zero, suc, _+_}
+use native.Mathlib.Omega.{arith}
+use lib.ListN.{length, take, drop, length-append, take-append-drop}
+use lib.Seq.{take-append-seam, drop-append-seam, take-at, drop-at}
+use Rattle.logic.specs.declared.Move.{Move}
+use Rattle.table_format.specs.Decode.{Decoded}
+use Rattle.contracts.specs.TrialCall.{scratchOwn, ScratchAfter}
+use Rattle.contracts.specs.Lists.{Call, moveCall, Answer, moveAnswered}
+use Rattle.contracts.specs.declared.Moved.{Moved}
+use Rattle.call_list.specs.Scratch.{lentTo, answerNumber, ScratchOne, ScratchRun, kept, passed}
+
+-- a call more at the end
+pub scratch-snoc : (d : Decoded) (s s′ s″ : List ℕ) (calls : List Call) (answers : List Answer) (call : Call) (answer : Answer)
+    → ScratchRun d s calls answers s′ → ScratchOne d call answer s′ s″ → ScratchRun d s (calls ++ call ∷ []) (answers ++ answer ∷ []) s″
+scratch-snoc d s s′ s″ calls answers call answer kept x = passed x kept
+scratch-snoc d s s′ s″ calls answers call answer (passed {s′ = t} {calls = rest} {answers = others} y r) x =
+    passed y (scratch-snoc d t s′ s″ rest others call answer r x)
+
+-- a move is lent none and writes none
+pub none-lent : (d : Decoded) (m : Move) (r : Moved) (s : List ℕ) → ScratchOne d (moveCall m) (moveAnswered r) s s
+unfolding lentTo
+none-lent d m r s = record {
+  front = refl;
+  written = record { same-length = refl; past = refl; refused = λ _. refl };
+  behind = refl;
+}
+
+-- a call that is lent the first l cells, and gives them back
+module _ (d : Decoded) (s part : List ℕ) (l : ℕ) (call : Call) (answer : Answer) (e : lentTo call ≡ take l s)
+    (h : ScratchAfter d (answerNumber answer) (take l s) part) where
+  whole : take l s ++ drop l s ≡ s
+  whole = take-append-drop l s
+
+  same : length part ≡ length (lentTo call)
+  same = h .same-length ∙ ap length (sym e)
+
+  pub front-lent : ScratchOne d call answer s (part ++ drop l s)
+  front-lent = record {
+    front =
+        ap₂ take (ap length e) (sym whole) ∙ take-append-seam (take l s) (drop l s) ∙ sym e;
+    written =
+        subst (λ (x : List ℕ). ScratchAfter d (answerNumber answer) (lentTo call) x) (sym (take-at part (drop l s) (length (lentTo call)) same))
+        (subst (λ (x : List ℕ). ScratchAfter d (answerNumber answer) x part) (sym e) h);
+    behind =
+        drop-at part (drop l s) (length (lentTo call)) same
+        ∙ sym (ap₂ drop (ap length e) (sym whole) ∙ drop-append-seam (take l s) (drop l s));
+  }
+
+-- what is equal from a place on is so with the same behind it
+same-drop : (j : ℕ) (a b c : List ℕ) → length a ≡ length b → drop j a ≡ drop j b → drop j (a ++ c) ≡ drop j (b ++ c)
+same-drop zero a b c l e = ap (λ (x : List ℕ). x ++ c) e
+same-drop (suc j) [] [] c l e = refl
+same-drop (suc j) [] (y ∷ b) c l e = absurd (omega (arith, l))
+same-drop (suc j) (x ∷ a) [] c l e = absurd (omega (arith, l))
+same-drop (suc j) (x ∷ a) (y ∷ b) c l e = same-drop j a b c (omega (arith, l)) e
+
+module _ (d : Decoded) (call : Call) (answer : Answer) (s s′ : List ℕ) (o : ScratchOne d call answer s s′) where
+  abbrev k : ℕ
+  k = length (lentTo call)
+
+  before-is : s ≡ lentTo call ++ drop k s
+  before-is = sym (take-append-drop k s) ∙ ap (λ (x : List ℕ). x ++ drop k s) (o .front)
+
+  after-is : s′ ≡ take k s′ ++ drop k s
+  after-is = sym (take-append-drop k s′) ∙ ap (λ (x : List ℕ). take k s′ ++ x) (o .behind)
+
+  one-length : length s′ ≡ length s
+  one-length =
+      ap length after-is ∙ length-append (take k s′) (drop k s) ∙ ap (λ (n : ℕ). n + length (drop k s)) (o .written .same-length)
+      ∙ sym (ap length before-is ∙ length-append (lentTo call) (drop k s))
+
+  one-past : drop (scratchOwn d) s′ ≡ drop (scratchOwn d) s
+  one-past =
+      ap (drop (scratchOwn d)) after-is
+      ∙ same-drop (scratchOwn d) (take k s′) (lentTo call) (drop k s) (o .written .same-length) (o .written .past)
+      ∙ sym (ap (drop (scratchOwn d)) before-is)
+
+-- a list leaves scratch as long as it was, and as it was past the plan's own cells
+pub scratch-length : (d : Decoded) (s s′ : List ℕ) (calls : List Call) (answers : List Answer) → ScratchRun d s calls answers s′
+    → length s′ ≡ length s
+scratch-length d s s′ calls answers kept = refl
+scratch-length d s s′ calls answers (passed {s′ = t} {call = call} {answer = answer} {calls = rest} {answers = others} o r) =
+    scratch-length d t s′ rest others r ∙ one-length d call answer s t o
+
+pub scratch-past : (d : Decoded) (s s′ : List ℕ) (calls : List Call) (answers : List Answer) → ScratchRun d s calls answers s′
+    → drop (scratchOwn d) s′ ≡ drop (scratchOwn d) s
+scratch-past d s s′ calls answers kept = refl
+scratch-past d s s′ calls answers (passed {s′ = t} {call = call} {answer = answer} {calls = rest} {answers = others} o r) =
+    scratch-past d t s′ rest others r ∙ one-past d call answer s t o

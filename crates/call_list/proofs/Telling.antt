@@ -1,0 +1,46 @@
+-- Ten numbers written at the front of a table. Assumes nothing.
+use mathlib.Core.Path.{_≡_, refl, sym, ap, _∙_}
+use mathlib.Core.List.{List, [], _∷_, _++_}
+use Prim.Native.Nat.{ℕ, _≤_}
+use native.Mathlib.Omega.{arith}
+use lib.ListN.{length, set, drop}
+use Rattle.logic.specs.declared.Move.{Move}
+use Rattle.contracts.specs.declared.Moved.{Moved}
+use Rattle.contracts.specs.declared.Improved.{Improved}
+use Rattle.contracts.specs.MoveCall.{movedNumber, movedBefore, movedAfter, movedChanged}
+use Rattle.contracts.specs.ImproveCall.{noMove, improvedNumber, improvedFound, improvedMove, improvedBefore, improvedAfter, improvedChanged}
+use Rattle.call_list.specs.Encoding.{tenNumbers, movedNumbers, improvedNumbers}
+
+-- ten stores leave the ten numbers and what stood behind them
+pub ten-set : (xs : List ℕ) (a b c d e f g h i j : ℕ) → 10 ≤ length xs
+    → set (set (set (set (set (set (set (set (set (set xs 0 a) 1 b) 2 c) 3 d) 4 e) 5 f) 6 g) 7 h) 8 i) 9 j
+    ≡ (a ∷ b ∷ c ∷ d ∷ e ∷ f ∷ g ∷ h ∷ i ∷ j ∷ []) ++ drop 10 xs
+ten-set [] a b c d e f g h i j l = absurd (omega arith)
+ten-set (x0 ∷ []) a b c d e f g h i j l = absurd (omega arith)
+ten-set (x0 ∷ x1 ∷ []) a b c d e f g h i j l = absurd (omega arith)
+ten-set (x0 ∷ x1 ∷ x2 ∷ []) a b c d e f g h i j l = absurd (omega arith)
+ten-set (x0 ∷ x1 ∷ x2 ∷ x3 ∷ []) a b c d e f g h i j l = absurd (omega arith)
+ten-set (x0 ∷ x1 ∷ x2 ∷ x3 ∷ x4 ∷ []) a b c d e f g h i j l = absurd (omega arith)
+ten-set (x0 ∷ x1 ∷ x2 ∷ x3 ∷ x4 ∷ x5 ∷ []) a b c d e f g h i j l = absurd (omega arith)
+ten-set (x0 ∷ x1 ∷ x2 ∷ x3 ∷ x4 ∷ x5 ∷ x6 ∷ []) a b c d e f g h i j l = absurd (omega arith)
+ten-set (x0 ∷ x1 ∷ x2 ∷ x3 ∷ x4 ∷ x5 ∷ x6 ∷ x7 ∷ []) a b c d e f g h i j l = absurd (omega arith)
+ten-set (x0 ∷ x1 ∷ x2 ∷ x3 ∷ x4 ∷ x5 ∷ x6 ∷ x7 ∷ x8 ∷ []) a b c d e f g h i j l = absurd (omega arith)
+ten-set (x0 ∷ x1 ∷ x2 ∷ x3 ∷ x4 ∷ x5 ∷ x6 ∷ x7 ∷ x8 ∷ x9 ∷ xs) a b c d e f g h i j l = refl
+
+-- the ten numbers of an answer of either kind, where it is known which
+pub told-moved : (r known : Moved) (m : Move) (xs ys : List ℕ) → r ≡ known → m ≡ noMove
+    → ys ≡ tenNumbers (movedNumber known) 0 m (movedBefore known) (movedAfter known) (movedChanged known) ++ drop 10 xs
+    → ys ≡ movedNumbers r ++ drop 10 xs
+unfolding movedNumbers
+told-moved r known m xs ys e f h =
+    h ∙ ap (λ (x : Move). tenNumbers (movedNumber known) 0 x (movedBefore known) (movedAfter known) (movedChanged known) ++ drop 10 xs) f
+    ∙ ap (λ (x : Moved). movedNumbers x ++ drop 10 xs) (sym e)
+
+pub told-improved : (r known : Improved) (m : Move) (xs ys : List ℕ) → r ≡ known → m ≡ improvedMove known
+    → ys ≡ tenNumbers (improvedNumber known) (improvedFound known) m (improvedBefore known) (improvedAfter known) (improvedChanged known) ++ drop 10 xs
+    → ys ≡ improvedNumbers r ++ drop 10 xs
+unfolding improvedNumbers
+told-improved r known m xs ys e f h =
+    h
+    ∙ ap (λ (x : Move). tenNumbers (improvedNumber known) (improvedFound known) x (improvedBefore known) (improvedAfter known) (improvedChanged known) ++ drop 10 xs) f
+    ∙ ap (λ (x : Improved). improvedNumbers x ++ drop 10 xs) (sym e)

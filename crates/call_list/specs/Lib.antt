@@ -1,0 +1,4 @@
+pub mod Encoding
+pub mod Scratch
+pub mod Working
+pub mod inner

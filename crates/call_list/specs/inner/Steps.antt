@@ -1,0 +1,40 @@
+-- What working one call of a list gives.
+use mathlib.Core.Path.{_≡_}
+use mathlib.Core.Bool.{Bool, true, false}
+use mathlib.Core.List.{List, _++_}
+use Prim.Native.Nat.{ℕ, _+_, _*_, _≤_}
+use lib.ListN.{length, drop}
+use Rattle.table_format.specs.Decode.{decode}
+use Rattle.contracts.specs.Lists.{Call, Answer, Step}
+use Rattle.call_list.specs.Scratch.{ScratchOne}
+use Rattle.call_list.specs.Encoding.{Says, Unknown, answerNumbers}
+use Rattle.call_list.specs.Working.{Stopped}
+
+-- One call was worked: the numbers say a call, which answered what the ten numbers say and left the tables as its contract allows.
+pub record OneWorked (bytes call masks cells scratch answer masks′ cells′ scratch′ answer′ : List ℕ) : Type 0 where
+  pub said : Call
+  pub answered : Answer
+  pub says : Says (length scratch) call said
+  pub step : Step bytes record { masks = masks; cells = cells } said answered record { masks = masks′; cells = cells′ }
+  pub scratch-step : ScratchOne (decode bytes) said answered scratch scratch′
+  pub answer-is : answer′ ≡ answerNumbers answered ++ drop 10 answer
+
+-- Nothing was written.
+pub record NoneWorked (call masks cells scratch answer masks′ cells′ scratch′ answer′ : List ℕ) : Type 0 where
+  pub unknown : Unknown call
+  pub masks-kept : masks′ ≡ masks
+  pub cells-kept : cells′ ≡ cells
+  pub scratch-kept : scratch′ ≡ scratch
+  pub answer-kept : answer′ ≡ answer
+
+-- By whether it was worked.
+unfoldable pub OneAfter : Bool → List ℕ → List ℕ → List ℕ → List ℕ → List ℕ → List ℕ → List ℕ → List ℕ → List ℕ → List ℕ → Type 0
+OneAfter true bytes call masks cells scratch answer masks′ cells′ scratch′ answer′ =
+    OneWorked bytes call masks cells scratch answer masks′ cells′ scratch′ answer′
+OneAfter false bytes call masks cells scratch answer masks′ cells′ scratch′ answer′ =
+    NoneWorked call masks cells scratch answer masks′ cells′ scratch′ answer′
+
+-- Whether a next call is whole and its answer has room.
+unfoldable pub NextFits : Bool → List ℕ → List ℕ → ℕ → Type 0
+NextFits true calls answers count = (7 * count + 7 ≤ length calls) × (10 * count + 10 ≤ length answers)
+NextFits false calls answers count = Stopped calls (length answers) count

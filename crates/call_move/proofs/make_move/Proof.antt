@@ -1,0 +1,90 @@
+use mathlib.Core.Path.{sym, _∙_}
+use native.Mathlib.Omega.{arith}
+use borrow.Author.Needs.{needs}
+use Rattle.logic.specs.Change.{modulus}
+use Rattle.cells_walk.specs.inner.Visit.{CellsFit}
+use Rattle.move_make.proofs.Answering.{move-shut, move-barred}
+use Rattle.move_make.proofs.Accepting.{move-ready, number-is, free, move-made, reopen}
+use Rattle.call_move.proofs.make_move.Statement.{statement}
+use Rattle.call_move.proofs.make_move.Tie as tie
+
+slice-aggregate-open-tables : tie.Need-slice-aggregate-open-tables
+slice-aggregate-open-tables c = search needs
+
+slice-aggregate-open-tables-2 : tie.Need-slice-aggregate-open-tables-2
+slice-aggregate-open-tables-2 c = search needs
+
+slice-aggregate-open-tables-3 : tie.Need-slice-aggregate-open-tables-3
+slice-aggregate-open-tables-3 c = search needs
+
+open-tables-requires : tie.Need-open-tables-requires
+open-tables-requires c κs = search needs
+
+same-length : tie.Need-same-length
+same-length c = search needs
+
+returns : tie.Need-returns
+returns c =
+    move-shut _ _ _ _ _ (c .if1 .taken) (c .before .before .before .before .before .open-tables .ensures .number-is)
+
+move-number-requires : tie.Need-move-number-requires
+move-number-requires c κs =
+    move-ready _ _ _ _ _ _ _ (c .before .before .before .before .before .before .open-tables .ensures .opens (c .before .if1 .left))
+
+same-length-2 : tie.Need-same-length-2
+same-length-2 c = search needs
+
+returns-2 : tie.Need-returns-2
+returns-2 c =
+    let o = c .before .before .before .before .before .before .before .before .open-tables .ensures .opens (c .before .before .before .if1 .left) in
+    move-barred _ (o .plan) (o .decodes) _ _ _ _ (c .if2 .taken) (sym (c .before .before .before .before .before .before .before .before .open-tables .ensures .number-is) ∙ c .before .before .before .if1 .left) (number-is _ _ _ _ _ _ _ o _ _ (c .before .move-number .ensures))
+
+slice-aggregate-carry : tie.Need-slice-aggregate-carry
+slice-aggregate-carry c = search needs
+
+slice-aggregate-carry-2 : tie.Need-slice-aggregate-carry-2
+slice-aggregate-carry-2 c = search needs
+
+slice-aggregate-carry-3 : tie.Need-slice-aggregate-carry-3
+slice-aggregate-carry-3 c = search needs
+
+carry-requires : tie.Need-carry-requires
+unfolding CellsFit modulus reopen
+carry-requires c κs =
+    record { shortest = _; opened = reopen _ _ _ _ _ _ _ (c .before .before .before .before .before .before .before .before .before .before .before .before .before .open-tables .ensures .opens (c .before .before .before .before .before .before .before .before .if1 .left)); room = omega arith; fit = λ j. omega (arith, c .before .before .before .before .before .before .before .before .before .before .before .before .before .before .before .before .before .before .slice-known2 .given j); long = record { firsts-long = omega (arith, c .before .before .before .before .before .before .before .before .before .before .before .before .before .open-tables .kept .1 .1 .1 .0); ends-long = omega (arith, c .before .before .before .before .before .before .before .before .before .before .before .before .before .open-tables .kept .1 .1 .1 .1 .0); uses-long = omega (arith, c .before .before .before .before .before .before .before .before .before .before .before .before .before .open-tables .kept .1 .1 .1 .1 .1 .0) }; free = (free _ _ _ _ _ _ _ (c .before .before .before .before .before .before .before .before .before .before .before .before .before .open-tables .ensures .opens (c .before .before .before .before .before .before .before .before .if1 .left)) _ _ (c .before .before .before .before .before .before .move-number .ensures) (c .before .before .before .before .before .if2 .left)) }
+
+accepted-requires : tie.Need-accepted-requires
+accepted-requires c κs = search needs
+
+same-length-3 : tie.Need-same-length-3
+same-length-3 c = search needs
+
+same-length-4 : tie.Need-same-length-4
+same-length-4 c = search needs
+
+returns-3 : tie.Need-returns-3
+returns-3 c =
+    let o = c .before .before .before .before .before .before .before .before .before .before .before .before .before .before .before .before .before .before .before .open-tables .ensures .opens (c .before .before .before .before .before .before .before .before .before .before .before .before .before .before .if1 .left) in
+    rw (c .accepted .ensures) (move-made _ _ _ (o .plan) (o .decodes) _ _ _ _ (free _ _ _ _ _ _ _ (c .before .before .before .before .before .before .before .before .before .before .before .before .before .before .before .before .before .before .before .open-tables .ensures .opens (c .before .before .before .before .before .before .before .before .before .before .before .before .before .before .if1 .left)) _ _ (c .before .before .before .before .before .before .before .before .before .before .before .before .move-number .ensures) (c .before .before .before .before .before .before .before .before .before .before .before .if2 .left)) (sym (c .before .before .before .before .before .before .before .before .before .before .before .before .before .before .before .before .before .before .before .open-tables .ensures .number-is) ∙ c .before .before .before .before .before .before .before .before .before .before .before .before .before .before .if1 .left) (c .before .before .before .before .before .carry .ensures))
+
+pub make-move-spec : {M : Type 1} → statement M
+make-move-spec =
+    tie.close
+    (tie.spec
+    slice-aggregate-open-tables
+    slice-aggregate-open-tables-2
+    slice-aggregate-open-tables-3
+    open-tables-requires
+    same-length
+    returns
+    move-number-requires
+    same-length-2
+    returns-2
+    slice-aggregate-carry
+    slice-aggregate-carry-2
+    slice-aggregate-carry-3
+    carry-requires
+    accepted-requires
+    same-length-3
+    same-length-4
+    returns-3)

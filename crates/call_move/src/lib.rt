@@ -1,0 +1,88 @@
+// The calls trial and move. Paper 01, section One move.
+use answers::accepted;
+use call_open::lesser;
+use call_open::open_tables;
+use cells_touch::change_of;
+use cells_try::root_after;
+use contracts::Moved;
+use logic::Move;
+use move_legal::move_number;
+use move_legal::narrow;
+use move_make::carry;
+use move_masks::copy_masks;
+use move_masks::masks_after;
+ghost use mathlib.Core.Path.{_≡_};
+ghost use lib.ListN.{length};
+ghost use Rattle.table_format.specs.Decode.{decode};
+ghost use Rattle.contracts.specs.MoveCall.{movedNumber, moves};
+ghost use Rattle.contracts.specs.TrialCall.{trials, ScratchAfter};
+
+// Trial: tries 11 to 15; answers what the move would, and writes nothing.
+pub fn trial(table: &[u8], masks: &[u64], cells: &[u32], scratch: &mut [u32], m: Move) -> Moved
+    ensures answer { λ r. ⌜ r ≡ trials (decode (now (table .entry))) m (now (masks .entry)) (now (cells .entry)) (length (now (scratch .entry))) ⌝ }
+    ensures lent { λ r. ⌜ ScratchAfter (decode (now (table .entry))) (movedNumber r) (now (scratch .entry)) (now (scratch .exit)) ⌝ }
+{
+    let mut firsts = [0u32; 512];
+    let mut ends = [0u16; 512];
+    let mut uses = [0u64; 512];
+    let shortest = lesser(cells.len(), scratch.len());
+    let o = open_tables(table, masks, shortest, &mut firsts, &mut ends, &mut uses);
+    if o.number != 0 {
+        return Moved::Refused(o.number);
+    }
+    let ports = o.ports;
+    let sets = o.sets;
+    let number = move_number(m, ports, sets, masks);
+    if number != 0 {
+        return Moved::Refused(number);
+    }
+    let mut after = [0u64; 16];
+    copy_masks(masks, sets, &mut after);
+    masks_after(m, narrow(ports), narrow(sets), &mut after[0..sets]);
+    accepted(root_after(
+        table,
+        &firsts,
+        &ends,
+        &uses,
+        &after[0..sets],
+        cells,
+        ports,
+        sets,
+        change_of(m),
+    ))
+}
+
+// A move: tries 11 to 15; writes its masks and the touched cells in place.
+pub fn make_move(table: &[u8], masks: &mut [u64], cells: &mut [u32], m: Move) -> Moved
+    ensures { λ r. ⌜ (r, now (masks .exit), now (cells .exit)) ≡ moves (decode (now (table .entry))) m (now (masks .entry)) (now (cells .entry)) ⌝ }
+{
+    let mut firsts = [0u32; 512];
+    let mut ends = [0u16; 512];
+    let mut uses = [0u64; 512];
+    let o = open_tables(
+        table,
+        &masks[..],
+        cells.len(),
+        &mut firsts,
+        &mut ends,
+        &mut uses,
+    );
+    if o.number != 0 {
+        return Moved::Refused(o.number);
+    }
+    let number = move_number(m, o.ports, o.sets, &masks[..]);
+    if number != 0 {
+        return Moved::Refused(number);
+    }
+    accepted(carry(
+        table,
+        &firsts,
+        &ends,
+        &uses,
+        masks,
+        cells,
+        o.ports,
+        o.sets,
+        m,
+    ))
+}

@@ -1,0 +1,38 @@
+-- The index table read as bounds. Assumes nothing.
+use mathlib.Core.Path.{_≡_, sym, ap, _∙_}
+use mathlib.Core.Bool.{Bool, cond}
+use mathlib.Core.List.{List, [], _∷_}
+use Prim.Native.Nat.{ℕ, _+_, _≤_, _<_}
+use native.Mathlib.Decide.{decLt}
+use native.Mathlib.Omega.{arith}
+use lib.Dec.{ltb}
+use lib.ListN.{length, getD, drop, List·getD-append}
+use borrow.Author.Tests.{lt-ltb, le-ltb}
+use Rattle.logic.specs.Formula.{Forest, nodeCount}
+use Rattle.logic.specs.Cells.{cellCount, firstCells}
+use Rattle.table_format.specs.inner.Index.{laid}
+use Rattle.table_format.proofs.Laid.{length-firsts}
+use Rattle.call_node.specs.inner.Bounds.{boundAt}
+use Rattle.contracts.proofs.NodeParts.{bounded, bounded-is, last-bound}
+
+-- the bounds as the code reads them from the index table
+pub bound-read : (u : ℕ) (f : Forest) (zs firsts : List ℕ) (i nodes total : ℕ) → firsts ≡ laid zs 0 (firstCells u f 0 0) → nodes ≡ nodeCount f → total ≡ cellCount u f 0
+    → i ≤ nodes → boundAt firsts i nodes total ≡ getD (bounded u f 0 0) i 0
+unfolding boundAt laid
+bound-read u f zs firsts i nodes total e n t h = go (decLt i nodes)
+  where
+    fs : List ℕ
+    fs = firstCells u f 0 0
+
+    lf : length fs ≡ nodeCount f
+    lf = length-firsts u f 0 0
+
+    go : Dec (i < nodes) → cond (ltb i nodes) (getD firsts i 0) total ≡ getD (bounded u f 0 0) i 0
+    go (yes l) =
+        ap (λ (b : Bool). cond b (getD firsts i 0) total) (lt-ltb i nodes l)
+        ∙ ap (λ (l : List ℕ). getD l i 0) e ∙ List·getD-append fs (drop (0 + length fs) zs) 0 i (omega (arith, lf))
+        ∙ sym (ap (λ (l : List ℕ). getD l i 0) (bounded-is u f 0 0) ∙ List·getD-append fs ((0 + cellCount u f 0) ∷ []) 0 i (omega (arith, lf)))
+    go (no l) =
+        ap (λ (b : Bool). cond b (getD firsts i 0) total) (le-ltb i nodes (omega arith))
+        ∙ t ∙ (let q : cellCount u f 0 ≡ 0 + cellCount u f 0 = omega arith in q) ∙ sym (last-bound u f 0 0)
+        ∙ ap (λ (k : ℕ). getD (bounded u f 0 0) k 0) (let q : nodeCount f ≡ i = omega arith in q)

@@ -1,0 +1,49 @@
+// The call for one node's cells. Paper 01, section One move.
+use table_check::check;
+ghost use mathlib.Core.Path.{_≡_};
+ghost use Prim.Native.Nat.{_≤_};
+ghost use lib.ListN.{length};
+ghost use Rattle.call_node.specs.inner.Bounds.{boundAt};
+ghost use Rattle.contracts.specs.NodeCells.{nodeCells};
+ghost use Rattle.table_format.specs.Decode.{decode};
+
+fn wide_cell(x: u32) -> usize
+    ensures { λ r. ⌜ r ≡ x ⌝ }
+{
+    x as usize
+}
+
+// Where the cells of node i begin; where the last node's end, if there is no node i.
+pub fn bound_of(firsts: &[u32], i: usize, nodes: usize, total: usize) -> usize
+    requires { ⌜ nodes ≤ length (now firsts) ⌝ }
+    ensures { λ r. ⌜ r ≡ boundAt (now (firsts .entry)) i nodes total ⌝ }
+{
+    if i < nodes {
+        return wide_cell(firsts[i]);
+    }
+    total
+}
+
+// A node's cells, as a part of the caller's cell table; empty where 11, 12 or a node past the count applies.
+pub fn node_cells<'a, 'b>(table: &'b [u8], cells: &'a [u32], node: usize) -> &'a [u32]
+    ensures { λ r. ⌜ now r ≡ nodeCells (decode (now (table .entry))) (now (cells .entry)) node ⌝ }
+{
+    let mut firsts = [0u32; 512];
+    let mut ends = [0u16; 512];
+    let mut uses = [0u64; 512];
+    let info = check(table, &mut firsts, &mut ends, &mut uses);
+    if !info.ok {
+        return &cells[0..0];
+    }
+    let nodes = info.nodes;
+    let total = info.cells;
+    if cells.len() < total {
+        return &cells[0..0];
+    }
+    if nodes <= node {
+        return &cells[0..0];
+    }
+    let from = bound_of(&firsts, node, nodes, total);
+    let to = bound_of(&firsts, node + 1, nodes, total);
+    &cells[from..to]
+}

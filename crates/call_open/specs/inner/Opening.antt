@@ -1,0 +1,38 @@
+-- Grounds 11 to 13, which every call over a plan's tables tries first. Paper 01, section Grounds for refusal.
+use mathlib.Core.Path.{_≡_}
+use mathlib.Core.Bool.{true, not, _||_}
+use mathlib.Core.List.{List, [], _∷_}
+use Prim.Native.Nat.{ℕ, _≤_}
+use lib.Dec.{ltb}
+use lib.ListN.{length, take}
+use Rattle.logic.specs.Formula.{Plan}
+use Rattle.logic.specs.Configuration.{ownMasks, allWithin}
+use Rattle.logic.specs.Cells.{ownCells}
+use Rattle.logic.specs.Moves.{Ground, refusal}
+use Rattle.table_format.specs.Decode.{Decoded, broken, sound, decode}
+use Rattle.cells_walk.specs.inner.Root.{Indexed}
+use Rattle.call_open.specs.declared.Opened.{Opened}
+
+-- 12 and 13, where the shortest of the lent cell tables is so long.
+unfoldable pub openGrounds : Plan → List ℕ → ℕ → ℕ → List Ground
+openGrounds P own masks-length shortest =
+    (12, ltb masks-length (ownMasks P) || ltb shortest (ownCells P)) ∷ (13, not (allWithin (P .ports) own)) ∷ []
+
+unfoldable pub openNumber : Decoded → List ℕ → ℕ → ℕ
+openNumber broken masks shortest = 11
+openNumber (sound P) masks shortest = refusal (openGrounds P (take (ownMasks P) masks) (length masks) shortest)
+
+-- What is known of the tables where none of the three applies.
+pub record OpenPlan (bytes masks : List ℕ) (shortest : ℕ) (r : Opened) (firsts ends uses : List ℕ) : Type 0 where
+  pub plan : Plan
+  pub decodes : decode bytes ≡ sound plan
+  pub ports-are : r .ports ≡ plan .ports
+  pub sets-are : r .sets ≡ plan .sets
+  pub indexed : Indexed plan firsts ends uses
+  pub own-masks : ownMasks plan ≤ length masks
+  pub own-cells : ownCells plan ≤ shortest
+  pub within : allWithin (plan .ports) (take (ownMasks plan) masks) ≡ true
+
+pub record Opens (bytes masks : List ℕ) (shortest : ℕ) (r : Opened) (firsts ends uses : List ℕ) : Type 0 where
+  pub number-is : r .number ≡ openNumber (decode bytes) masks shortest
+  pub opens : r .number ≡ 0 → OpenPlan bytes masks shortest r firsts ends uses

@@ -1,0 +1,83 @@
+// Grounds 11 to 13, which every call over a plan's tables tries first. Paper 01, section Grounds for refusal.
+use logic::within_ports;
+use table_check::check;
+ghost use mathlib.Core.Path.{_≡_};
+ghost use Prim.Native.Nat.{min, _≤_};
+ghost use lib.ListN.{length, take};
+ghost use Rattle.logic.specs.Configuration.{allWithin};
+ghost use Rattle.table_check.specs.inner.Check.{Room};
+ghost use Rattle.call_open.specs.inner.Opening.{Opens};
+
+// Whether no mask of the first `sets` has a port of `ports` or more.
+pub fn masks_ok(masks: &[u64], sets: usize, ports: usize) -> bool
+    requires { ⌜ (sets ≤ length (now masks)) × (ports ≤ 64) ⌝ }
+    ensures { λ r. ⌜ r ≡ allWithin ports (take sets (now (masks .entry))) ⌝ }
+{
+    let u = ports as u32;
+    let mut s = 0;
+    while s < sets {
+        if !within_ports(masks[s], u) {
+            return false;
+        }
+        s += 1;
+    }
+    true
+}
+
+// The ports and sets of a plan whose tables may be worked, or the first ground of 11 to 13 that applies.
+pub struct Opened {
+    pub number: u8,
+    pub ports: usize,
+    pub sets: usize,
+}
+
+fn closed(number: u8) -> Opened
+    ensures { λ r. ⌜ r .number ≡ number ⌝ }
+{
+    Opened {
+        number: number,
+        ports: 0,
+        sets: 0,
+    }
+}
+
+// Tries 11 to 13 and fills the index tables; `shortest` is the length of the shortest cell table that is lent.
+pub fn open_tables(
+    table: &[u8],
+    masks: &[u64],
+    shortest: usize,
+    firsts: &mut [u32],
+    ends: &mut [u16],
+    uses: &mut [u64],
+) -> Opened
+    requires { ⌜ Room (now firsts) (now ends) (now uses) ⌝ }
+    ensures { λ r. ⌜ Opens (now (table .entry)) (now (masks .entry)) shortest r (now (firsts .exit)) (now (ends .exit)) (now (uses .exit)) ⌝ }
+{
+    let info = check(table, firsts, ends, uses);
+    if !info.ok {
+        return closed(11);
+    }
+    if masks.len() < info.sets {
+        return closed(12);
+    }
+    if shortest < info.cells {
+        return closed(12);
+    }
+    if !masks_ok(masks, info.sets, info.ports) {
+        return closed(13);
+    }
+    Opened {
+        number: 0,
+        ports: info.ports,
+        sets: info.sets,
+    }
+}
+
+pub fn lesser(a: usize, b: usize) -> usize
+    ensures { λ r. ⌜ r ≡ min a b ⌝ }
+{
+    if a <= b {
+        return a;
+    }
+    b
+}

@@ -1,0 +1,98 @@
+-- Reading's answer in each of its cases. Assumes nothing.
+use mathlib.Core.Path.{_≡_, sym, ap, ap₂, _∙_}
+use mathlib.Core.Bool.{Bool, true, false, cond, _&&_}
+use mathlib.Core.List.{List, [], _∷_, _++_}
+use Prim.Native.Nat.{ℕ, suc, _≤_, _<_}
+use native.Mathlib.Omega.{arith}
+use lib.Dec.{leb, ltb}
+use lib.ListN.{length, take}
+use borrow.Author.Tests.{lt-ltb, le-ltb}
+use Rattle.logic.specs.Moves.{Ground, refusal}
+use Rattle.text_tree.specs.Tree.{Tree, tooDeep}
+use Rattle.text_tokens.specs.Tokens.{knownBytes}
+use Rattle.text_tokens.proofs.Laws.{token-moves}
+use Rattle.text_grammar.specs.declared.Syntax.{Syntax}
+use Rattle.text_grammar.specs.Parser.{Result, failed, read, parsed}
+use Rattle.text_grammar.specs.inner.Contract.{Whole}
+use Rattle.text_core.specs.Core.{planOf}
+use Rattle.text_core.specs.Grounds.{coreGrounds}
+use Rattle.contracts.specs.declared.Answer.{Answer}
+use Rattle.contracts.specs.declared.Answer.the-variants.{Refused}
+use Rattle.contracts.specs.Read.{tableLength, syntaxGrounds, readGrounds, readOr, reads}
+use Rattle.call_read.specs.inner.Contract.{FirstLetters, Kept, SomeText, Finishes}
+use Rattle.text_core.proofs.Letters.{parsed-lettered}
+use Rattle.contracts.proofs.Grounds.{ports-in}
+
+module _ (u : ℕ) (s B : List ℕ) where
+  abbrev grounds : List Ground
+  grounds = readGrounds u s (length B)
+
+  refused-by : (g : ℕ) → refusal grounds ≡ suc g → _≡_ {A = Answer × List ℕ} (Refused (suc g), B) (reads u s B)
+  unfolding reads readOr
+  refused-by g e = sym (ap (λ (x : ℕ). readOr x u (parsed s) B) e)
+
+  pub read-10 : (leb 1 u && leb u 64) ≡ false → _≡_ {A = Answer × List ℕ} (Refused 10, B) (reads u s B)
+  unfolding readGrounds refusal
+  read-10 p = refused-by 9 (rw p)
+
+  module _ (ports : (leb 1 u && leb u 64) ≡ true) where
+    pub read-1 : 4096 < length s → _≡_ {A = Answer × List ℕ} (Refused 1, B) (reads u s B)
+    unfolding readGrounds refusal
+    read-1 h = refused-by 0 (rw (ports, lt-ltb 4096 (length s) h))
+
+    module _ (short : length s ≤ 4096) where
+      pub read-2 : knownBytes s ≡ false → _≡_ {A = Answer × List ℕ} (Refused 2, B) (reads u s B)
+      unfolding readGrounds refusal
+      read-2 k = refused-by 1 (rw (ports, le-ltb 4096 (length s) short, k))
+
+      module _ (known : knownBytes s ≡ true) where
+        -- grounds 10, 1 and 2 do not apply
+        opened : refusal grounds ≡ refusal (syntaxGrounds u (length B) (parsed s))
+        unfolding readGrounds refusal
+        opened = rw (ports, le-ltb 4096 (length s) short, known)
+
+        pub read-3 : parsed s ≡ failed → _≡_ {A = Answer × List ℕ} (Refused 3, B) (reads u s B)
+        unfolding syntaxGrounds refusal
+        read-3 e = refused-by 2 (opened ∙ ap (λ (r : Result). refusal (syntaxGrounds u (length B) r)) e)
+
+        module _ (sets : List ℕ) (a : Tree) (e : parsed s ≡ read sets a) where
+          in-grammar : refusal grounds
+              ≡ cond (tooDeep 0 a) 4 (refusal (coreGrounds u sets a ++ ((12, ltb (length B) (tableLength (planOf u sets a))) ∷ [])))
+          unfolding syntaxGrounds refusal
+          in-grammar = opened ∙ ap (λ (r : Result). refusal (syntaxGrounds u (length B) r)) e
+
+          pub read-4 : tooDeep 0 a ≡ true → _≡_ {A = Answer × List ℕ} (Refused 4, B) (reads u s B)
+          read-4 d =
+              let rest = refusal (coreGrounds u sets a ++ ((12, ltb (length B) (tableLength (planOf u sets a))) ∷ [])) in
+              refused-by 3 (in-grammar ∙ ap (λ (b : Bool). cond b 4 rest) d)
+
+          pub read-rest : tooDeep 0 a ≡ false
+              → readOr (refusal (coreGrounds u sets a ++ ((12, ltb (length B) (tableLength (planOf u sets a))) ∷ []))) u (read sets a) B ≡ reads u s B
+          unfolding reads
+          read-rest d =
+              let rest = refusal (coreGrounds u sets a ++ ((12, ltb (length B) (tableLength (planOf u sets a))) ∷ [])) in
+              let g : refusal grounds ≡ rest = in-grammar ∙ ap (λ (b : Bool). cond b 4 rest) d in
+              sym ((λ i. readOr (g i) u (e i) B))
+
+-- what parsing and gathering leave
+module _ (s t : List ℕ) (r : Syntax) (W : Whole s t r) (letters : List ℕ) (n : ℕ) where
+  pub first-within : r .first ≤ length s
+  first-within = omega (arith, W .first, token-moves s 0 (omega arith) .within)
+
+  pub kept-text : FirstLetters s (r .first) letters n → length letters ≡ 17 → Kept t (r .end) letters n (W .sets) (W .tree)
+  kept-text F l = record {
+    stored = W .stored;
+    lettered = parsed-lettered s (W .sets) (W .tree) (W .is);
+    letters-are = F .are ∙ sym (ap₂ (λ (m : ℕ) (x : List ℕ). take m x) (sym l) (W .letters));
+  }
+
+  pub some-text : (u : ℕ) → 1 ≤ u → u ≤ 64 → FirstLetters s (r .first) letters n → length letters ≡ 17 → SomeText u t (r .end) letters n
+  some-text u h g F l = record { ports1 = h; ports64 = g; within = F .within; sets = W .sets; tree = W .tree; kept = kept-text F l }
+
+  -- the answer of a text that is in the grammar and not too deep
+  pub read-last : (u : ℕ) (B O : List ℕ) (x : Answer) → 1 ≤ u → u ≤ 64 → length s ≤ 4096 → knownBytes s ≡ true → r .deep ≡ false
+      → FirstLetters s (r .first) letters n → length letters ≡ 17 → Finishes u t (r .end) letters n B O x → _≡_ {A = Answer × List ℕ} (x, O) (reads u s B)
+  unfolding Finishes
+  read-last u B O x h g short known deep F l E =
+      E (W .sets) (W .tree) (kept-text F l)
+      ∙ read-rest u s B (ports-in u h g) short known (W .sets) (W .tree) (W .is) (sym (W .deeper) ∙ deep)

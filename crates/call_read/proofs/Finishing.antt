@@ -1,0 +1,116 @@
+-- Grounds 5 to 9 and 12, and the table of a text that passes. Assumes nothing.
+use mathlib.Core.Path.{_≡_, refl, sym, ap, _∙_, subst}
+use mathlib.Core.Bool.{Bool, true, false, cond}
+use mathlib.Core.List.{List, [], _∷_, _++_}
+use Prim.Native.Nat.{ℕ, zero, suc, _+_, _*_, _-_, _≤_, _<_}
+use native.Mathlib.Omega.{arith}
+use lib.Dec.{eqb, ltb}
+use lib.ListN.{length, take, drop}
+use borrow.Author.Tests.{lt-ltb, le-ltb, ltb-false}
+use Rattle.logic.specs.Formula.{nodeCount}
+use Rattle.logic.specs.Cells.{cellCount, ownCells}
+use Rattle.logic.specs.Moves.{Ground, refusal}
+use Rattle.text_tree.specs.Tree.{Tree}
+use Rattle.text_grammar.specs.Parser.{read}
+use Rattle.text_grounds.specs.declared.CoreAnswer.{CoreAnswer}
+use Rattle.text_core.specs.Names.{ground7}
+use Rattle.text_core.specs.Core.{coreOf, planOf}
+use Rattle.text_core.specs.inner.Refusal.{coreRefusal}
+use Rattle.text_grounds.specs.inner.Answered.{Answered, Answers}
+use Rattle.text_core.specs.Grounds.{coreGrounds}
+use Rattle.text_grounds.proofs.Answering.{refusal-prefix}
+use Rattle.table_format.specs.Bytes.{headerLength, recordLength, encoding}
+use Rattle.text_emit.specs.inner.Emits.{PlanReady, WritesPlan}
+use Rattle.contracts.specs.declared.Answer.{Answer}
+use Rattle.contracts.specs.declared.Answer.the-variants.{Accepted, Refused}
+use Rattle.contracts.specs.Read.{tableLength, readOr}
+use Rattle.call_read.specs.inner.Contract.{Kept, Finishes}
+use Rattle.contracts.proofs.Grounds.{refusal-first, CorePasses, core-passes, core-then, few-sets, whole-list}
+
+some-nodes : (sets : List ℕ) (a : Tree) → 1 ≤ nodeCount (coreOf sets a)
+unfolding coreOf nodeCount
+some-nodes sets a = omega arith
+
+-- the core's answer where it does not refuse
+record Passing (u : ℕ) (sets : List ℕ) (a : Tree) (c : CoreAnswer) : Type 0 where
+  pub passing : CorePasses u sets a
+  pub few : length sets ≤ 16
+  pub nodes-are : c .nodes ≡ nodeCount (coreOf sets a)
+  pub cells-are : c .cells ≡ cellCount u (coreOf sets a) 0
+
+passing-of : (u : ℕ) (sets : List ℕ) (a : Tree) (c : CoreAnswer) → Answered u sets a c → c .refused ≡ 0 → Passing u sets a c
+passing-of u sets a c A e =
+    let z : coreRefusal u sets a ≡ 0 = sym (A .refused-is) ∙ e in
+    let p = core-passes u sets a z in
+    record {
+      passing = p;
+      few = few-sets sets a (p .names);
+      nodes-are = A .nodes-is ∙ ap (λ (x : ℕ). cond (eqb x 0) (nodeCount (coreOf sets a)) 0) z;
+      cells-are = A .cells-is ∙ ap (λ (x : ℕ). cond (eqb x 0) (cellCount u (coreOf sets a) 0) 0) z;
+    }
+
+module _ (u : ℕ) (t : List ℕ) (e : ℕ) (letters : List ℕ) (n : ℕ) (S : List ℕ) (own : S ≡ take n letters) (c : CoreAnswer) (A : Answers t e S u c) where
+  answered : (sets : List ℕ) (a : Tree) → Kept t e letters n sets a → Answered u (take 17 sets) a c
+  unfolding Answers
+  answered sets a K = subst (λ (x : List ℕ). Answered u x a c) (own ∙ K .letters-are) (A a (K .stored) (K .lettered))
+
+  pub finish-refused : (B : List ℕ) → (c .refused ≡ 0 → ⊥) → Finishes u t e letters n B B (Refused (c .refused))
+  unfolding Finishes
+  finish-refused B z sets a K = go (c .refused) refl
+    where
+      rest : List Ground
+      rest = (12, ltb (length B) (tableLength (planOf u sets a))) ∷ []
+
+      first : c .refused ≡ refusal (coreGrounds u sets a)
+      first = unfold coreRefusal in answered sets a K .refused-is ∙ refusal-prefix u sets a
+
+      go : (k : ℕ) → c .refused ≡ k → _≡_ {A = Answer × List ℕ} (Refused k, B) (readOr (refusal (coreGrounds u sets a ++ rest)) u (read sets a) B)
+      go zero q = absurd (z q)
+      go (suc g) q = unfold readOr in
+          sym (ap (λ (x : ℕ). readOr x u (read sets a) B) (refusal-first (coreGrounds u sets a) rest g (sym first ∙ q)))
+
+  module _ (z : c .refused ≡ 0) where
+    passing-all : (sets : List ℕ) (a : Tree) → Kept t e letters n sets a → (take 17 sets ≡ sets) × Passing u sets a c
+    passing-all sets a K =
+        let p = passing-of u (take 17 sets) a c (answered sets a K) z in
+        let w = whole-list sets (p .few) in (w, subst (λ (x : List ℕ). Passing u x a c) w p)
+
+    module _ (B : List ℕ) (nodes : ℕ) (same : nodes ≡ c .nodes) where
+      pub finish-short : length B < headerLength + recordLength * nodes → Finishes u t e letters n B B (Refused 12)
+      unfolding Finishes readOr refusal tableLength planOf
+      finish-short h sets a K =
+          let P = passing-all sets a K .1 in
+          let count : nodes ≡ nodeCount (coreOf sets a) = same ∙ P .nodes-are in
+          let short : ltb (length B) (headerLength + recordLength * nodeCount (coreOf sets a)) ≡ true = lt-ltb (length B) _ (subst (λ (x : ℕ). length B < headerLength + recordLength * x) count h) in
+          sym (ap (λ (x : ℕ). readOr x u (read sets a) B)
+          (core-then u sets a _ (P .passing) ∙ ap (λ (x : Bool). cond x 12 0) short))
+
+      pub finish-ready : (sets : List ℕ) (a : Tree) → Kept t e letters n sets a → headerLength + recordLength * nodes ≤ length B → PlanReady S nodes B
+      finish-ready sets a K h =
+          let w = passing-all sets a K in
+          let P = w .1 in
+          let count : nodes ≡ nodeCount (coreOf sets a) = same ∙ P .nodes-are in
+          record {
+            few-sets = rw (own, K .letters-are, w .0) (P .few);
+            some = rw count (some-nodes sets a);
+            few = rw count (ltb-false 512 _ (P .passing .few-nodes));
+            room = h;
+          }
+
+      pub finish-accepted : (O : List ℕ) → headerLength + recordLength * nodes ≤ length B → WritesPlan u S t e nodes B O
+          → Finishes u t e letters n B O (Accepted (c .nodes) (c .cells))
+      unfolding Finishes readOr refusal tableLength planOf WritesPlan ground7 ownCells
+      finish-accepted O h W sets a K =
+          let w = passing-all sets a K in
+          let P = w .1 in
+          let count : nodes ≡ nodeCount (coreOf sets a) = same ∙ P .nodes-are in
+          let list : S ≡ sets = own ∙ K .letters-are ∙ w .0 in
+          let fits : ltb (length B) (headerLength + recordLength * nodeCount (coreOf sets a)) ≡ false = le-ltb (length B) _ (subst (λ (x : ℕ). headerLength + recordLength * x ≤ length B) count h) in
+          let bytes : O ≡ encoding (planOf u sets a) ++ drop (headerLength + recordLength * nodeCount (coreOf sets a)) B =
+          rw (list, count) at (W a record { stored = K .stored; lettered = K .lettered; shallow = P .passing .quantifiers } (rw list count)) in
+          (λ i. (Accepted (P .nodes-are i) (P .cells-are i), bytes i))
+          ∙ sym (ap (λ (x : ℕ). readOr x u (read sets a) B) (core-then u sets a _ (P .passing) ∙ ap (λ (x : Bool). cond x 12 0) fits))
+
+-- a part from the first place on
+pub from-start : (n : ℕ) (l : List ℕ) → take (n - 0) (drop 0 l) ≡ take n l
+from-start n l = let e : n - 0 ≡ n = omega arith in ap (λ (m : ℕ). take m l) e

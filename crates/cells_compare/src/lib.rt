@@ -1,0 +1,85 @@
+// The cells of a port comparison, kind 7. Paper 01, sections Plan table and Penalty.
+use cells_runs::Digit;
+use cells_runs::next_digit;
+use cells_runs::put_run;
+use cells_runs::repeat_first;
+use logic::related;
+ghost use mathlib.Core.Path.{_≡_};
+ghost use mathlib.Core.Bool.{not};
+ghost use mathlib.Core.List.{_++_};
+ghost use lib.ListN.{drop};
+ghost use Rattle.logic.specs.Formula.{relationOf};
+ghost use Rattle.logic.specs.Configuration.{indicator};
+ghost use Rattle.logic.specs.Penalty.{compare};
+ghost use Rattle.logic.specs.Cells.{tabulate};
+ghost use Rattle.cells_runs.specs.inner.Ports.{digitAt, byOrder, NestedPlaced, BlocksPlaced};
+
+// 0 if a stands to b in the relation, else 1.
+fn port_penalty(relation: u8, a: u32, b: u32) -> u32
+    ensures { λ r. ⌜ r ≡ indicator (not (compare (relationOf relation) a b)) ⌝ }
+{
+    if related(relation, a, b) {
+        return 0;
+    }
+    1
+}
+
+// The cells of a comparison by whether the inner variable's port is less than the outer's, the same or more. The inner goes
+// through its ports while the outer stays: a round is a run of each, and with the outer's last port all begins again.
+fn put_nested(
+    less: u32,
+    same: u32,
+    more: u32,
+    ports: u32,
+    block: usize,
+    other: usize,
+    width: usize,
+    cells: &mut [u32],
+)
+    requires { ⌜ NestedPlaced ports block other width (now cells) ⌝ }
+    ensures { λ _. ⌜ now (cells .exit) ≡ tabulate width (λ t. byOrder less same more (digitAt ports other t) (digitAt ports block t)) ++ drop width (now (cells .entry)) ⌝ }
+{
+    let round = (ports as usize) * other;
+    let period = (ports as usize) * block;
+    let rounds = block / round;
+    let mut v = Digit {
+        port: 0,
+        left: rounds,
+    };
+    let mut t = 0;
+    while t < period {
+        let low = (v.port as usize) * other;
+        put_run(t, low, less, cells);
+        put_run(t + low, other, same, cells);
+        put_run(t + low + other, round - low - other, more, cells);
+        v = next_digit(v, rounds, ports);
+        t += round;
+    }
+    repeat_first(period, width, cells);
+}
+
+// The cells of kind 7, by the blocks of its two variables: the outer has the larger.
+pub fn put_comparison(
+    relation: u8,
+    ports: u32,
+    block: usize,
+    other: usize,
+    width: usize,
+    cells: &mut [u32],
+)
+    requires { ⌜ BlocksPlaced ports block other width (now cells) ⌝ }
+    ensures { λ _. ⌜ now (cells .exit) ≡ tabulate width (λ t. indicator (not (compare (relationOf relation) (digitAt ports block t) (digitAt ports other t)))) ++ drop width (now (cells .entry)) ⌝ }
+{
+    let less = port_penalty(relation, 0, 1);
+    let same = port_penalty(relation, 0, 0);
+    let more = port_penalty(relation, 1, 0);
+    if other < block {
+        put_nested(more, same, less, ports, block, other, width, cells);
+        return;
+    }
+    if block < other {
+        put_nested(less, same, more, ports, other, block, width, cells);
+        return;
+    }
+    put_run(0, width, same, cells);
+}

@@ -1,0 +1,240 @@
+use mathlib.Core.Path.{refl, ap₂, _∙_}
+use Prim.Native.Nat.{ℕ, _<_}
+use native.Mathlib.Omega.{arith}
+use lib.ListN.{length}
+use borrow.Author.Needs.{needs}
+use borrow.Fn.Kinds.{In}
+use borrow.Fn.PlainCycle.{Measures, is, falls, and}
+use Rattle.logic.proofs.Lent.{back, back-length}
+use Rattle.table_format.specs.Bytes.{recordLength}
+use Rattle.cells_join.specs.inner.Joined.{merged}
+use Rattle.cells_fill.specs.inner.Fill.{Fills}
+use Rattle.cells_fill.proofs.Filling.{fill-none, fill-facts, fill-tree}
+use Rattle.cells_fill.proofs.+fill_forest.{statement}
+use Rattle.cells_fill.proofs.+fill_forest.Tie.{close}
+use Rattle.cells_fill.proofs.fill_forest.Reads as fill-forest
+use Rattle.cells_fill.proofs.fill_forest.Kinds as fill-forest-kinds
+use Rattle.cells_fill.proofs.+fill_forest.Lts-fill_forest as fill-forest-lts
+use Rattle.cells_join.proofs.join_of.Reads as join-of-reads
+use Rattle.cells_join.proofs.merge.Reads as merge-reads
+use Rattle.cells_join.proofs.spread_of.Reads as spread-of-reads
+use Rattle.cells_fill.proofs.start_cells.Reads as start-cells-reads
+use Rattle.table_format.proofs.a_of.Reads as a-of-reads
+use Rattle.table_format.proofs.b_of.Reads as b-of-reads
+use Rattle.table_rules.proofs.child_depth.Reads as child-depth-reads
+use Rattle.table_rules.proofs.child_width.Reads as child-width-reads
+use Rattle.table_format.proofs.end_of.Reads as end-of-reads
+use Rattle.table_format.proofs.kind_of.Reads as kind-of-reads
+use Rattle.table_format.proofs.relation_of.Reads as relation-of-reads
+
+abbrev μ-fill-forest : Measures 3 fill-forest-kinds.ps ℕ
+μ-fill-forest κs a = length (a .0 .now)
+
+abbrev fill-forest-at : ℕ → In 3 fill-forest-kinds.ps
+fill-forest-at t =
+    and 3 fill-forest-kinds.ps (is 3 fill-forest-kinds.ps μ-fill-forest t) fill-forest.Pre
+
+abbrev fill-forest-below : ℕ → In 3 fill-forest-kinds.ps
+fill-forest-below t =
+    and 3 fill-forest-kinds.ps (falls 3 fill-forest-kinds.ps _<_ μ-fill-forest t) fill-forest.Pre
+
+-- what the callees of `fill-forest` ask and give
+abbrev fill-forest-claims : ℕ → fill-forest-lts.Claims
+fill-forest-claims t = (end-of-reads.Asked, end-of-reads.Learnt, kind-of-reads.Asked, kind-of-reads.Learnt, relation-of-reads.Asked, relation-of-reads.Learnt, a-of-reads.Asked, a-of-reads.Learnt, b-of-reads.Asked, b-of-reads.Learnt, start-cells-reads.Asked, start-cells-reads.Learnt, child-depth-reads.Asked, child-depth-reads.Learnt, child-width-reads.Asked, child-width-reads.Learnt, fill-forest-below t, fill-forest.Post, join-of-reads.Asked, join-of-reads.Learnt, spread-of-reads.Asked, spread-of-reads.Learnt, merge-reads.Asked, merge-reads.Learnt)
+
+fill-forest-returns : (t : ℕ) → fill-forest-lts.Need-returns (fill-forest-claims t) (fill-forest-at t) fill-forest.Post
+unfolding recordLength
+fill-forest-returns t c =
+    fill-none (c .before .before .before .before .args .part .now) (c .before .before .before .before .args .i) (c .before .before .before .before .args .above) (c .before .before .before .before .args .ports) (c .before .before .before .before .args .depth) (c .before .before .before .before .args .over) (c .before .before .before .before .args .at) (c .before .before .before .before .args .masks .now) (c .before .before .before .before .args .cells .now) (c .if1 .taken)
+
+fill-forest-end-of-requires : (t : ℕ) → fill-forest-lts.Need-end-of-requires (fill-forest-claims t) (fill-forest-at t) fill-forest.Post
+unfolding recordLength
+fill-forest-end-of-requires t c κs =
+    omega arith
+
+fill-forest-sub-span : (t : ℕ) → fill-forest-lts.Need-sub-span (fill-forest-claims t) (fill-forest-at t) fill-forest.Post
+unfolding recordLength
+fill-forest-sub-span t c =
+    omega (arith, (fill-facts (c .before .before .before .before .before .args .part .now) (c .before .before .before .before .before .args .i) (c .before .before .before .before .before .args .above) (c .before .before .before .before .before .args .ports) (c .before .before .before .before .before .args .sets) (c .before .before .before .before .before .args .depth) (c .before .before .before .before .before .args .width) (c .before .before .before .before .before .args .over) (c .before .before .before .before .before .args .at) (c .before .before .before .before .before .args .masks .now) (c .before .before .before .before .before .args .cells .now) (c .before .before .before .before .before .pre .1) (c .before .if1 .left) (c .end-of .result) (c .end-of .ensures .is) _ _ _ _ refl refl refl refl) .after)
+
+fill-forest-mul-span : (t : ℕ) → fill-forest-lts.Need-mul-span (fill-forest-claims t) (fill-forest-at t) fill-forest.Post
+unfolding recordLength
+fill-forest-mul-span t c =
+    omega (arith, (fill-facts (c .before .before .before .before .before .args .part .now) (c .before .before .before .before .before .args .i) (c .before .before .before .before .before .args .above) (c .before .before .before .before .before .args .ports) (c .before .before .before .before .before .args .sets) (c .before .before .before .before .before .args .depth) (c .before .before .before .before .before .args .width) (c .before .before .before .before .before .args .over) (c .before .before .before .before .before .args .at) (c .before .before .before .before .before .args .masks .now) (c .before .before .before .before .before .args .cells .now) (c .before .before .before .before .before .pre .1) (c .before .if1 .left) (c .end-of .result) (c .end-of .ensures .is) _ _ _ _ refl refl refl refl) .few)
+
+fill-forest-kind-of-requires : (t : ℕ) → fill-forest-lts.Need-kind-of-requires (fill-forest-claims t) (fill-forest-at t) fill-forest.Post
+unfolding recordLength
+fill-forest-kind-of-requires t c κs =
+    omega (arith, c .before .if1 .left)
+
+fill-forest-relation-of-requires : (t : ℕ) → fill-forest-lts.Need-relation-of-requires (fill-forest-claims t) (fill-forest-at t) fill-forest.Post
+unfolding recordLength
+fill-forest-relation-of-requires t c κs =
+    omega (arith, c .before .before .if1 .left)
+
+fill-forest-a-of-requires : (t : ℕ) → fill-forest-lts.Need-a-of-requires (fill-forest-claims t) (fill-forest-at t) fill-forest.Post
+unfolding recordLength
+fill-forest-a-of-requires t c κs =
+    omega (arith, c .before .before .before .if1 .left)
+
+fill-forest-b-of-requires : (t : ℕ) → fill-forest-lts.Need-b-of-requires (fill-forest-claims t) (fill-forest-at t) fill-forest.Post
+unfolding recordLength
+fill-forest-b-of-requires t c κs =
+    omega (arith, c .before .before .before .before .if1 .left)
+
+fill-forest-mul-start-cells : (t : ℕ) → fill-forest-lts.Need-mul-start-cells (fill-forest-claims t) (fill-forest-at t) fill-forest.Post
+fill-forest-mul-start-cells t c =
+    search needs
+
+fill-forest-sub-start-cells : (t : ℕ) → fill-forest-lts.Need-sub-start-cells (fill-forest-claims t) (fill-forest-at t) fill-forest.Post
+fill-forest-sub-start-cells t c =
+    omega (arith, (c .before .before .before .before .before .before .before .before .before .pre .1) .room)
+
+fill-forest-part-start-cells-start : (t : ℕ) → fill-forest-lts.Need-part-start-cells-start (fill-forest-claims t) (fill-forest-at t) fill-forest.Post
+fill-forest-part-start-cells-start t c =
+    omega (arith, (c .before .before .before .before .before .before .before .before .before .pre .1) .room)
+
+fill-forest-part-start-cells-end : (t : ℕ) → fill-forest-lts.Need-part-start-cells-end (fill-forest-claims t) (fill-forest-at t) fill-forest.Post
+fill-forest-part-start-cells-end t c =
+    search needs
+
+fill-forest-start-cells-requires : (t : ℕ) → fill-forest-lts.Need-start-cells-requires (fill-forest-claims t) (fill-forest-at t) fill-forest.Post
+unfolding recordLength
+fill-forest-start-cells-requires t c κs =
+    (fill-facts (c .before .before .before .before .before .before .before .before .before .before .args .part .now) (c .before .before .before .before .before .before .before .before .before .before .args .i) (c .before .before .before .before .before .before .before .before .before .before .args .above) (c .before .before .before .before .before .before .before .before .before .before .args .ports) (c .before .before .before .before .before .before .before .before .before .before .args .sets) (c .before .before .before .before .before .before .before .before .before .before .args .depth) (c .before .before .before .before .before .before .before .before .before .before .args .width) (c .before .before .before .before .before .before .before .before .before .before .args .over) (c .before .before .before .before .before .before .before .before .before .before .args .at) (c .before .before .before .before .before .before .before .before .before .before .args .masks .now) (c .before .before .before .before .before .before .before .before .before .before .args .cells .now) (c .before .before .before .before .before .before .before .before .before .before .pre .1) (c .before .before .before .before .before .before .if1 .left) (c .before .before .before .before .before .end-of .result) (c .before .before .before .before .before .end-of .ensures .is) (c .before .before .before .before .kind-of .result) (c .before .before .before .relation-of .result) (c .before .before .a-of .result) (c .before .b-of .result) (c .before .before .before .before .kind-of .ensures) (c .before .before .before .relation-of .ensures) (c .before .before .a-of .ensures) (c .before .b-of .ensures)) .start
+
+fill-forest-child-depth-requires : (t : ℕ) → fill-forest-lts.Need-child-depth-requires (fill-forest-claims t) (fill-forest-at t) fill-forest.Post
+unfolding recordLength
+fill-forest-child-depth-requires t c κs =
+    omega (arith, (fill-facts (c .before .before .before .before .before .before .before .before .before .before .before .before .before .args .part .now) (c .before .before .before .before .before .before .before .before .before .before .before .before .before .args .i) (c .before .before .before .before .before .before .before .before .before .before .before .before .before .args .above) (c .before .before .before .before .before .before .before .before .before .before .before .before .before .args .ports) (c .before .before .before .before .before .before .before .before .before .before .before .before .before .args .sets) (c .before .before .before .before .before .before .before .before .before .before .before .before .before .args .depth) (c .before .before .before .before .before .before .before .before .before .before .before .before .before .args .width) (c .before .before .before .before .before .before .before .before .before .before .before .before .before .args .over) (c .before .before .before .before .before .before .before .before .before .before .before .before .before .args .at) (c .before .before .before .before .before .before .before .before .before .before .before .before .before .args .masks .now) (c .before .before .before .before .before .before .before .before .before .before .before .before .before .args .cells .now) (c .before .before .before .before .before .before .before .before .before .before .before .before .before .pre .1) (c .before .before .before .before .before .before .before .before .before .if1 .left) (c .before .before .before .before .before .before .before .before .end-of .result) (c .before .before .before .before .before .before .before .before .end-of .ensures .is) (c .before .before .before .before .before .before .before .kind-of .result) (c .before .before .before .before .before .before .relation-of .result) (c .before .before .before .before .before .a-of .result) (c .before .before .before .before .b-of .result) (c .before .before .before .before .before .before .before .kind-of .ensures) (c .before .before .before .before .before .before .relation-of .ensures) (c .before .before .before .before .before .a-of .ensures) (c .before .before .before .before .b-of .ensures)) .depth3)
+
+fill-forest-child-width-requires : (t : ℕ) → fill-forest-lts.Need-child-width-requires (fill-forest-claims t) (fill-forest-at t) fill-forest.Post
+unfolding recordLength
+fill-forest-child-width-requires t c κs =
+    (omega (arith, (fill-facts (c .before .before .before .before .before .before .before .before .before .before .before .before .before .before .args .part .now) (c .before .before .before .before .before .before .before .before .before .before .before .before .before .before .args .i) (c .before .before .before .before .before .before .before .before .before .before .before .before .before .before .args .above) (c .before .before .before .before .before .before .before .before .before .before .before .before .before .before .args .ports) (c .before .before .before .before .before .before .before .before .before .before .before .before .before .before .args .sets) (c .before .before .before .before .before .before .before .before .before .before .before .before .before .before .args .depth) (c .before .before .before .before .before .before .before .before .before .before .before .before .before .before .args .width) (c .before .before .before .before .before .before .before .before .before .before .before .before .before .before .args .over) (c .before .before .before .before .before .before .before .before .before .before .before .before .before .before .args .at) (c .before .before .before .before .before .before .before .before .before .before .before .before .before .before .args .masks .now) (c .before .before .before .before .before .before .before .before .before .before .before .before .before .before .args .cells .now) (c .before .before .before .before .before .before .before .before .before .before .before .before .before .before .pre .1) (c .before .before .before .before .before .before .before .before .before .before .if1 .left) (c .before .before .before .before .before .before .before .before .before .end-of .result) (c .before .before .before .before .before .before .before .before .before .end-of .ensures .is) (c .before .before .before .before .before .before .before .before .kind-of .result) (c .before .before .before .before .before .before .before .relation-of .result) (c .before .before .before .before .before .before .a-of .result) (c .before .before .before .before .before .b-of .result) (c .before .before .before .before .before .before .before .before .kind-of .ensures) (c .before .before .before .before .before .before .before .relation-of .ensures) (c .before .before .before .before .before .before .a-of .ensures) (c .before .before .before .before .before .b-of .ensures)) .width-low), (c .before .before .before .before .before .before .before .before .before .before .before .before .before .before .pre .1) .ports64)
+
+fill-forest-sub-fill-forest : (t : ℕ) → fill-forest-lts.Need-sub-fill-forest (fill-forest-claims t) (fill-forest-at t) fill-forest.Post
+unfolding recordLength
+fill-forest-sub-fill-forest t c =
+    omega (arith, (fill-facts (c .before .before .before .before .before .before .before .before .before .before .before .before .before .before .before .args .part .now) (c .before .before .before .before .before .before .before .before .before .before .before .before .before .before .before .args .i) (c .before .before .before .before .before .before .before .before .before .before .before .before .before .before .before .args .above) (c .before .before .before .before .before .before .before .before .before .before .before .before .before .before .before .args .ports) (c .before .before .before .before .before .before .before .before .before .before .before .before .before .before .before .args .sets) (c .before .before .before .before .before .before .before .before .before .before .before .before .before .before .before .args .depth) (c .before .before .before .before .before .before .before .before .before .before .before .before .before .before .before .args .width) (c .before .before .before .before .before .before .before .before .before .before .before .before .before .before .before .args .over) (c .before .before .before .before .before .before .before .before .before .before .before .before .before .before .before .args .at) (c .before .before .before .before .before .before .before .before .before .before .before .before .before .before .before .args .masks .now) (c .before .before .before .before .before .before .before .before .before .before .before .before .before .before .before .args .cells .now) (c .before .before .before .before .before .before .before .before .before .before .before .before .before .before .before .pre .1) (c .before .before .before .before .before .before .before .before .before .before .before .if1 .left) (c .before .before .before .before .before .before .before .before .before .before .end-of .result) (c .before .before .before .before .before .before .before .before .before .before .end-of .ensures .is) (c .before .before .before .before .before .before .before .before .before .kind-of .result) (c .before .before .before .before .before .before .before .before .relation-of .result) (c .before .before .before .before .before .before .before .a-of .result) (c .before .before .before .before .before .before .b-of .result) (c .before .before .before .before .before .before .before .before .before .kind-of .ensures) (c .before .before .before .before .before .before .before .before .relation-of .ensures) (c .before .before .before .before .before .before .before .a-of .ensures) (c .before .before .before .before .before .before .b-of .ensures)) .after)
+
+fill-forest-part-fill-forest-start : (t : ℕ) → fill-forest-lts.Need-part-fill-forest-start (fill-forest-claims t) (fill-forest-at t) fill-forest.Post
+unfolding recordLength
+fill-forest-part-fill-forest-start t c =
+    omega (arith, (fill-facts (c .before .before .before .before .before .before .before .before .before .before .before .before .before .before .before .args .part .now) (c .before .before .before .before .before .before .before .before .before .before .before .before .before .before .before .args .i) (c .before .before .before .before .before .before .before .before .before .before .before .before .before .before .before .args .above) (c .before .before .before .before .before .before .before .before .before .before .before .before .before .before .before .args .ports) (c .before .before .before .before .before .before .before .before .before .before .before .before .before .before .before .args .sets) (c .before .before .before .before .before .before .before .before .before .before .before .before .before .before .before .args .depth) (c .before .before .before .before .before .before .before .before .before .before .before .before .before .before .before .args .width) (c .before .before .before .before .before .before .before .before .before .before .before .before .before .before .before .args .over) (c .before .before .before .before .before .before .before .before .before .before .before .before .before .before .before .args .at) (c .before .before .before .before .before .before .before .before .before .before .before .before .before .before .before .args .masks .now) (c .before .before .before .before .before .before .before .before .before .before .before .before .before .before .before .args .cells .now) (c .before .before .before .before .before .before .before .before .before .before .before .before .before .before .before .pre .1) (c .before .before .before .before .before .before .before .before .before .before .before .if1 .left) (c .before .before .before .before .before .before .before .before .before .before .end-of .result) (c .before .before .before .before .before .before .before .before .before .before .end-of .ensures .is) (c .before .before .before .before .before .before .before .before .before .kind-of .result) (c .before .before .before .before .before .before .before .before .relation-of .result) (c .before .before .before .before .before .before .before .a-of .result) (c .before .before .before .before .before .before .b-of .result) (c .before .before .before .before .before .before .before .before .before .kind-of .ensures) (c .before .before .before .before .before .before .before .before .relation-of .ensures) (c .before .before .before .before .before .before .before .a-of .ensures) (c .before .before .before .before .before .before .b-of .ensures)) .after)
+
+fill-forest-part-fill-forest-end : (t : ℕ) → fill-forest-lts.Need-part-fill-forest-end (fill-forest-claims t) (fill-forest-at t) fill-forest.Post
+unfolding recordLength
+fill-forest-part-fill-forest-end t c =
+    omega (arith, (fill-facts (c .before .before .before .before .before .before .before .before .before .before .before .before .before .before .before .args .part .now) (c .before .before .before .before .before .before .before .before .before .before .before .before .before .before .before .args .i) (c .before .before .before .before .before .before .before .before .before .before .before .before .before .before .before .args .above) (c .before .before .before .before .before .before .before .before .before .before .before .before .before .before .before .args .ports) (c .before .before .before .before .before .before .before .before .before .before .before .before .before .before .before .args .sets) (c .before .before .before .before .before .before .before .before .before .before .before .before .before .before .before .args .depth) (c .before .before .before .before .before .before .before .before .before .before .before .before .before .before .before .args .width) (c .before .before .before .before .before .before .before .before .before .before .before .before .before .before .before .args .over) (c .before .before .before .before .before .before .before .before .before .before .before .before .before .before .before .args .at) (c .before .before .before .before .before .before .before .before .before .before .before .before .before .before .before .args .masks .now) (c .before .before .before .before .before .before .before .before .before .before .before .before .before .before .before .args .cells .now) (c .before .before .before .before .before .before .before .before .before .before .before .before .before .before .before .pre .1) (c .before .before .before .before .before .before .before .before .before .before .before .if1 .left) (c .before .before .before .before .before .before .before .before .before .before .end-of .result) (c .before .before .before .before .before .before .before .before .before .before .end-of .ensures .is) (c .before .before .before .before .before .before .before .before .before .kind-of .result) (c .before .before .before .before .before .before .before .before .relation-of .result) (c .before .before .before .before .before .before .before .a-of .result) (c .before .before .before .before .before .before .b-of .result) (c .before .before .before .before .before .before .before .before .before .kind-of .ensures) (c .before .before .before .before .before .before .before .before .relation-of .ensures) (c .before .before .before .before .before .before .before .a-of .ensures) (c .before .before .before .before .before .before .b-of .ensures)) .within)
+
+fill-forest-add-fill-forest : (t : ℕ) → fill-forest-lts.Need-add-fill-forest (fill-forest-claims t) (fill-forest-at t) fill-forest.Post
+unfolding recordLength
+fill-forest-add-fill-forest t c =
+    omega (arith, (fill-facts (c .before .before .before .before .before .before .before .before .before .before .before .before .before .before .before .before .args .part .now) (c .before .before .before .before .before .before .before .before .before .before .before .before .before .before .before .before .args .i) (c .before .before .before .before .before .before .before .before .before .before .before .before .before .before .before .before .args .above) (c .before .before .before .before .before .before .before .before .before .before .before .before .before .before .before .before .args .ports) (c .before .before .before .before .before .before .before .before .before .before .before .before .before .before .before .before .args .sets) (c .before .before .before .before .before .before .before .before .before .before .before .before .before .before .before .before .args .depth) (c .before .before .before .before .before .before .before .before .before .before .before .before .before .before .before .before .args .width) (c .before .before .before .before .before .before .before .before .before .before .before .before .before .before .before .before .args .over) (c .before .before .before .before .before .before .before .before .before .before .before .before .before .before .before .before .args .at) (c .before .before .before .before .before .before .before .before .before .before .before .before .before .before .before .before .args .masks .now) (c .before .before .before .before .before .before .before .before .before .before .before .before .before .before .before .before .args .cells .now) (c .before .before .before .before .before .before .before .before .before .before .before .before .before .before .before .before .pre .1) (c .before .before .before .before .before .before .before .before .before .before .before .before .if1 .left) (c .before .before .before .before .before .before .before .before .before .before .before .end-of .result) (c .before .before .before .before .before .before .before .before .before .before .before .end-of .ensures .is) (c .before .before .before .before .before .before .before .before .before .before .kind-of .result) (c .before .before .before .before .before .before .before .before .before .relation-of .result) (c .before .before .before .before .before .before .before .before .a-of .result) (c .before .before .before .before .before .before .before .b-of .result) (c .before .before .before .before .before .before .before .before .before .before .kind-of .ensures) (c .before .before .before .before .before .before .before .before .before .relation-of .ensures) (c .before .before .before .before .before .before .before .before .a-of .ensures) (c .before .before .before .before .before .before .before .b-of .ensures)) .few, (fill-facts (c .before .before .before .before .before .before .before .before .before .before .before .before .before .before .before .before .args .part .now) (c .before .before .before .before .before .before .before .before .before .before .before .before .before .before .before .before .args .i) (c .before .before .before .before .before .before .before .before .before .before .before .before .before .before .before .before .args .above) (c .before .before .before .before .before .before .before .before .before .before .before .before .before .before .before .before .args .ports) (c .before .before .before .before .before .before .before .before .before .before .before .before .before .before .before .before .args .sets) (c .before .before .before .before .before .before .before .before .before .before .before .before .before .before .before .before .args .depth) (c .before .before .before .before .before .before .before .before .before .before .before .before .before .before .before .before .args .width) (c .before .before .before .before .before .before .before .before .before .before .before .before .before .before .before .before .args .over) (c .before .before .before .before .before .before .before .before .before .before .before .before .before .before .before .before .args .at) (c .before .before .before .before .before .before .before .before .before .before .before .before .before .before .before .before .args .masks .now) (c .before .before .before .before .before .before .before .before .before .before .before .before .before .before .before .before .args .cells .now) (c .before .before .before .before .before .before .before .before .before .before .before .before .before .before .before .before .pre .1) (c .before .before .before .before .before .before .before .before .before .before .before .before .if1 .left) (c .before .before .before .before .before .before .before .before .before .before .before .end-of .result) (c .before .before .before .before .before .before .before .before .before .before .before .end-of .ensures .is) (c .before .before .before .before .before .before .before .before .before .before .kind-of .result) (c .before .before .before .before .before .before .before .before .before .relation-of .result) (c .before .before .before .before .before .before .before .before .a-of .result) (c .before .before .before .before .before .before .before .b-of .result) (c .before .before .before .before .before .before .before .before .before .before .kind-of .ensures) (c .before .before .before .before .before .before .before .before .before .relation-of .ensures) (c .before .before .before .before .before .before .before .before .a-of .ensures) (c .before .before .before .before .before .before .before .b-of .ensures)) .after)
+
+fill-forest-mul-fill-forest : (t : ℕ) → fill-forest-lts.Need-mul-fill-forest (fill-forest-claims t) (fill-forest-at t) fill-forest.Post
+fill-forest-mul-fill-forest t c =
+    search needs
+
+fill-forest-sub-fill-forest-2 : (t : ℕ) → fill-forest-lts.Need-sub-fill-forest-2 (fill-forest-claims t) (fill-forest-at t) fill-forest.Post
+fill-forest-sub-fill-forest-2 t c =
+    omega (arith, back-length (c .before .before .before .before .before .before .before .before .before .before .before .before .before .before .before .before .args .at) (c .before .before .before .before .before .before .before .before .before .before .before .before .before .before .before .before .args .cells .now) (c .before .before .before .before .before .start-cells .last .1 .1 .1 .1 .1 .1 .1 .1 .1 .0) (omega (arith, (c .before .before .before .before .before .before .before .before .before .before .before .before .before .before .before .before .pre .1) .room)) (omega (arith, c .before .before .before .before .before .start-cells .kept .1 .1 .1 .1 .1 .1 .1 .1 .1 .0)), (c .before .before .before .before .before .before .before .before .before .before .before .before .before .before .before .before .pre .1) .room)
+
+fill-forest-part-fill-forest-start-2 : (t : ℕ) → fill-forest-lts.Need-part-fill-forest-start-2 (fill-forest-claims t) (fill-forest-at t) fill-forest.Post
+fill-forest-part-fill-forest-start-2 t c =
+    omega (arith, back-length (c .before .before .before .before .before .before .before .before .before .before .before .before .before .before .before .before .args .at) (c .before .before .before .before .before .before .before .before .before .before .before .before .before .before .before .before .args .cells .now) (c .before .before .before .before .before .start-cells .last .1 .1 .1 .1 .1 .1 .1 .1 .1 .0) (omega (arith, (c .before .before .before .before .before .before .before .before .before .before .before .before .before .before .before .before .pre .1) .room)) (omega (arith, c .before .before .before .before .before .start-cells .kept .1 .1 .1 .1 .1 .1 .1 .1 .1 .0)), (c .before .before .before .before .before .before .before .before .before .before .before .before .before .before .before .before .pre .1) .room)
+
+fill-forest-part-fill-forest-end-2 : (t : ℕ) → fill-forest-lts.Need-part-fill-forest-end-2 (fill-forest-claims t) (fill-forest-at t) fill-forest.Post
+fill-forest-part-fill-forest-end-2 t c =
+    search needs
+
+fill-forest-fill-forest-requires : (t : ℕ) → fill-forest-lts.Need-fill-forest-requires (fill-forest-claims t) (fill-forest-at t) fill-forest.Post
+unfolding recordLength
+fill-forest-fill-forest-requires t c κs =
+    (omega (arith, (fill-facts (c .before .before .before .before .before .before .before .before .before .before .before .before .before .before .before .before .before .args .part .now) (c .before .before .before .before .before .before .before .before .before .before .before .before .before .before .before .before .before .args .i) (c .before .before .before .before .before .before .before .before .before .before .before .before .before .before .before .before .before .args .above) (c .before .before .before .before .before .before .before .before .before .before .before .before .before .before .before .before .before .args .ports) (c .before .before .before .before .before .before .before .before .before .before .before .before .before .before .before .before .before .args .sets) (c .before .before .before .before .before .before .before .before .before .before .before .before .before .before .before .before .before .args .depth) (c .before .before .before .before .before .before .before .before .before .before .before .before .before .before .before .before .before .args .width) (c .before .before .before .before .before .before .before .before .before .before .before .before .before .before .before .before .before .args .over) (c .before .before .before .before .before .before .before .before .before .before .before .before .before .before .before .before .before .args .at) (c .before .before .before .before .before .before .before .before .before .before .before .before .before .before .before .before .before .args .masks .now) (c .before .before .before .before .before .before .before .before .before .before .before .before .before .before .before .before .before .args .cells .now) (c .before .before .before .before .before .before .before .before .before .before .before .before .before .before .before .before .before .pre .1) (c .before .before .before .before .before .before .before .before .before .before .before .before .before .if1 .left) (c .before .before .before .before .before .before .before .before .before .before .before .before .end-of .result) (c .before .before .before .before .before .before .before .before .before .before .before .before .end-of .ensures .is) (c .before .before .before .before .before .before .before .before .before .before .before .kind-of .result) (c .before .before .before .before .before .before .before .before .before .before .relation-of .result) (c .before .before .before .before .before .before .before .before .before .a-of .result) (c .before .before .before .before .before .before .before .before .b-of .result) (c .before .before .before .before .before .before .before .before .before .before .before .kind-of .ensures) (c .before .before .before .before .before .before .before .before .before .before .relation-of .ensures) (c .before .before .before .before .before .before .before .before .before .a-of .ensures) (c .before .before .before .before .before .before .before .before .b-of .ensures)) .kids-shorter, c .before .before .before .before .before .before .before .before .before .before .before .before .before .before .before .before .before .pre .0), (fill-facts (c .before .before .before .before .before .before .before .before .before .before .before .before .before .before .before .before .before .args .part .now) (c .before .before .before .before .before .before .before .before .before .before .before .before .before .before .before .before .before .args .i) (c .before .before .before .before .before .before .before .before .before .before .before .before .before .before .before .before .before .args .above) (c .before .before .before .before .before .before .before .before .before .before .before .before .before .before .before .before .before .args .ports) (c .before .before .before .before .before .before .before .before .before .before .before .before .before .before .before .before .before .args .sets) (c .before .before .before .before .before .before .before .before .before .before .before .before .before .before .before .before .before .args .depth) (c .before .before .before .before .before .before .before .before .before .before .before .before .before .before .before .before .before .args .width) (c .before .before .before .before .before .before .before .before .before .before .before .before .before .before .before .before .before .args .over) (c .before .before .before .before .before .before .before .before .before .before .before .before .before .before .before .before .before .args .at) (c .before .before .before .before .before .before .before .before .before .before .before .before .before .before .before .before .before .args .masks .now) (c .before .before .before .before .before .before .before .before .before .before .before .before .before .before .before .before .before .args .cells .now) (c .before .before .before .before .before .before .before .before .before .before .before .before .before .before .before .before .before .pre .1) (c .before .before .before .before .before .before .before .before .before .before .before .before .before .if1 .left) (c .before .before .before .before .before .before .before .before .before .before .before .before .end-of .result) (c .before .before .before .before .before .before .before .before .before .before .before .before .end-of .ensures .is) (c .before .before .before .before .before .before .before .before .before .before .before .kind-of .result) (c .before .before .before .before .before .before .before .before .before .before .relation-of .result) (c .before .before .before .before .before .before .before .before .before .a-of .result) (c .before .before .before .before .before .before .before .before .b-of .result) (c .before .before .before .before .before .before .before .before .before .before .before .kind-of .ensures) (c .before .before .before .before .before .before .before .before .before .before .relation-of .ensures) (c .before .before .before .before .before .before .before .before .before .a-of .ensures) (c .before .before .before .before .before .before .before .before .b-of .ensures)) .kids (c .before .before .before .before .before .before .start-cells .last .1 .1 .1 .1 .1 .1 .1 .1 .1 .0) (omega (arith, c .before .before .before .before .before .before .start-cells .kept .1 .1 .1 .1 .1 .1 .1 .1 .1 .0)) (c .before .before .before .child-depth .result) (c .before .before .child-width .result) (c .before .before .before .child-depth .ensures) (c .before .before .child-width .ensures))
+
+fill-forest-join-of-requires : (t : ℕ) → fill-forest-lts.Need-join-of-requires (fill-forest-claims t) (fill-forest-at t) fill-forest.Post
+fill-forest-join-of-requires t c κs =
+    search needs
+
+fill-forest-spread-of-requires : (t : ℕ) → fill-forest-lts.Need-spread-of-requires (fill-forest-claims t) (fill-forest-at t) fill-forest.Post
+fill-forest-spread-of-requires t c κs =
+    search needs
+
+fill-forest-merge-requires : (t : ℕ) → fill-forest-lts.Need-merge-requires (fill-forest-claims t) (fill-forest-at t) fill-forest.Post
+unfolding recordLength
+fill-forest-merge-requires t c κs =
+    ((c .before .before .before .before .before .before .before .before .before .before .before .before .before .before .before .before .before .before .before .before .before .before .before .pre .1) .after, rw (c .before .spread-of .ensures) (omega (arith, (fill-facts (c .before .before .before .before .before .before .before .before .before .before .before .before .before .before .before .before .before .before .before .before .before .before .before .args .part .now) (c .before .before .before .before .before .before .before .before .before .before .before .before .before .before .before .before .before .before .before .before .before .before .before .args .i) (c .before .before .before .before .before .before .before .before .before .before .before .before .before .before .before .before .before .before .before .before .before .before .before .args .above) (c .before .before .before .before .before .before .before .before .before .before .before .before .before .before .before .before .before .before .before .before .before .before .before .args .ports) (c .before .before .before .before .before .before .before .before .before .before .before .before .before .before .before .before .before .before .before .before .before .before .before .args .sets) (c .before .before .before .before .before .before .before .before .before .before .before .before .before .before .before .before .before .before .before .before .before .before .before .args .depth) (c .before .before .before .before .before .before .before .before .before .before .before .before .before .before .before .before .before .before .before .before .before .before .before .args .width) (c .before .before .before .before .before .before .before .before .before .before .before .before .before .before .before .before .before .before .before .before .before .before .before .args .over) (c .before .before .before .before .before .before .before .before .before .before .before .before .before .before .before .before .before .before .before .before .before .before .before .args .at) (c .before .before .before .before .before .before .before .before .before .before .before .before .before .before .before .before .before .before .before .before .before .before .before .args .masks .now) (c .before .before .before .before .before .before .before .before .before .before .before .before .before .before .before .before .before .before .before .before .before .before .before .args .cells .now) (c .before .before .before .before .before .before .before .before .before .before .before .before .before .before .before .before .before .before .before .before .before .before .before .pre .1) (c .before .before .before .before .before .before .before .before .before .before .before .before .before .before .before .before .before .before .before .if1 .left) (c .before .before .before .before .before .before .before .before .before .before .before .before .before .before .before .before .before .before .end-of .result) (c .before .before .before .before .before .before .before .before .before .before .before .before .before .before .before .before .before .before .end-of .ensures .is) (c .before .before .before .before .before .before .before .before .before .before .before .before .before .before .before .before .before .kind-of .result) (c .before .before .before .before .before .before .before .before .before .before .before .before .before .before .before .before .relation-of .result) (c .before .before .before .before .before .before .before .before .before .before .before .before .before .before .before .a-of .result) (c .before .before .before .before .before .before .before .before .before .before .before .before .before .before .b-of .result) (c .before .before .before .before .before .before .before .before .before .before .before .before .before .before .before .before .before .kind-of .ensures) (c .before .before .before .before .before .before .before .before .before .before .before .before .before .before .before .before .relation-of .ensures) (c .before .before .before .before .before .before .before .before .before .before .before .before .before .before .before .a-of .ensures) (c .before .before .before .before .before .before .before .before .before .before .before .before .before .before .b-of .ensures)) .merging, back-length (c .before .before .before .before .before .before .before .before .before .before .before .before .before .before .before .before .before .before .before .before .before .before .before .args .at) (back (c .before .before .before .before .before .before .before .before .before .before .before .before .before .before .before .before .before .before .before .before .before .before .before .args .at) (c .before .before .before .before .before .before .before .before .before .before .before .before .before .before .before .before .before .before .before .before .before .before .before .args .cells .now) (c .before .before .before .before .before .before .before .before .before .before .before .before .start-cells .last .1 .1 .1 .1 .1 .1 .1 .1 .1 .0)) (c .before .before .before .before .before .fill-forest .last .1 .1 .1 .1 .1 .1 .1 .1 .1 .1 .0) (omega (arith, (c .before .before .before .before .before .before .before .before .before .before .before .before .before .before .before .before .before .before .before .before .before .before .before .pre .1) .room, back-length (c .before .before .before .before .before .before .before .before .before .before .before .before .before .before .before .before .before .before .before .before .before .before .before .args .at) (c .before .before .before .before .before .before .before .before .before .before .before .before .before .before .before .before .before .before .before .before .before .before .before .args .cells .now) (c .before .before .before .before .before .before .before .before .before .before .before .before .start-cells .last .1 .1 .1 .1 .1 .1 .1 .1 .1 .0) (omega (arith, (c .before .before .before .before .before .before .before .before .before .before .before .before .before .before .before .before .before .before .before .before .before .before .before .pre .1) .room)) (omega (arith, c .before .before .before .before .before .before .before .before .before .before .before .before .start-cells .kept .1 .1 .1 .1 .1 .1 .1 .1 .1 .0)))) (omega (arith, c .before .before .before .before .before .fill-forest .kept .1 .1 .1 .1 .1 .1 .1 .1 .1 .1 .0)), back-length (c .before .before .before .before .before .before .before .before .before .before .before .before .before .before .before .before .before .before .before .before .before .before .before .args .at) (c .before .before .before .before .before .before .before .before .before .before .before .before .before .before .before .before .before .before .before .before .before .before .before .args .cells .now) (c .before .before .before .before .before .before .before .before .before .before .before .before .start-cells .last .1 .1 .1 .1 .1 .1 .1 .1 .1 .0) (omega (arith, (c .before .before .before .before .before .before .before .before .before .before .before .before .before .before .before .before .before .before .before .before .before .before .before .pre .1) .room)) (omega (arith, c .before .before .before .before .before .before .before .before .before .before .before .before .start-cells .kept .1 .1 .1 .1 .1 .1 .1 .1 .1 .0)))))
+
+fill-forest-sub-fill-forest-3 : (t : ℕ) → fill-forest-lts.Need-sub-fill-forest-3 (fill-forest-claims t) (fill-forest-at t) fill-forest.Post
+unfolding recordLength
+fill-forest-sub-fill-forest-3 t c =
+    omega (arith, (fill-facts (c .before .before .before .before .before .before .before .before .before .before .before .before .before .before .before .before .before .before .before .before .before .before .before .before .before .before .args .part .now) (c .before .before .before .before .before .before .before .before .before .before .before .before .before .before .before .before .before .before .before .before .before .before .before .before .before .before .args .i) (c .before .before .before .before .before .before .before .before .before .before .before .before .before .before .before .before .before .before .before .before .before .before .before .before .before .before .args .above) (c .before .before .before .before .before .before .before .before .before .before .before .before .before .before .before .before .before .before .before .before .before .before .before .before .before .before .args .ports) (c .before .before .before .before .before .before .before .before .before .before .before .before .before .before .before .before .before .before .before .before .before .before .before .before .before .before .args .sets) (c .before .before .before .before .before .before .before .before .before .before .before .before .before .before .before .before .before .before .before .before .before .before .before .before .before .before .args .depth) (c .before .before .before .before .before .before .before .before .before .before .before .before .before .before .before .before .before .before .before .before .before .before .before .before .before .before .args .width) (c .before .before .before .before .before .before .before .before .before .before .before .before .before .before .before .before .before .before .before .before .before .before .before .before .before .before .args .over) (c .before .before .before .before .before .before .before .before .before .before .before .before .before .before .before .before .before .before .before .before .before .before .before .before .before .before .args .at) (c .before .before .before .before .before .before .before .before .before .before .before .before .before .before .before .before .before .before .before .before .before .before .before .before .before .before .args .masks .now) (c .before .before .before .before .before .before .before .before .before .before .before .before .before .before .before .before .before .before .before .before .before .before .before .before .before .before .args .cells .now) (c .before .before .before .before .before .before .before .before .before .before .before .before .before .before .before .before .before .before .before .before .before .before .before .before .before .before .pre .1) (c .before .before .before .before .before .before .before .before .before .before .before .before .before .before .before .before .before .before .before .before .before .before .if1 .left) (c .before .before .before .before .before .before .before .before .before .before .before .before .before .before .before .before .before .before .before .before .before .end-of .result) (c .before .before .before .before .before .before .before .before .before .before .before .before .before .before .before .before .before .before .before .before .before .end-of .ensures .is) (c .before .before .before .before .before .before .before .before .before .before .before .before .before .before .before .before .before .before .before .before .kind-of .result) (c .before .before .before .before .before .before .before .before .before .before .before .before .before .before .before .before .before .before .before .relation-of .result) (c .before .before .before .before .before .before .before .before .before .before .before .before .before .before .before .before .before .before .a-of .result) (c .before .before .before .before .before .before .before .before .before .before .before .before .before .before .before .before .before .b-of .result) (c .before .before .before .before .before .before .before .before .before .before .before .before .before .before .before .before .before .before .before .before .kind-of .ensures) (c .before .before .before .before .before .before .before .before .before .before .before .before .before .before .before .before .before .before .before .relation-of .ensures) (c .before .before .before .before .before .before .before .before .before .before .before .before .before .before .before .before .before .before .a-of .ensures) (c .before .before .before .before .before .before .before .before .before .before .before .before .before .before .before .before .before .b-of .ensures)) .within)
+
+fill-forest-part-fill-forest-start-3 : (t : ℕ) → fill-forest-lts.Need-part-fill-forest-start-3 (fill-forest-claims t) (fill-forest-at t) fill-forest.Post
+unfolding recordLength
+fill-forest-part-fill-forest-start-3 t c =
+    omega (arith, (fill-facts (c .before .before .before .before .before .before .before .before .before .before .before .before .before .before .before .before .before .before .before .before .before .before .before .before .before .before .args .part .now) (c .before .before .before .before .before .before .before .before .before .before .before .before .before .before .before .before .before .before .before .before .before .before .before .before .before .before .args .i) (c .before .before .before .before .before .before .before .before .before .before .before .before .before .before .before .before .before .before .before .before .before .before .before .before .before .before .args .above) (c .before .before .before .before .before .before .before .before .before .before .before .before .before .before .before .before .before .before .before .before .before .before .before .before .before .before .args .ports) (c .before .before .before .before .before .before .before .before .before .before .before .before .before .before .before .before .before .before .before .before .before .before .before .before .before .before .args .sets) (c .before .before .before .before .before .before .before .before .before .before .before .before .before .before .before .before .before .before .before .before .before .before .before .before .before .before .args .depth) (c .before .before .before .before .before .before .before .before .before .before .before .before .before .before .before .before .before .before .before .before .before .before .before .before .before .before .args .width) (c .before .before .before .before .before .before .before .before .before .before .before .before .before .before .before .before .before .before .before .before .before .before .before .before .before .before .args .over) (c .before .before .before .before .before .before .before .before .before .before .before .before .before .before .before .before .before .before .before .before .before .before .before .before .before .before .args .at) (c .before .before .before .before .before .before .before .before .before .before .before .before .before .before .before .before .before .before .before .before .before .before .before .before .before .before .args .masks .now) (c .before .before .before .before .before .before .before .before .before .before .before .before .before .before .before .before .before .before .before .before .before .before .before .before .before .before .args .cells .now) (c .before .before .before .before .before .before .before .before .before .before .before .before .before .before .before .before .before .before .before .before .before .before .before .before .before .before .pre .1) (c .before .before .before .before .before .before .before .before .before .before .before .before .before .before .before .before .before .before .before .before .before .before .if1 .left) (c .before .before .before .before .before .before .before .before .before .before .before .before .before .before .before .before .before .before .before .before .before .end-of .result) (c .before .before .before .before .before .before .before .before .before .before .before .before .before .before .before .before .before .before .before .before .before .end-of .ensures .is) (c .before .before .before .before .before .before .before .before .before .before .before .before .before .before .before .before .before .before .before .before .kind-of .result) (c .before .before .before .before .before .before .before .before .before .before .before .before .before .before .before .before .before .before .before .relation-of .result) (c .before .before .before .before .before .before .before .before .before .before .before .before .before .before .before .before .before .before .a-of .result) (c .before .before .before .before .before .before .before .before .before .before .before .before .before .before .before .before .before .b-of .result) (c .before .before .before .before .before .before .before .before .before .before .before .before .before .before .before .before .before .before .before .before .kind-of .ensures) (c .before .before .before .before .before .before .before .before .before .before .before .before .before .before .before .before .before .before .before .relation-of .ensures) (c .before .before .before .before .before .before .before .before .before .before .before .before .before .before .before .before .before .before .a-of .ensures) (c .before .before .before .before .before .before .before .before .before .before .before .before .before .before .before .before .before .b-of .ensures)) .within)
+
+fill-forest-part-fill-forest-end-3 : (t : ℕ) → fill-forest-lts.Need-part-fill-forest-end-3 (fill-forest-claims t) (fill-forest-at t) fill-forest.Post
+fill-forest-part-fill-forest-end-3 t c =
+    search needs
+
+fill-forest-add-fill-forest-2 : (t : ℕ) → fill-forest-lts.Need-add-fill-forest-2 (fill-forest-claims t) (fill-forest-at t) fill-forest.Post
+unfolding recordLength Fills
+fill-forest-add-fill-forest-2 t c =
+    omega (arith, c .before .before .before .before .before .before .before .before .before .before .before .before .before .before .before .before .before .before .before .before .before .before .before .before .before .before .before .good, c .before .before .before .before .before .before .before .before .before .before .before .before .before .before .before .before .before .before .before .before .before .before .before .before .before .before .before .fits, ((fill-facts (c .before .before .before .before .before .before .before .before .before .before .before .before .before .before .before .before .before .before .before .before .before .before .before .before .before .before .before .args .part .now) (c .before .before .before .before .before .before .before .before .before .before .before .before .before .before .before .before .before .before .before .before .before .before .before .before .before .before .before .args .i) (c .before .before .before .before .before .before .before .before .before .before .before .before .before .before .before .before .before .before .before .before .before .before .before .before .before .before .before .args .above) (c .before .before .before .before .before .before .before .before .before .before .before .before .before .before .before .before .before .before .before .before .before .before .before .before .before .before .before .args .ports) (c .before .before .before .before .before .before .before .before .before .before .before .before .before .before .before .before .before .before .before .before .before .before .before .before .before .before .before .args .sets) (c .before .before .before .before .before .before .before .before .before .before .before .before .before .before .before .before .before .before .before .before .before .before .before .before .before .before .before .args .depth) (c .before .before .before .before .before .before .before .before .before .before .before .before .before .before .before .before .before .before .before .before .before .before .before .before .before .before .before .args .width) (c .before .before .before .before .before .before .before .before .before .before .before .before .before .before .before .before .before .before .before .before .before .before .before .before .before .before .before .args .over) (c .before .before .before .before .before .before .before .before .before .before .before .before .before .before .before .before .before .before .before .before .before .before .before .before .before .before .before .args .at) (c .before .before .before .before .before .before .before .before .before .before .before .before .before .before .before .before .before .before .before .before .before .before .before .before .before .before .before .args .masks .now) (c .before .before .before .before .before .before .before .before .before .before .before .before .before .before .before .before .before .before .before .before .before .before .before .before .before .before .before .args .cells .now) (c .before .before .before .before .before .before .before .before .before .before .before .before .before .before .before .before .before .before .before .before .before .before .before .before .before .before .before .pre .1) (c .before .before .before .before .before .before .before .before .before .before .before .before .before .before .before .before .before .before .before .before .before .before .before .if1 .left) (c .before .before .before .before .before .before .before .before .before .before .before .before .before .before .before .before .before .before .before .before .before .before .end-of .result) (c .before .before .before .before .before .before .before .before .before .before .before .before .before .before .before .before .before .before .before .before .before .before .end-of .ensures .is) (c .before .before .before .before .before .before .before .before .before .before .before .before .before .before .before .before .before .before .before .before .before .kind-of .result) (c .before .before .before .before .before .before .before .before .before .before .before .before .before .before .before .before .before .before .before .before .relation-of .result) (c .before .before .before .before .before .before .before .before .before .before .before .before .before .before .before .before .before .before .before .a-of .result) (c .before .before .before .before .before .before .before .before .before .before .before .before .before .before .before .before .before .before .b-of .result) (c .before .before .before .before .before .before .before .before .before .before .before .before .before .before .before .before .before .before .before .before .before .kind-of .ensures) (c .before .before .before .before .before .before .before .before .before .before .before .before .before .before .before .before .before .before .before .before .relation-of .ensures) (c .before .before .before .before .before .before .before .before .before .before .before .before .before .before .before .before .before .before .before .a-of .ensures) (c .before .before .before .before .before .before .before .before .before .before .before .before .before .before .before .before .before .before .b-of .ensures)) .rest (c .before .before .before .before .before .before .before .before .before .fill-forest .result) (c .before .before .before .before .before .before .before .before .before .before .before .before .before .child-depth .result) (c .before .before .before .before .before .before .before .before .before .before .before .before .before .child-depth .ensures) (λ m₁ o₁ f₁ p₁ k₁ b₁ w₁ i₁. (c .before .before .before .before .before .before .before .before .before .fill-forest .ensures) m₁ o₁ f₁ p₁ k₁ b₁ w₁ i₁ .ends-at) (c .before .before .before .merge .last .1 .1 .1 .1 .0) (omega (arith, c .before .before .before .merge .kept .1 .1 .1 .1 .0, back-length (c .before .before .before .before .before .before .before .before .before .before .before .before .before .before .before .before .before .before .before .before .before .before .before .before .before .before .before .args .at) (back (c .before .before .before .before .before .before .before .before .before .before .before .before .before .before .before .before .before .before .before .before .before .before .before .before .before .before .before .args .at) (c .before .before .before .before .before .before .before .before .before .before .before .before .before .before .before .before .before .before .before .before .before .before .before .before .before .before .before .args .cells .now) (c .before .before .before .before .before .before .before .before .before .before .before .before .before .before .before .before .start-cells .last .1 .1 .1 .1 .1 .1 .1 .1 .1 .0)) (c .before .before .before .before .before .before .before .before .before .fill-forest .last .1 .1 .1 .1 .1 .1 .1 .1 .1 .1 .0) (omega (arith, (c .before .before .before .before .before .before .before .before .before .before .before .before .before .before .before .before .before .before .before .before .before .before .before .before .before .before .before .pre .1) .room, back-length (c .before .before .before .before .before .before .before .before .before .before .before .before .before .before .before .before .before .before .before .before .before .before .before .before .before .before .before .args .at) (c .before .before .before .before .before .before .before .before .before .before .before .before .before .before .before .before .before .before .before .before .before .before .before .before .before .before .before .args .cells .now) (c .before .before .before .before .before .before .before .before .before .before .before .before .before .before .before .before .start-cells .last .1 .1 .1 .1 .1 .1 .1 .1 .1 .0) (omega (arith, (c .before .before .before .before .before .before .before .before .before .before .before .before .before .before .before .before .before .before .before .before .before .before .before .before .before .before .before .pre .1) .room)) (omega (arith, c .before .before .before .before .before .before .before .before .before .before .before .before .before .before .before .before .start-cells .kept .1 .1 .1 .1 .1 .1 .1 .1 .1 .0)))) (omega (arith, c .before .before .before .before .before .before .before .before .before .fill-forest .kept .1 .1 .1 .1 .1 .1 .1 .1 .1 .1 .0)), back-length (c .before .before .before .before .before .before .before .before .before .before .before .before .before .before .before .before .before .before .before .before .before .before .before .before .before .before .before .args .at) (c .before .before .before .before .before .before .before .before .before .before .before .before .before .before .before .before .before .before .before .before .before .before .before .before .before .before .before .args .cells .now) (c .before .before .before .before .before .before .before .before .before .before .before .before .before .before .before .before .start-cells .last .1 .1 .1 .1 .1 .1 .1 .1 .1 .0) (omega (arith, (c .before .before .before .before .before .before .before .before .before .before .before .before .before .before .before .before .before .before .before .before .before .before .before .before .before .before .before .pre .1) .room)) (omega (arith, c .before .before .before .before .before .before .before .before .before .before .before .before .before .before .before .before .start-cells .kept .1 .1 .1 .1 .1 .1 .1 .1 .1 .0))))) .0)
+
+fill-forest-fill-forest-requires-2 : (t : ℕ) → fill-forest-lts.Need-fill-forest-requires-2 (fill-forest-claims t) (fill-forest-at t) fill-forest.Post
+unfolding recordLength Fills
+fill-forest-fill-forest-requires-2 t c κs =
+    (omega (arith, (fill-facts (c .before .before .before .before .before .before .before .before .before .before .before .before .before .before .before .before .before .before .before .before .before .before .before .before .before .before .before .before .args .part .now) (c .before .before .before .before .before .before .before .before .before .before .before .before .before .before .before .before .before .before .before .before .before .before .before .before .before .before .before .before .args .i) (c .before .before .before .before .before .before .before .before .before .before .before .before .before .before .before .before .before .before .before .before .before .before .before .before .before .before .before .before .args .above) (c .before .before .before .before .before .before .before .before .before .before .before .before .before .before .before .before .before .before .before .before .before .before .before .before .before .before .before .before .args .ports) (c .before .before .before .before .before .before .before .before .before .before .before .before .before .before .before .before .before .before .before .before .before .before .before .before .before .before .before .before .args .sets) (c .before .before .before .before .before .before .before .before .before .before .before .before .before .before .before .before .before .before .before .before .before .before .before .before .before .before .before .before .args .depth) (c .before .before .before .before .before .before .before .before .before .before .before .before .before .before .before .before .before .before .before .before .before .before .before .before .before .before .before .before .args .width) (c .before .before .before .before .before .before .before .before .before .before .before .before .before .before .before .before .before .before .before .before .before .before .before .before .before .before .before .before .args .over) (c .before .before .before .before .before .before .before .before .before .before .before .before .before .before .before .before .before .before .before .before .before .before .before .before .before .before .before .before .args .at) (c .before .before .before .before .before .before .before .before .before .before .before .before .before .before .before .before .before .before .before .before .before .before .before .before .before .before .before .before .args .masks .now) (c .before .before .before .before .before .before .before .before .before .before .before .before .before .before .before .before .before .before .before .before .before .before .before .before .before .before .before .before .args .cells .now) (c .before .before .before .before .before .before .before .before .before .before .before .before .before .before .before .before .before .before .before .before .before .before .before .before .before .before .before .before .pre .1) (c .before .before .before .before .before .before .before .before .before .before .before .before .before .before .before .before .before .before .before .before .before .before .before .before .if1 .left) (c .before .before .before .before .before .before .before .before .before .before .before .before .before .before .before .before .before .before .before .before .before .before .before .end-of .result) (c .before .before .before .before .before .before .before .before .before .before .before .before .before .before .before .before .before .before .before .before .before .before .before .end-of .ensures .is) (c .before .before .before .before .before .before .before .before .before .before .before .before .before .before .before .before .before .before .before .before .before .before .kind-of .result) (c .before .before .before .before .before .before .before .before .before .before .before .before .before .before .before .before .before .before .before .before .before .relation-of .result) (c .before .before .before .before .before .before .before .before .before .before .before .before .before .before .before .before .before .before .before .before .a-of .result) (c .before .before .before .before .before .before .before .before .before .before .before .before .before .before .before .before .before .before .before .b-of .result) (c .before .before .before .before .before .before .before .before .before .before .before .before .before .before .before .before .before .before .before .before .before .before .kind-of .ensures) (c .before .before .before .before .before .before .before .before .before .before .before .before .before .before .before .before .before .before .before .before .before .relation-of .ensures) (c .before .before .before .before .before .before .before .before .before .before .before .before .before .before .before .before .before .before .before .before .a-of .ensures) (c .before .before .before .before .before .before .before .before .before .before .before .before .before .before .before .before .before .before .before .b-of .ensures)) .rest-shorter, c .before .before .before .before .before .before .before .before .before .before .before .before .before .before .before .before .before .before .before .before .before .before .before .before .before .before .before .before .pre .0), ((fill-facts (c .before .before .before .before .before .before .before .before .before .before .before .before .before .before .before .before .before .before .before .before .before .before .before .before .before .before .before .before .args .part .now) (c .before .before .before .before .before .before .before .before .before .before .before .before .before .before .before .before .before .before .before .before .before .before .before .before .before .before .before .before .args .i) (c .before .before .before .before .before .before .before .before .before .before .before .before .before .before .before .before .before .before .before .before .before .before .before .before .before .before .before .before .args .above) (c .before .before .before .before .before .before .before .before .before .before .before .before .before .before .before .before .before .before .before .before .before .before .before .before .before .before .before .before .args .ports) (c .before .before .before .before .before .before .before .before .before .before .before .before .before .before .before .before .before .before .before .before .before .before .before .before .before .before .before .before .args .sets) (c .before .before .before .before .before .before .before .before .before .before .before .before .before .before .before .before .before .before .before .before .before .before .before .before .before .before .before .before .args .depth) (c .before .before .before .before .before .before .before .before .before .before .before .before .before .before .before .before .before .before .before .before .before .before .before .before .before .before .before .before .args .width) (c .before .before .before .before .before .before .before .before .before .before .before .before .before .before .before .before .before .before .before .before .before .before .before .before .before .before .before .before .args .over) (c .before .before .before .before .before .before .before .before .before .before .before .before .before .before .before .before .before .before .before .before .before .before .before .before .before .before .before .before .args .at) (c .before .before .before .before .before .before .before .before .before .before .before .before .before .before .before .before .before .before .before .before .before .before .before .before .before .before .before .before .args .masks .now) (c .before .before .before .before .before .before .before .before .before .before .before .before .before .before .before .before .before .before .before .before .before .before .before .before .before .before .before .before .args .cells .now) (c .before .before .before .before .before .before .before .before .before .before .before .before .before .before .before .before .before .before .before .before .before .before .before .before .before .before .before .before .pre .1) (c .before .before .before .before .before .before .before .before .before .before .before .before .before .before .before .before .before .before .before .before .before .before .before .before .if1 .left) (c .before .before .before .before .before .before .before .before .before .before .before .before .before .before .before .before .before .before .before .before .before .before .before .end-of .result) (c .before .before .before .before .before .before .before .before .before .before .before .before .before .before .before .before .before .before .before .before .before .before .before .end-of .ensures .is) (c .before .before .before .before .before .before .before .before .before .before .before .before .before .before .before .before .before .before .before .before .before .before .kind-of .result) (c .before .before .before .before .before .before .before .before .before .before .before .before .before .before .before .before .before .before .before .before .before .relation-of .result) (c .before .before .before .before .before .before .before .before .before .before .before .before .before .before .before .before .before .before .before .before .a-of .result) (c .before .before .before .before .before .before .before .before .before .before .before .before .before .before .before .before .before .before .before .b-of .result) (c .before .before .before .before .before .before .before .before .before .before .before .before .before .before .before .before .before .before .before .before .before .before .kind-of .ensures) (c .before .before .before .before .before .before .before .before .before .before .before .before .before .before .before .before .before .before .before .before .before .relation-of .ensures) (c .before .before .before .before .before .before .before .before .before .before .before .before .before .before .before .before .before .before .before .before .a-of .ensures) (c .before .before .before .before .before .before .before .before .before .before .before .before .before .before .before .before .before .before .before .b-of .ensures)) .rest (c .before .before .before .before .before .before .before .before .before .before .fill-forest .result) (c .before .before .before .before .before .before .before .before .before .before .before .before .before .before .child-depth .result) (c .before .before .before .before .before .before .before .before .before .before .before .before .before .before .child-depth .ensures) (λ m₁ o₁ f₁ p₁ k₁ b₁ w₁ i₁. (c .before .before .before .before .before .before .before .before .before .before .fill-forest .ensures) m₁ o₁ f₁ p₁ k₁ b₁ w₁ i₁ .ends-at) (c .before .before .before .before .merge .last .1 .1 .1 .1 .0) (omega (arith, c .before .before .before .before .merge .kept .1 .1 .1 .1 .0, back-length (c .before .before .before .before .before .before .before .before .before .before .before .before .before .before .before .before .before .before .before .before .before .before .before .before .before .before .before .before .args .at) (back (c .before .before .before .before .before .before .before .before .before .before .before .before .before .before .before .before .before .before .before .before .before .before .before .before .before .before .before .before .args .at) (c .before .before .before .before .before .before .before .before .before .before .before .before .before .before .before .before .before .before .before .before .before .before .before .before .before .before .before .before .args .cells .now) (c .before .before .before .before .before .before .before .before .before .before .before .before .before .before .before .before .before .start-cells .last .1 .1 .1 .1 .1 .1 .1 .1 .1 .0)) (c .before .before .before .before .before .before .before .before .before .before .fill-forest .last .1 .1 .1 .1 .1 .1 .1 .1 .1 .1 .0) (omega (arith, (c .before .before .before .before .before .before .before .before .before .before .before .before .before .before .before .before .before .before .before .before .before .before .before .before .before .before .before .before .pre .1) .room, back-length (c .before .before .before .before .before .before .before .before .before .before .before .before .before .before .before .before .before .before .before .before .before .before .before .before .before .before .before .before .args .at) (c .before .before .before .before .before .before .before .before .before .before .before .before .before .before .before .before .before .before .before .before .before .before .before .before .before .before .before .before .args .cells .now) (c .before .before .before .before .before .before .before .before .before .before .before .before .before .before .before .before .before .start-cells .last .1 .1 .1 .1 .1 .1 .1 .1 .1 .0) (omega (arith, (c .before .before .before .before .before .before .before .before .before .before .before .before .before .before .before .before .before .before .before .before .before .before .before .before .before .before .before .before .pre .1) .room)) (omega (arith, c .before .before .before .before .before .before .before .before .before .before .before .before .before .before .before .before .before .start-cells .kept .1 .1 .1 .1 .1 .1 .1 .1 .1 .0)))) (omega (arith, c .before .before .before .before .before .before .before .before .before .before .fill-forest .kept .1 .1 .1 .1 .1 .1 .1 .1 .1 .1 .0)), back-length (c .before .before .before .before .before .before .before .before .before .before .before .before .before .before .before .before .before .before .before .before .before .before .before .before .before .before .before .before .args .at) (c .before .before .before .before .before .before .before .before .before .before .before .before .before .before .before .before .before .before .before .before .before .before .before .before .before .before .before .before .args .cells .now) (c .before .before .before .before .before .before .before .before .before .before .before .before .before .before .before .before .before .start-cells .last .1 .1 .1 .1 .1 .1 .1 .1 .1 .0) (omega (arith, (c .before .before .before .before .before .before .before .before .before .before .before .before .before .before .before .before .before .before .before .before .before .before .before .before .before .before .before .before .pre .1) .room)) (omega (arith, c .before .before .before .before .before .before .before .before .before .before .before .before .before .before .before .before .before .start-cells .kept .1 .1 .1 .1 .1 .1 .1 .1 .1 .0))))) .1)
+
+fill-forest-same-length : (t : ℕ) → fill-forest-lts.Need-same-length (fill-forest-claims t) (fill-forest-at t) fill-forest.Post
+fill-forest-same-length t c =
+    omega (arith, c .before .before .fill-forest2 .kept .1 .1 .1 .1 .1 .1 .1 .1 .1 .1 .0, c .before .before .before .before .before .before .before .merge .kept .1 .1 .1 .1 .0, back-length (c .before .before .before .before .before .before .before .before .before .before .before .before .before .before .before .before .before .before .before .before .before .before .before .before .before .before .before .before .before .before .before .args .at) (back (c .before .before .before .before .before .before .before .before .before .before .before .before .before .before .before .before .before .before .before .before .before .before .before .before .before .before .before .before .before .before .before .args .at) (c .before .before .before .before .before .before .before .before .before .before .before .before .before .before .before .before .before .before .before .before .before .before .before .before .before .before .before .before .before .before .before .args .cells .now) (c .before .before .before .before .before .before .before .before .before .before .before .before .before .before .before .before .before .before .before .before .start-cells .last .1 .1 .1 .1 .1 .1 .1 .1 .1 .0)) (c .before .before .before .before .before .before .before .before .before .before .before .before .before .fill-forest .last .1 .1 .1 .1 .1 .1 .1 .1 .1 .1 .0) (omega (arith, (c .before .before .before .before .before .before .before .before .before .before .before .before .before .before .before .before .before .before .before .before .before .before .before .before .before .before .before .before .before .before .before .pre .1) .room, back-length (c .before .before .before .before .before .before .before .before .before .before .before .before .before .before .before .before .before .before .before .before .before .before .before .before .before .before .before .before .before .before .before .args .at) (c .before .before .before .before .before .before .before .before .before .before .before .before .before .before .before .before .before .before .before .before .before .before .before .before .before .before .before .before .before .before .before .args .cells .now) (c .before .before .before .before .before .before .before .before .before .before .before .before .before .before .before .before .before .before .before .before .start-cells .last .1 .1 .1 .1 .1 .1 .1 .1 .1 .0) (omega (arith, (c .before .before .before .before .before .before .before .before .before .before .before .before .before .before .before .before .before .before .before .before .before .before .before .before .before .before .before .before .before .before .before .pre .1) .room)) (omega (arith, c .before .before .before .before .before .before .before .before .before .before .before .before .before .before .before .before .before .before .before .before .start-cells .kept .1 .1 .1 .1 .1 .1 .1 .1 .1 .0)))) (omega (arith, c .before .before .before .before .before .before .before .before .before .before .before .before .before .fill-forest .kept .1 .1 .1 .1 .1 .1 .1 .1 .1 .1 .0)), back-length (c .before .before .before .before .before .before .before .before .before .before .before .before .before .before .before .before .before .before .before .before .before .before .before .before .before .before .before .before .before .before .before .args .at) (c .before .before .before .before .before .before .before .before .before .before .before .before .before .before .before .before .before .before .before .before .before .before .before .before .before .before .before .before .before .before .before .args .cells .now) (c .before .before .before .before .before .before .before .before .before .before .before .before .before .before .before .before .before .before .before .before .start-cells .last .1 .1 .1 .1 .1 .1 .1 .1 .1 .0) (omega (arith, (c .before .before .before .before .before .before .before .before .before .before .before .before .before .before .before .before .before .before .before .before .before .before .before .before .before .before .before .before .before .before .before .pre .1) .room)) (omega (arith, c .before .before .before .before .before .before .before .before .before .before .before .before .before .before .before .before .before .before .before .before .start-cells .kept .1 .1 .1 .1 .1 .1 .1 .1 .1 .0)))
+
+fill-forest-returns-2 : (t : ℕ) → fill-forest-lts.Need-returns-2 (fill-forest-claims t) (fill-forest-at t) fill-forest.Post
+unfolding recordLength
+fill-forest-returns-2 t c =
+    fill-tree (c .before .before .before .before .before .before .before .before .before .before .before .before .before .before .before .before .before .before .before .before .before .before .before .before .before .before .before .before .before .before .before .args .part .now) (c .before .before .before .before .before .before .before .before .before .before .before .before .before .before .before .before .before .before .before .before .before .before .before .before .before .before .before .before .before .before .before .args .i) (c .before .before .before .before .before .before .before .before .before .before .before .before .before .before .before .before .before .before .before .before .before .before .before .before .before .before .before .before .before .before .before .args .above) (c .before .before .before .before .before .before .before .before .before .before .before .before .before .before .before .before .before .before .before .before .before .before .before .before .before .before .before .before .before .before .before .args .ports) (c .before .before .before .before .before .before .before .before .before .before .before .before .before .before .before .before .before .before .before .before .before .before .before .before .before .before .before .before .before .before .before .args .sets) (c .before .before .before .before .before .before .before .before .before .before .before .before .before .before .before .before .before .before .before .before .before .before .before .before .before .before .before .before .before .before .before .args .depth) (c .before .before .before .before .before .before .before .before .before .before .before .before .before .before .before .before .before .before .before .before .before .before .before .before .before .before .before .before .before .before .before .args .width) (c .before .before .before .before .before .before .before .before .before .before .before .before .before .before .before .before .before .before .before .before .before .before .before .before .before .before .before .before .before .before .before .args .over) (c .before .before .before .before .before .before .before .before .before .before .before .before .before .before .before .before .before .before .before .before .before .before .before .before .before .before .before .before .before .before .before .args .at) (c .before .before .before .before .before .before .before .before .before .before .before .before .before .before .before .before .before .before .before .before .before .before .before .before .before .before .before .before .before .before .before .args .masks .now) (c .before .before .before .before .before .before .before .before .before .before .before .before .before .before .before .before .before .before .before .before .before .before .before .before .before .before .before .before .before .before .before .args .cells .now) (c .before .before .before .before .before .before .before .before .before .before .before .before .before .before .before .before .before .before .before .before .before .before .before .before .before .before .before .before .before .before .before .pre .1) (c .before .before .before .before .before .before .before .before .before .before .before .before .before .before .before .before .before .before .before .before .before .before .before .before .before .before .end-of .result) (c .before .before .before .before .before .before .before .before .before .before .before .before .before .before .before .before .before .before .before .before .before .before .before .before .before .before .end-of .ensures .is) (c .before .before .before .before .before .before .before .before .before .before .before .before .before .before .before .before .before .before .before .before .before .before .before .before .before .kind-of .result) (c .before .before .before .before .before .before .before .before .before .before .before .before .before .before .before .before .before .before .before .before .before .before .before .before .relation-of .result) (c .before .before .before .before .before .before .before .before .before .before .before .before .before .before .before .before .before .before .before .before .before .before .before .a-of .result) (c .before .before .before .before .before .before .before .before .before .before .before .before .before .before .before .before .before .before .before .before .before .before .b-of .result) (c .before .before .before .before .before .before .before .before .before .before .before .before .before .before .before .before .before .before .before .before .before .before .before .before .before .kind-of .ensures) (c .before .before .before .before .before .before .before .before .before .before .before .before .before .before .before .before .before .before .before .before .before .before .before .before .relation-of .ensures) (c .before .before .before .before .before .before .before .before .before .before .before .before .before .before .before .before .before .before .before .before .before .before .before .a-of .ensures) (c .before .before .before .before .before .before .before .before .before .before .before .before .before .before .before .before .before .before .before .before .before .before .b-of .ensures) (c .before .before .before .before .before .before .before .before .before .before .before .before .before .before .before .before .before .child-depth .result) (c .before .before .before .before .before .before .before .before .before .before .before .before .before .fill-forest .result) (c .before .before .fill-forest2 .result) (c .before .before .before .before .before .before .before .before .before .before .before .before .before .before .before .before .before .child-depth .ensures) (c .before .before .before .before .before .before .before .before .before .before .before .before .before .before .before .before .before .before .before .before .start-cells .last .1 .1 .1 .1 .1 .1 .1 .1 .1 .0) (c .before .before .before .before .before .before .before .before .before .before .before .before .before .fill-forest .last .1 .1 .1 .1 .1 .1 .1 .1 .1 .1 .0) (c .before .before .before .before .before .before .before .merge .last .1 .1 .1 .1 .0) (c .before .before .fill-forest2 .last .1 .1 .1 .1 .1 .1 .1 .1 .1 .1 .0) (c .before .before .before .before .before .before .before .before .before .before .before .before .before .before .before .before .before .before .before .before .before .before .before .before .before .before .before .if1 .left) (c .before .before .before .before .before .before .before .before .before .before .before .before .before .before .before .before .before .before .before .before .start-cells .ensures) (c .before .before .before .before .before .before .before .before .before .before .before .before .before .fill-forest .ensures) (c .before .before .before .before .before .before .before .merge .ensures ∙ ap₂ (λ (j s : ℕ). merged j (c .before .before .before .before .before .before .before .before .before .before .before .before .before .before .before .before .before .before .before .before .before .before .before .before .before .before .before .before .before .before .before .args .over) s (c .before .before .before .before .before .before .before .before .before .before .before .before .before .before .before .before .before .before .before .before .before .before .before .before .before .before .before .before .before .before .before .args .at) (back (c .before .before .before .before .before .before .before .before .before .before .before .before .before .before .before .before .before .before .before .before .before .before .before .before .before .before .before .before .before .before .before .args .at) (back (c .before .before .before .before .before .before .before .before .before .before .before .before .before .before .before .before .before .before .before .before .before .before .before .before .before .before .before .before .before .before .before .args .at) (c .before .before .before .before .before .before .before .before .before .before .before .before .before .before .before .before .before .before .before .before .before .before .before .before .before .before .before .before .before .before .before .args .cells .now) (c .before .before .before .before .before .before .before .before .before .before .before .before .before .before .before .before .before .before .before .before .start-cells .last .1 .1 .1 .1 .1 .1 .1 .1 .1 .0)) (c .before .before .before .before .before .before .before .before .before .before .before .before .before .fill-forest .last .1 .1 .1 .1 .1 .1 .1 .1 .1 .1 .0))) (c .before .before .before .before .before .before .before .before .before .before .join-of .ensures) (c .before .before .before .before .before .before .before .before .before .spread-of .ensures)) (c .before .before .fill-forest2 .ensures)
+
+pub +fill-forest-spec : {M : Type 1} → statement M
++fill-forest-spec = close μ-fill-forest λ t. fill-forest-lts.spec (fill-forest-claims t)
+    (fill-forest-at t)
+    fill-forest.Post
+    (fill-forest-returns t)
+    (fill-forest-end-of-requires t)
+    (fill-forest-sub-span t)
+    (fill-forest-mul-span t)
+    (fill-forest-kind-of-requires t)
+    (fill-forest-relation-of-requires t)
+    (fill-forest-a-of-requires t)
+    (fill-forest-b-of-requires t)
+    (fill-forest-mul-start-cells t)
+    (fill-forest-sub-start-cells t)
+    (fill-forest-part-start-cells-start t)
+    (fill-forest-part-start-cells-end t)
+    (fill-forest-start-cells-requires t)
+    (fill-forest-child-depth-requires t)
+    (fill-forest-child-width-requires t)
+    (fill-forest-sub-fill-forest t)
+    (fill-forest-part-fill-forest-start t)
+    (fill-forest-part-fill-forest-end t)
+    (fill-forest-add-fill-forest t)
+    (fill-forest-mul-fill-forest t)
+    (fill-forest-sub-fill-forest-2 t)
+    (fill-forest-part-fill-forest-start-2 t)
+    (fill-forest-part-fill-forest-end-2 t)
+    (fill-forest-fill-forest-requires t)
+    (fill-forest-join-of-requires t)
+    (fill-forest-spread-of-requires t)
+    (fill-forest-merge-requires t)
+    (fill-forest-sub-fill-forest-3 t)
+    (fill-forest-part-fill-forest-start-3 t)
+    (fill-forest-part-fill-forest-end-3 t)
+    (fill-forest-add-fill-forest-2 t)
+    (fill-forest-fill-forest-requires-2 t)
+    (fill-forest-same-length t)
+    (fill-forest-returns-2 t)

@@ -1,0 +1,104 @@
+-- What filling the cells of some trees asks and gives: internal to the crate.
+use mathlib.Core.Path.{_≡_}
+use mathlib.Core.Bool.{true}
+use mathlib.Core.List.{List, [], _∷_, _++_}
+use Prim.Native.Nat.{ℕ, _+_, _*_, _^_, _≤_}
+use lib.ListN.{length, getD, take, drop}
+use Rattle.logic.specs.Formula.{Node, root, all, any, and, or, lit, Forest, none, tree, Plan, kindNumber, nodeCount, childDepth}
+use Rattle.logic.specs.Configuration.{Configuration, configuration, inMasks, ownMasks, spelled, allWithin}
+use Rattle.logic.specs.Truth.{Tuple}
+use Rattle.logic.specs.Penalty.{literalPenalty, below, penalty}
+use Rattle.logic.specs.Cells.{cellCount, tupleAt, tabulate, layout, ownCells, cells as planCells}
+use Rattle.table_format.specs.Bytes.{recordLength, nodeOf, records}
+use Rattle.table_format.specs.Rules.{everyNode, nodeRule}
+use Rattle.table_format.specs.Decode.{sound, decode}
+use Rattle.table_format.specs.inner.Tests.{fieldRule}
+use Rattle.cells_join.specs.inner.Joined.{unitOf, joinAll, joinOf}
+
+-- A cell before anything below it is joined to it.
+unfoldable pub startCell : Configuration → Node → Tuple → ℕ
+startCell k root e = unitOf (joinOf 0)
+startCell k all e = unitOf (joinOf 1)
+startCell k any e = unitOf (joinOf 2)
+startCell k and e = unitOf (joinOf 3)
+startCell k or e = unitOf (joinOf 4)
+startCell k (lit l) e = literalPenalty k l e
+
+-- The numbers directly below a cell, tree after tree.
+unfoldable pub treewise : ℕ → Configuration → Node → Forest → Tuple → List ℕ
+treewise u k n none e = []
+treewise u k n (tree m c s) e = below u n e (λ x. penalty u k m c x ∷ []) ++ treewise u k n s e
+
+abbrev pub config : ℕ → List ℕ → Configuration
+config u masks = configuration u (inMasks masks)
+
+-- The cells of a forest's nodes.
+unfoldable pub table : ℕ → Configuration → Forest → ℕ → List ℕ
+table u k f d = layout u (λ n c b i e. penalty u k n c e) f 0 d
+
+-- A record's own cells are begun.
+pub record StartPlaced (kind relation a b sets ports depth width : ℕ) (masks cells : List ℕ) : Type 0 where
+  pub fields : fieldRule sets depth kind relation a b ≡ true
+  pub ports1 : 1 ≤ ports
+  pub ports64 : ports ≤ 64
+  pub depth3 : depth ≤ 3
+  pub width-is : width ≡ ports ^ depth
+  pub room : width ≤ length cells
+  pub sets-masks : sets ≤ length masks
+  pub within : allWithin ports masks ≡ true
+
+unfoldable pub started : ℕ → ℕ → ℕ → ℕ → ℕ → ℕ → ℕ → List ℕ → List ℕ → List ℕ
+started kind relation a b ports depth width masks cells =
+    tabulate width (λ t. startCell (config ports masks) (nodeOf kind relation a b) (tupleAt ports depth t)) ++ drop width cells
+
+-- Where the records of some trees stand below a node `parent`, and their cells from place `at` on; the first `over` cells are
+-- the parent's.
+pub record FillPlaced (l : List ℕ) (i above ports sets depth width over at : ℕ) (masks cells : List ℕ) : Type 0 where
+  pub parent : Node
+  pub outer : ℕ
+  pub forest : Forest
+  pub up : ℕ
+  pub kind-is : kindNumber parent ≡ above
+  pub depth-is : depth ≡ childDepth parent outer
+  pub over-is : over ≡ ports ^ outer
+  pub width-is : width ≡ ports ^ depth
+  pub is : l ≡ records forest i up
+  pub rules : everyNode (nodeRule sets) forest depth ≡ true
+  pub few : cellCount ports forest 0 ≤ 1048576
+  pub nodes : recordLength * i + length l ≤ recordLength * 512
+  pub ports1 : 1 ≤ ports
+  pub ports64 : ports ≤ 64
+  pub depth4 : depth ≤ 4
+  pub sets-masks : sets ≤ length masks
+  pub within : allWithin ports masks ≡ true
+  pub after : over ≤ at
+  pub room : at + cellCount ports forest depth ≤ length cells
+
+-- The cells afterwards: the parent's joined with those of the trees, what stood between as it was, the trees' own, and the rest
+-- as it was.
+pub record Filled (above ports depth over at outer : ℕ) (n : Node) (f : Forest) (masks before after : List ℕ) (r : ℕ) : Type 0 where
+  pub ends-at : r ≡ at + cellCount ports f depth
+  pub cells-are : (A G X R : List ℕ) → before ≡ A ++ (G ++ (X ++ R)) → length A ≡ over → length A + length G ≡ at → length X ≡ cellCount ports f depth
+      → after ≡ tabulate over (λ t. joinAll (joinOf above) (getD A t 0) (treewise ports (config ports masks) n f (tupleAt ports outer t)))
+      ++ (G ++ (table ports (config ports masks) f depth ++ R))
+
+unfoldable pub Fills : List ℕ → ℕ → ℕ → ℕ → ℕ → ℕ → ℕ → List ℕ → List ℕ → List ℕ → ℕ → Type 0
+Fills l i above ports depth over at masks before after r =
+    (n : Node) (outer : ℕ) (f : Forest) (up : ℕ) → kindNumber n ≡ above → depth ≡ childDepth n outer → over ≡ ports ^ outer → l ≡ records f i up
+    → Filled above ports depth over at outer n f masks before after r
+
+-- A table that passed its check, masks within the ports and room for every cell.
+pub record FillReady (bytes : List ℕ) (ports sets nodes : ℕ) (masks cells : List ℕ) : Type 0 where
+  pub plan : Plan
+  pub decodes : decode bytes ≡ sound plan
+  pub ports-are : ports ≡ plan .ports
+  pub sets-are : sets ≡ plan .sets
+  pub nodes-are : nodes ≡ nodeCount (plan .formula)
+  pub own-masks : sets ≤ length masks
+  pub within : allWithin ports (take sets masks) ≡ true
+  pub own-cells : ownCells plan ≤ length cells
+
+-- Every cell is Definition 5's penalty under the plan's own masks, and the rest is as it was.
+unfoldable pub FillsPlan : List ℕ → List ℕ → List ℕ → List ℕ → Type 0
+FillsPlan bytes masks before after =
+    (P : Plan) → decode bytes ≡ sound P → after ≡ planCells P (spelled P (take (ownMasks P) masks)) ++ drop (ownCells P) before

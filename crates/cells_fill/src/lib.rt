@@ -1,0 +1,141 @@
+// Fills every cell of a plan, by recursion over its records. Paper 01, section Penalty.
+use cells_join::join_of;
+use cells_join::merge;
+use cells_join::put_unit;
+use cells_join::spread_of;
+use cells_literals::put_literal;
+use table_format::HEADER;
+use table_format::RECORD;
+use table_format::a_of;
+use table_format::b_of;
+use table_format::end_of;
+use table_format::kind_of;
+use table_format::relation_of;
+use table_rules::child_depth;
+use table_rules::child_width;
+ghost use mathlib.Core.Path.{_≡_};
+ghost use Rattle.cells_fill.specs.inner.Fill.{StartPlaced, started, FillPlaced, Fills, FillReady, FillsPlan};
+
+// Begins a node's own cells: a literal's penalties, or the join of nothing.
+fn start_cells(
+    kind: u8,
+    relation: u8,
+    a: u8,
+    b: u8,
+    sets: usize,
+    ports: usize,
+    depth: usize,
+    width: usize,
+    masks: &[u64],
+    cells: &mut [u32],
+)
+    requires { ⌜ StartPlaced kind relation a b sets ports depth width (now masks) (now cells) ⌝ }
+    ensures { λ _. ⌜ now (cells .exit) ≡ started kind relation a b ports depth width (now (masks .entry)) (now (cells .entry)) ⌝ }
+{
+    if 5 <= kind {
+        put_literal(
+            kind,
+            relation,
+            a,
+            b,
+            sets,
+            ports,
+            depth,
+            width,
+            masks,
+            cells,
+        );
+        return;
+    }
+    put_unit(join_of(kind), width, cells);
+}
+
+// Fills the cells of some trees and joins them to the cells of the node above; says where they end. The part gets shorter at
+// each call: first the children of the first tree, which fill what is joined to its own cells, then its later siblings.
+fn fill_forest(
+    part: &[u8],
+    i: usize,
+    above: u8,
+    ports: usize,
+    sets: usize,
+    depth: usize,
+    width: usize,
+    over: usize,
+    at: usize,
+    masks: &[u64],
+    cells: &mut [u32],
+) -> usize
+    requires { ⌜ FillPlaced (now part) i above ports sets depth width over at (now masks) (now cells) ⌝ }
+    ensures { λ r. ⌜ Fills (now (part .entry)) i above ports depth over at (now (masks .entry)) (now (cells .entry)) (now (cells .exit)) r ⌝ }
+{
+    if part.len() < RECORD {
+        return at;
+    }
+    let end = end_of(part);
+    let span = RECORD * (end - i);
+    let kind = kind_of(part);
+    start_cells(
+        kind,
+        relation_of(part),
+        a_of(part),
+        b_of(part),
+        sets,
+        ports,
+        depth,
+        width,
+        masks,
+        &mut cells[at..],
+    );
+    let below = child_depth(kind, depth);
+    let wider = child_width(kind, width, ports);
+    let n = fill_forest(
+        &part[RECORD..span],
+        i + 1,
+        kind,
+        ports,
+        sets,
+        below,
+        wider,
+        width,
+        width,
+        masks,
+        &mut cells[at..],
+    );
+    merge(join_of(above), over, spread_of(above, ports), at, cells);
+    fill_forest(
+        &part[span..],
+        end,
+        above,
+        ports,
+        sets,
+        depth,
+        width,
+        over,
+        at + n,
+        masks,
+        cells,
+    )
+}
+
+// Fills every cell of a plan, whose table and masks are sound: the root's cell, then what stands below it.
+pub fn fill(table: &[u8], ports: usize, sets: usize, nodes: usize, masks: &[u64], cells: &mut [u32])
+    requires { ⌜ FillReady (now table) ports sets nodes (now masks) (now cells) ⌝ }
+    ensures { λ _. ⌜ FillsPlan (now (table .entry)) (now (masks .entry)) (now (cells .entry)) (now (cells .exit)) ⌝ }
+{
+    let from = HEADER + RECORD;
+    let last = HEADER + RECORD * nodes;
+    put_unit(1, 1, cells);
+    fill_forest(
+        &table[from..last],
+        1,
+        0,
+        ports,
+        sets,
+        0,
+        1,
+        1,
+        1,
+        &masks[0..sets],
+        cells,
+    );
+}

@@ -1,0 +1,27 @@
+use native.Mathlib.Omega.{arith}
+use borrow.Author.Tests.{eq-eqb, ne-eqb}
+use borrow.Author.Needs.{needs}
+use Rattle.cells_join.specs.inner.Joined.{meet}
+use Rattle.cells_join.proofs.meet_of.Statement.{statement}
+use Rattle.cells_join.proofs.meet_of.Tie as tie
+
+wrapping-add-u32-requires : tie.Need-wrapping-add-u32-requires
+wrapping-add-u32-requires c κs = search needs
+
+returns : tie.Need-returns
+unfolding meet
+returns c =
+    rw (eq-eqb _ _ (c .before .if1 .taken)) (c .wrapping-add-u32 .ensures)
+
+returns-2 : tie.Need-returns-2
+unfolding meet
+returns-2 c =
+    rw (ne-eqb _ _ (c .before .if1 .left)) (omega arith)
+
+returns-3 : tie.Need-returns-3
+unfolding meet
+returns-3 c =
+    rw (ne-eqb _ _ (c .before .if1 .left)) (omega arith)
+
+pub meet-of-spec : {M : Type 1} → statement M
+meet-of-spec = tie.close (tie.spec wrapping-add-u32-requires returns returns-2 returns-3)

@@ -1,0 +1,144 @@
+-- A literal's penalty at the t-th tuple, by its kind, from the digits of t alone. Assumes nothing.
+use mathlib.Core.Path.{_≡_, refl, ap, _∙_}
+use mathlib.Core.Bool.{Bool, true, not, _&&_}
+use mathlib.Core.List.{List, _++_}
+use Prim.Native.Nat.{ℕ, zero, suc, _≤_, _<_}
+use native.Mathlib.Omega.{arith}
+use native.Mathlib.Decide.{decLe}
+use lib.Dec.{eqb, leb, ltb}
+use lib.ListN.{getD, drop}
+use borrow.Author.Tests.{eq-eqb, ne-eqb, le-leb, lt-leb, leb-true, ltb-true}
+use Rattle.logic.specs.Formula.{lit, relationOf}
+use Rattle.logic.specs.Configuration.{indicator, portsIn, inMask, configuration, inMasks}
+use Rattle.logic.specs.Truth.{portOf}
+use Rattle.logic.specs.Penalty.{compare, sizePenalty, literalPenalty}
+use Rattle.logic.specs.Cells.{tupleAt, tabulate}
+use Rattle.logic.proofs.Lists.{and-left, and-right}
+use Rattle.logic.proofs.Masks.{ports-within}
+use Rattle.logic.proofs.Tables.{tabulate-cong}
+use Rattle.table_format.specs.Bytes.{nodeOf}
+use Rattle.table_format.specs.inner.Tests.{fieldRule}
+use Rattle.cells_literals.specs.inner.Literal.{literalOf, LiteralPlaced}
+use Rattle.cells_runs.specs.inner.Ports.{blockOf, digitAt, memberPenalty, RunsPlaced, NestedPlaced, BlocksPlaced}
+use Rattle.cells_runs.proofs.Digits.{port-digit, block-pos, block-whole, block-nested, block-once}
+
+-- The literal of a literal's record is what the plan table decodes it to.
+pub literal-node : (kind r a b : ℕ) → 5 ≤ kind → nodeOf kind r a b ≡ lit (literalOf kind r a b)
+unfolding nodeOf literalOf
+literal-node zero r a b h = absurd (omega arith)
+literal-node (suc zero) r a b h = absurd (omega arith)
+literal-node (suc (suc zero)) r a b h = absurd (omega arith)
+literal-node (suc (suc (suc zero))) r a b h = absurd (omega arith)
+literal-node (suc (suc (suc (suc zero)))) r a b h = absurd (omega arith)
+literal-node (suc (suc (suc (suc (suc zero))))) r a b h = refl
+literal-node (suc (suc (suc (suc (suc (suc zero)))))) r a b h = refl
+literal-node (suc (suc (suc (suc (suc (suc (suc zero))))))) r a b h = refl
+literal-node (suc (suc (suc (suc (suc (suc (suc (suc k)))))))) r a b h =
+    let n = suc (suc (suc (suc (suc (suc (suc (suc k))))))) in
+    rw (ne-eqb n 5 (λ e. omega arith), ne-eqb n 6 (λ e. omega arith), ne-eqb n 7 (λ e. omega arith))
+
+last-two : (x y z : Bool) → (x && y && z) ≡ true → (y ≡ true) × (z ≡ true)
+last-two x y z h = (and-right x y (and-left (x && y) z h), and-right (x && y) z h)
+
+module _ {sets kind r a b ports depth width : ℕ} {masks cells : List ℕ} (p : LiteralPlaced sets kind r a b ports depth width masks cells) where
+  -- The literal's penalty at the t-th tuple.
+  abbrev penaltyAt : ℕ → ℕ
+  penaltyAt t = literalPenalty (configuration ports (inMasks masks)) (literalOf kind r a b) (tupleAt ports depth t)
+
+  -- what a record's fields are, by its kind
+  pub member-fields : kind ≤ 6 → (a < depth) × (b < sets)
+  unfolding fieldRule
+  member-fields h =
+      let t = last-two (eqb r 0) (ltb a depth) (ltb b sets)
+      (rw (ne-eqb kind 0 (λ e. omega (arith, p .kind5)), lt-leb kind 4 (omega (arith, p .kind5)), le-leb kind 6 h) at (p .fields)) in
+      (ltb-true a depth (t .0), ltb-true b sets (t .1))
+
+  pub port-fields : kind ≡ 7 → (a < depth) × (b < depth)
+  unfolding fieldRule
+  port-fields h =
+      let t = last-two (leb r 5) (ltb a depth) (ltb b depth)
+      (rw (ne-eqb kind 0 (λ e. omega arith), lt-leb kind 4 (omega arith), lt-leb kind 6 (omega arith), eq-eqb kind 7 h) at (p .fields)) in
+      (ltb-true a depth (t .0), ltb-true b depth (t .1))
+
+  pub size-fields : kind ≡ 8 → (a < sets) × (b ≤ 64)
+  unfolding fieldRule
+  size-fields h =
+      let t = last-two (leb r 5) (ltb a sets) (leb b 64)
+      (rw (ne-eqb kind 0 (λ e. omega arith), lt-leb kind 4 (omega arith), lt-leb kind 6 (omega arith), ne-eqb kind 7 (λ e. omega arith), eq-eqb kind 8 h) at (p .fields)) in
+      (ltb-true a sets (t .0), leb-true b 64 (t .1))
+
+  pub runs : (v block : ℕ) → v < depth → block ≡ blockOf ports depth v → RunsPlaced ports block width cells
+  runs v block h e = record {
+    ports1 = p .ports1;
+    ports64 = p .ports64;
+    block1 = rw e (block-pos ports depth v (p .ports1));
+    whole = rw (e, p .width-is) (block-whole ports depth v h);
+    room = p .room;
+  }
+
+  -- Of two variables that with the larger block is the outer.
+  nested : (v w : ℕ) → v < depth → w < depth → blockOf ports depth w < blockOf ports depth v → NestedPlaced ports (blockOf ports depth v) (blockOf ports depth w) width cells
+  nested v w h k l = record {
+    ports1 = p .ports1;
+    ports64 = p .ports64;
+    block1 = block-pos ports depth v (p .ports1);
+    other1 = block-pos ports depth w (p .ports1);
+    nested = block-nested ports depth v w (p .ports1) l;
+    once = rw (p .width-is) (block-once ports depth v (p .ports1) h);
+    room = p .room;
+  }
+
+  pub blocks : (block other : ℕ) → a < depth → b < depth → block ≡ blockOf ports depth a → other ≡ blockOf ports depth b → BlocksPlaced ports block other width cells
+  blocks block other h k e f = rw (e, f) (record { first-outer = nested a b h k; second-outer = nested b a k h; room = p .room })
+
+  -- it, from the digits of t, by the kind
+  member-at : kind ≤ 6 → (t : ℕ)
+      → memberPenalty kind (inMask (getD masks b 0) (digitAt ports (blockOf ports depth a) t))
+      ≡ penaltyAt t
+  unfolding memberPenalty literalOf literalPenalty configuration inMasks
+  member-at h t = rw (← port-digit ports depth a t (member-fields h .0)) (go (decLe kind 5))
+    where
+      go : Dec (kind ≤ 5)
+          → memberPenalty kind (inMask (getD masks b 0) (portOf (tupleAt ports depth t) a))
+          ≡ penaltyAt t
+      go (yes l) = rw (eq-eqb kind 5 (omega (arith, p .kind5)))
+      go (no l) = rw (ne-eqb kind 5 (λ e. omega arith), eq-eqb kind 6 (omega arith))
+
+  port-at : kind ≡ 7 → (t : ℕ)
+      → indicator (not (compare (relationOf r) (digitAt ports (blockOf ports depth a) t) (digitAt ports (blockOf ports depth b) t)))
+      ≡ penaltyAt t
+  unfolding literalOf literalPenalty
+  port-at h t =
+      rw (← port-digit ports depth a t (port-fields h .0), ← port-digit ports depth b t (port-fields h .1), ne-eqb kind 5 (λ e. omega arith), ne-eqb kind 6 (λ e. omega arith), eq-eqb kind 7 h)
+
+  size-at : kind ≡ 8 → (t : ℕ)
+      → sizePenalty (relationOf r) (portsIn 64 (inMask (getD masks a 0))) b
+      ≡ penaltyAt t
+  unfolding literalOf literalPenalty configuration inMasks
+  size-at h t =
+      rw (ne-eqb kind 5 (λ e. omega arith), ne-eqb kind 6 (λ e. omega arith), ne-eqb kind 7 (λ e. omega arith))
+      (ap (λ (s : ℕ). sizePenalty (relationOf r) s b) (ports-within ports 64 (getD masks a 0) (p .ports64) (p .within a (size-fields h .0))))
+
+  -- cells that hold these penalties are the literal's
+  literal-cells : (g : ℕ → ℕ) (after : List ℕ) → after ≡ tabulate width g ++ drop width cells
+      → ((t : ℕ) → g t ≡ penaltyAt t)
+      → after ≡ tabulate width penaltyAt ++ drop width cells
+  literal-cells g after e h = e ∙ ap (λ (l : List ℕ). l ++ drop width cells) (tabulate-cong width g _ (λ t l. h t))
+
+  pub member-cells : kind ≤ 6 → (mask block : ℕ) (after : List ℕ) → mask ≡ getD masks b 0 → block ≡ blockOf ports depth a
+      → after ≡ tabulate width (λ t. memberPenalty kind (inMask mask (digitAt ports block t))) ++ drop width cells
+      → after ≡ tabulate width penaltyAt ++ drop width cells
+  member-cells h mask block after m k e =
+      literal-cells (λ t. memberPenalty kind (inMask mask (digitAt ports block t))) after e (λ t. rw (m, k) (member-at h t))
+
+  pub port-cells : kind ≡ 7 → (block other : ℕ) (after : List ℕ) → block ≡ blockOf ports depth a → other ≡ blockOf ports depth b
+      → after ≡ tabulate width (λ t. indicator (not (compare (relationOf r) (digitAt ports block t) (digitAt ports other t)))) ++ drop width cells
+      → after ≡ tabulate width penaltyAt ++ drop width cells
+  port-cells h block other after k m e =
+      literal-cells (λ t. indicator (not (compare (relationOf r) (digitAt ports block t) (digitAt ports other t)))) after e (λ t. rw (k, m) (port-at h t))
+
+  pub size-cells : kind ≡ 8 → (mask : ℕ) (after : List ℕ) → mask ≡ getD masks a 0
+      → after ≡ tabulate width (λ _. sizePenalty (relationOf r) (portsIn 64 (inMask mask)) b) ++ drop width cells
+      → after ≡ tabulate width penaltyAt ++ drop width cells
+  size-cells h mask after m e =
+      literal-cells (λ _. sizePenalty (relationOf r) (portsIn 64 (inMask mask)) b) after e (λ t. rw m (size-at h t))

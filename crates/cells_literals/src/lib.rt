@@ -1,0 +1,65 @@
+// The cells of one literal of any kind, filled when a plan is loaded. Paper 01, sections Plan table and Penalty.
+use cells_compare::put_comparison;
+use cells_members::put_members;
+use cells_runs::block_of;
+use cells_runs::put_run;
+use logic::mask_size;
+use logic::size_penalty;
+use table_format::wide;
+ghost use mathlib.Core.Path.{_≡_};
+ghost use mathlib.Core.List.{_++_};
+ghost use Prim.Native.Nat.{_≤_, _<_};
+ghost use lib.ListN.{length, getD, drop};
+ghost use Rattle.logic.specs.Formula.{relationOf};
+ghost use Rattle.logic.specs.Configuration.{portsIn, inMask, configuration, inMasks};
+ghost use Rattle.logic.specs.Penalty.{sizePenalty, literalPenalty};
+ghost use Rattle.logic.specs.Cells.{tupleAt, tabulate};
+ghost use Rattle.cells_literals.specs.inner.Literal.{literalOf, LiteralPlaced};
+
+fn mask_at(masks: &[u64], set: usize) -> u64
+    requires { ⌜ set < length (now masks) ⌝ }
+    ensures { λ r. ⌜ r ≡ getD (now (masks .entry)) set 0 ⌝ }
+{
+    masks[set]
+}
+
+// The cells of kind 8: the same at every tuple.
+fn put_size(relation: u8, mask: u64, constant: u8, width: usize, cells: &mut [u32])
+    requires { ⌜ width ≤ length (now cells) ⌝ }
+    ensures { λ _. ⌜ now (cells .exit) ≡ tabulate width (λ _. sizePenalty (relationOf relation) (portsIn 64 (inMask mask)) constant) ++ drop width (now (cells .entry)) ⌝ }
+{
+    let value = size_penalty(relation, mask_size(mask), constant as u32);
+    put_run(0, width, value, cells);
+}
+
+// Fills the cells of a literal: the first `width`.
+pub fn put_literal(
+    kind: u8,
+    relation: u8,
+    a: u8,
+    b: u8,
+    sets: usize,
+    ports: usize,
+    depth: usize,
+    width: usize,
+    masks: &[u64],
+    cells: &mut [u32],
+)
+    requires { ⌜ LiteralPlaced sets kind relation a b ports depth width (now masks) (now cells) ⌝ }
+    ensures { λ _. ⌜ now (cells .exit) ≡ tabulate width (λ t. literalPenalty (configuration ports (inMasks (now (masks .entry)))) (literalOf kind relation a b) (tupleAt ports depth t)) ++ drop width (now (cells .entry)) ⌝ }
+{
+    let count = ports as u32;
+    if kind <= 6 {
+        let mask = mask_at(masks, wide(b));
+        let block = block_of(ports, depth, wide(a));
+        put_members(kind, mask, count, block, width, cells);
+        return;
+    }
+    if kind == 7 {
+        let block = block_of(ports, depth, wide(a));
+        let other = block_of(ports, depth, wide(b));
+        put_comparison(relation, count, block, other, width, cells);
+        return;
+    }
+    put_size(relation, mask_at(masks, wide(a)), b, width, cells);
+}

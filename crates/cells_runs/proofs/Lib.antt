@@ -1,0 +1,4 @@
+-- Laws.
+pub mod Digits
+pub mod Rounds
+pub mod Runs

@@ -1,0 +1,17 @@
+use mathlib.Core.Path.{refl}
+use Rattle.logic.specs.Configuration.{indicator}
+use Rattle.cells_sum.proofs.unless.Statement.{statement}
+use Rattle.cells_sum.proofs.unless.Tie as tie
+
+returns : tie.Need-returns
+unfolding indicator
+returns c =
+    rw (c .if1 .taken) refl
+
+returns-2 : tie.Need-returns-2
+unfolding indicator
+returns-2 c =
+    rw (c .if1 .left) refl
+
+pub unless-spec : {M : Type 1} → statement M
+unless-spec = tie.close (tie.spec returns returns-2)

@@ -1,0 +1,4 @@
+-- Laws.
+pub mod Bits
+pub mod Telling
+pub mod Touching

@@ -1,0 +1,44 @@
+-- The walk from the root of a plan that passed its check. Assumes nothing.
+use mathlib.Core.Path.{_≡_, subst}
+use mathlib.Core.List.{List, []}
+use Prim.Native.Nat.{ℕ}
+use Rattle.logic.specs.Formula.{root, none, tree, Plan}
+use Rattle.logic.specs.Configuration.{spelled}
+use Rattle.logic.specs.Change.{Change}
+use Rattle.table_format.proofs.Encoding.{decode-sound, one-plan}
+use Rattle.cells_touch.specs.declared.Changed.{Changed}
+use Rattle.cells_touch.specs.inner.Hits.{Says, firstWord}
+use Rattle.cells_sum.specs.declared.After.{After}
+use Rattle.cells_walk.specs.inner.Visit.{Visit}
+use Rattle.cells_walk.specs.inner.Root.{RootReady, RootAfter, RootGives}
+use Rattle.cells_walk.proofs.Rooting.{below-root, root-visit, root-after}
+use Rattle.cells_try.specs.inner.Walking.{Ready, CellReady, CellGives}
+
+module _ (u sets : ℕ) (c : Changed) (bytes firsts ends uses masks cells : List ℕ) (r : RootReady u sets c bytes firsts ends uses masks cells) where
+  -- under any change that is told so
+  abbrev ready-for : (ch : Change) → Says u ch c → Ready u sets c firsts ends uses masks cells ch
+  ready-for ch says = record { says = says; masks-settled = r .masks-settled; cells-fit = r .cells-fit; long = r .long }
+
+  abbrev visit-for : (ch : Change) → Says u ch c
+      → Visit u sets ch bytes firsts ends uses cells 0 (tree root (below-root (r .plan) bytes (r .decodes)) none) 0 0 [] 0 0 (firstWord c)
+  visit-for ch says = root-visit (r .plan) bytes (r .decodes) u (r .ports-are) sets (r .sets-are) c ch says firsts ends uses cells (r .indexed) (r .own-cells)
+
+  pub root-ready : (word : ℕ) → word ≡ firstWord c → CellReady u sets c bytes firsts ends uses masks cells 0 0 0 0 word
+  root-ready word h = record {
+    change = r .change;
+    node = root;
+    children = below-root (r .plan) bytes (r .decodes);
+    siblings = none;
+    first = 0;
+    tuple = [];
+    ready = ready-for (r .change) (r .says);
+    visit = rw h (visit-for (r .change) (r .says));
+  }
+
+  pub root-gives : (word : ℕ) (x : After) → word ≡ firstWord c → CellGives u sets c bytes firsts ends uses masks cells 0 0 0 0 word x → RootGives u c bytes masks cells x
+  unfolding RootGives CellGives spelled
+  root-gives word x h gives P ch d says =
+      let one : r .plan ≡ P = one-plan bytes (r .plan) P (decode-sound bytes (r .plan) (r .decodes)) (decode-sound bytes P d) in
+      subst (λ (Q : Plan). RootAfter Q ch masks cells x) one
+      (root-after (r .plan) bytes (r .decodes) ch masks cells x (r .own-cells)
+      (rw (r .ports-are) at (gives ch root (below-root (r .plan) bytes (r .decodes)) none 0 [] (ready-for ch says) (rw h (visit-for ch says)))))

@@ -1,0 +1,480 @@
+-- What the walk asks at each of its steps, and what follows from what the steps give. Assumes nothing.
+use mathlib.Core.Path.{_≡_, refl, sym, ap, ap₂, _∙_, subst}
+use mathlib.Core.Logic.{_≢_}
+use mathlib.Core.Bool.{Bool, true, false, cond, not, _&&_, _||_, true≢false}
+use mathlib.Core.List.{List, [], _∷_}
+use Prim.Native.Nat.{ℕ, zero, suc, _+_, _-_, _*_, _^_, _%_, _≤_, _<_}
+use native.Mathlib.Nat.{le-trans, pow-le-pow-left, pow-le-pow-right, zero-add, add-zero, mul-le-mul}
+use native.Mathlib.Numerals.{add-one}
+use native.Mathlib.Omega.{arith}
+use lib.Dec.{eqb, leb, ltb}
+use lib.ListN.{length, getD}
+use borrow.Author.Tests.{eqb-true}
+use Rattle.logic.specs.Formula.{Literal, isin, notin, port, size, Node, all, lit, Forest, none, tree, kindNumber, nodeCount, childDepth}
+use Rattle.logic.specs.inner.Literals.{Every, OfLiteral}
+use Rattle.logic.specs.Configuration.{Configuration, indicator, configuration, inMasks}
+use Rattle.logic.specs.Truth.{Tuple}
+use Rattle.logic.specs.Penalty.{eachPort, below, sum}
+use Rattle.logic.specs.Cells.{placeOf, siblingFirst}
+use Rattle.logic.specs.Change.{Change, touched, modulus, cellOf, renewals}
+use Rattle.logic.proofs.Bound.{LiteralsAtMost, literals-low, ports-in-le}
+use Rattle.logic.proofs.Tables.{place-lt}
+use Rattle.table_format.specs.Bytes.{headerLength, recordLength, kindField, relationField, aField, bField, relationByte, aByte, bByte}
+use Rattle.table_format.specs.Rules.{treeCount, arityRule}
+use Rattle.cells_touch.specs.declared.Changed.{Changed}
+use Rattle.cells_touch.specs.inner.Hits.{meets, restWord, portWord}
+use Rattle.cells_sum.specs.inner.Walk.{adds, begun, gathered, changes, Joined}
+use Rattle.cells_sum.specs.declared.After.{After}
+use Rattle.cells_sum.specs.declared.Sum.{Sum}
+use Rattle.cells_walk.specs.inner.Nodes.{recordAt, NodeIs, LiteralFits, NodeFits, Fitting}
+use Rattle.cells_walk.specs.inner.Visit.{Visit, CellsFit, CellAfter, PortsVisit, PortsAfter, LiteralAt, RecordReady, RecordAfresh, Afresh}
+use Rattle.cells_walk.proofs.KindOf.{adds-kind, Quantifier, Joint, quantifier-of, joint-of, literal-of}
+use Rattle.cells_walk.proofs.Steps.{packed-lt}
+use Rattle.cells_walk.proofs.Visits.{all-constants, node-here, fits-here, node-below, room-here, visit-next, visit-children, visit-ports, touched-here, port-visit, port-untouched}
+use Rattle.cells_walk.proofs.Ports.{Reached, reached-first, reached-next, reached-all}
+use Rattle.cells_walk.proofs.Outcomes.{begun-fits, untouched-after, literal-cell, inner-cell, trees-more, trees-none, one-tree, port-more, port-skipped, ports-none}
+use Rattle.cells_try.specs.inner.Walking.{Ready, CellReady, CellGives, TreesReady, TreesGive, PortsReady, PortsSo}
+
+width-low : (u d : ℕ) → u ≤ 64 → d ≤ 3 → u ^ d ≤ 262144
+width-low u d l e = le-trans (pow-le-pow-left l d) (pow-le-pow-right (omega arith) e)
+
+all-fit : (cells : List ℕ) → CellsFit cells → (j : ℕ) → getD cells j 0 < modulus
+unfolding CellsFit
+all-fit cells h j = h j
+
+-- a literal has no children
+pub no-children : (n : Node) (f : Forest) (l : Literal) → n ≡ lit l → arityRule (kindNumber n) (treeCount f) ≡ true → treeCount f ≡ 0
+unfolding arityRule kindNumber
+no-children n f l q h = go l (ap (λ (x : Node). arityRule (kindNumber x) (treeCount f)) (sym q) ∙ h)
+  where
+    go : (l : Literal) → arityRule (kindNumber (lit l)) (treeCount f) ≡ true → treeCount f ≡ 0
+    go (isin v S) k = eqb-true _ _ k
+    go (notin v S) k = eqb-true _ _ k
+    go (port r v w) k = eqb-true _ _ k
+    go (size r S c) k = eqb-true _ _ k
+
+zero-few : (x : ℕ) → x ≡ 0 → x < modulus
+unfolding modulus
+zero-few x h = omega arith
+
+pub rest-few : (x y : ℕ) → x ≡ y % modulus → x < modulus
+unfolding modulus
+rest-few x y h = omega arith
+
+pub times-fits : (x y : ℕ) → (x < 262144) × (y ≤ 64) → x * y < 18446744073709551616
+times-fits x y h =
+    let l : x ≤ 262144 = omega (arith, h .0) in
+    let p : x * y ≤ 262144 * 64 = mul-le-mul l (h .1) in
+    omega arith
+
+one-sum : (x : ℕ) → 0 + x ≡ sum (x ∷ [])
+unfolding sum
+one-sum x = omega arith
+
+first-tree : (f : Forest) (d sets : ℕ) → treeCount f ≡ 1 → Fitting sets f d → d ≤ 3
+unfolding treeCount Fitting Every
+first-tree none d sets h v = absurd (omega arith)
+first-tree (tree n c s) d sets h v = v .0 .depth3
+
+module _ (u sets : ℕ) (c : Changed) (bytes firsts ends uses masks cells : List ℕ) where
+  abbrev after : Configuration
+  after = configuration u (inMasks masks)
+
+  abbrev Standing : Change → ℕ → Forest → ℕ → ℕ → Tuple → ℕ → ℕ → ℕ → Type 0
+  Standing ch i f b d e place digits word = Visit u sets ch bytes firsts ends uses cells i f b d e place digits word
+
+  cells-low : CellsFit cells → (b : ℕ) (e : Tuple) → cellOf u cells b e < modulus
+  unfolding cellOf CellsFit
+  cells-low h b e = h (b + placeOf u e)
+
+  module _ (i d place digits word : ℕ) where
+    -- what a visited cell says of itself
+    module _ (ch : Change) (n : Node) (f s : Forest) (b : ℕ) (e : Tuple) (ready : Ready u sets c firsts ends uses masks cells ch)
+        (v : Standing ch i (tree n f s) b d e place digits word) where
+      pub here : NodeIs bytes firsts ends uses i n f b
+      here = node-here u sets ch bytes firsts ends uses cells i n f s b d e place digits word v
+
+      pub fits : NodeFits sets n f d
+      fits = fits-here u sets ch bytes firsts ends uses cells i n f s b d e place digits word v
+
+      old-here : (old : ℕ) → old ≡ getD cells (getD firsts i 0 + place) 0 → old ≡ cellOf u cells b e
+      unfolding cellOf
+      old-here old h = h ∙ ap₂ (λ (x y : ℕ). getD cells (x + y) 0) (here .first-is) (v .place-is)
+
+      pub touched-is : (used : ℕ) (x : Bool) → used ≡ getD uses i 0 → meets used word ≡ x → touched ch n f e ≡ x
+      touched-is used x h m =
+          touched-here u sets ch bytes firsts ends uses cells i n f s b d e place digits word v (ready .masks-settled .sets16) ∙ ap (λ (y : ℕ). meets y word) (sym h) ∙ m
+
+      literals : LiteralsAtMost 65 after f (childDepth n d)
+      unfolding Fitting Every configuration
+      literals = literals-low after (λ S. le-trans (ports-in-le u (inMasks masks S)) (ready .masks-settled .ports64)) f (childDepth n d) (all-constants sets f (childDepth n d) (v .fitting .1))
+
+      place-fits : place < 262144
+      place-fits =
+          omega (arith, v .place-is, place-lt u (ready .masks-settled .ports1) (v .tuple), width-low u d (ready .masks-settled .ports64) (fits .depth3))
+
+      -- the children of a quantifier, and of another inner node
+      pub ports-here : (used : ℕ) → used ≡ getD uses i 0 → Quantifier n
+          → PortsVisit u sets ch bytes firsts ends uses cells (i + 1) f (b + u ^ d) d e (place * u) digits word used
+      unfolding Fitting Every
+      ports-here used h q =
+          let low : suc d ≤ 3 = first-tree f (suc d) sets (q .one (treeCount f) (fits .children)) (subst (λ (x : ℕ). Every (NodeFits sets) f x) (q .deeper d) (v .fitting .1)) in
+          rw (add-one i, h) (visit-ports u sets ch bytes firsts ends uses cells i n f s b d e place digits word v (q .deeper d) (q .no-uses) low (q .one (treeCount f) (fits .children)))
+
+      pub trees-here : Joint n → Standing ch (i + 1) f (b + u ^ d) d e place digits word
+      trees-here q = rw (add-one i) (visit-children u sets ch bytes firsts ends uses cells i n f s b d e place digits word v (q .level d))
+
+      pub end-here : (end : ℕ) → end ≡ getD ends i 0 → end ≡ i + 1 + nodeCount f
+      end-here end h = h ∙ here .end-is ∙ (let w : i + suc (nodeCount f) ≡ i + 1 + nodeCount f = omega arith in w)
+
+      -- a literal's record
+      literal-here : (l : Literal) → n ≡ lit l → LiteralAt u sets d (kindField (recordAt bytes i)) (relationField (recordAt bytes i)) (aField (recordAt bytes i)) (bField (recordAt bytes i)) masks digits l e
+      unfolding OfLiteral
+      literal-here l q = record {
+        kind-is = here .kind-is ∙ ap kindNumber q;
+        relation-is = here .relation-is ∙ ap relationByte q;
+        a-is = here .a-is ∙ ap aByte q;
+        b-is = here .b-is ∙ ap bByte q;
+        fits = subst (OfLiteral (LiteralFits sets d)) q (fits .literal);
+        depth3 = fits .depth3;
+        tuple = v .tuple;
+        digits-are = v .digits-are;
+      }
+
+    -- what the steps at a cell ask
+    module _ (r : CellReady u sets c bytes firsts ends uses masks cells i d place digits word) where
+      abbrev node-ready : NodeIs bytes firsts ends uses i (r .node) (r .children) (r .first)
+      node-ready = here (r .change) (r .node) (r .children) (r .siblings) (r .first) (r .tuple) (r .ready) (r .visit)
+
+      pub node-low : i < 512
+      node-low = node-below u sets (r .change) bytes firsts ends uses cells i (r .node) (r .children) (r .siblings) (r .first) d (r .tuple) place digits word (r .visit)
+
+      pub firsts-room : i < length firsts
+      firsts-room = omega (arith, node-low, r .ready .long .firsts-long)
+
+      pub ends-room : i < length ends
+      ends-room = omega (arith, node-low, r .ready .long .ends-long)
+
+      pub uses-room : i < length uses
+      uses-room = omega (arith, node-low, r .ready .long .uses-long)
+
+      pub cell-room : getD firsts i 0 + place < length cells
+      cell-room = room-here u sets (r .change) bytes firsts ends uses cells i (r .node) (r .children) (r .siblings) (r .first) d (r .tuple) place digits word (r .visit) (r .ready .masks-settled .ports1)
+
+      pub record-room : headerLength + recordLength * i + recordLength ≤ length bytes
+      record-room = node-ready .whole
+
+      pub place-low : (place < 262144) × (u ≤ 64)
+      place-low = (place-fits (r .change) (r .node) (r .children) (r .siblings) (r .first) (r .tuple) (r .ready) (r .visit), r .ready .masks-settled .ports64)
+
+      pub literal-ready : (kind : ℕ) → kind ≡ kindField (recordAt bytes i) → 5 ≤ kind → RecordReady u sets d bytes i masks digits
+      literal-ready kind q h =
+          let l = literal-of (r .node) kind (q ∙ node-ready .kind-is) h in
+          record {
+            whole = record-room;
+            literal = record {
+              literal = l .0;
+              ports = r .tuple;
+              at = literal-here (r .change) (r .node) (r .children) (r .siblings) (r .first) (r .tuple) (r .ready) (r .visit) (l .0) (l .1);
+              settled = r .ready .masks-settled;
+            };
+          }
+
+      module _ (old used kind end : ℕ) (add : Bool) (start : Sum) (o : old ≡ getD cells (getD firsts i 0 + place) 0) (us : used ≡ getD uses i 0)
+          (kd : kind ≡ kindField (recordAt bytes i)) (en : end ≡ getD ends i 0) (ad : add ≡ eqb (kind % 2) 1) (st : (start .value ≡ begun add old) × (start .changed ≡ 0)) where
+        pub ports-ready : (leb 1 kind && leb kind 2) ≡ true → PortsReady u sets c bytes firsts ends uses masks cells (i + 1) d (place * u) digits word used start
+        ports-ready h = record {
+          change = r .change;
+          forest = r .children;
+          first = r .first + u ^ d;
+          tuple = r .tuple;
+          ready = r .ready;
+          visit = ports-here (r .change) (r .node) (r .children) (r .siblings) (r .first) (r .tuple) (r .ready) (r .visit) used us
+              (quantifier-of (r .node) kind (kd ∙ node-ready .kind-is) h);
+          few = zero-few (start .changed) (st .1);
+          low = rw (st .0) (begun-fits add old (rw o (all-fit cells (r .ready .cells-fit) (getD firsts i 0 + place))));
+        }
+
+        pub trees-ready : kind < 5 → (leb 1 kind && leb kind 2) ≡ false → TreesReady u sets c bytes firsts ends uses masks cells (i + 1) end d place digits word start
+        trees-ready l h = record {
+          change = r .change;
+          forest = r .children;
+          first = r .first + u ^ d;
+          tuple = r .tuple;
+          ready = r .ready;
+          visit = trees-here (r .change) (r .node) (r .children) (r .siblings) (r .first) (r .tuple) (r .ready) (r .visit)
+              (joint-of (r .node) kind (kd ∙ node-ready .kind-is) l h);
+          ends-at = end-here (r .change) (r .node) (r .children) (r .siblings) (r .first) (r .tuple) (r .ready) (r .visit) end en;
+          few = zero-few (start .changed) (st .1);
+        }
+
+    -- what the steps at a cell come to
+    module _ (old used : ℕ) (o : old ≡ getD cells (getD firsts i 0 + place) 0) (us : used ≡ getD uses i 0) where
+      pub gives-untouched : (r : After) → meets used word ≡ false → r .old ≡ old → r .value ≡ old → r .changed ≡ 0
+          → CellGives u sets c bytes firsts ends uses masks cells i d place digits word r
+      unfolding CellGives
+      gives-untouched r m ro rv rc ch n f s b e ready v =
+          untouched-after u after ch (cellOf u cells) n f b d e r (touched-is ch n f s b e ready v used false us m) (ro ∙ old-here ch n f s b e ready v old o) (rv ∙ sym ro) rc
+
+      gives-lit : (used′ value : ℕ) (r : After) → used′ ≡ getD uses i 0 → meets used′ word ≡ true → RecordAfresh u sets d bytes i masks digits value
+          → (r .old ≡ old) × (r .value ≡ value) × (r .changed ≡ (indicator (not (eqb value old)) + 0) % 4294967296)
+          → (ch : Change) (n : Node) (f s : Forest) (b : ℕ) (e : Tuple) (ready : Ready u sets c firsts ends uses masks cells ch)
+          (v : Standing ch i (tree n f s) b d e place digits word) (l : Literal) → n ≡ lit l → CellAfter u after ch (cellOf u cells) n f b d e r
+      unfolding RecordAfresh Afresh modulus
+      gives-lit used′ value r us′ m fresh cl ch n f s b e ready v l q =
+          subst (λ (x : Node). CellAfter u after ch (cellOf u cells) x f b d e r) (sym q)
+          (literal-cell u after ch (cellOf u cells) l f b d e r (ap (λ (x : Node). touched ch x f e) (sym q) ∙ touched-is ch n f s b e ready v used′ true us′ m)
+          (no-children n f l q (fits ch n f s b e ready v .children)) (cl .0 ∙ old-here ch n f s b e ready v old o)
+          (cl .1 ∙ fresh l e (literal-here ch n f s b e ready v l q))
+          (cl .2 ∙ ap₂ (λ (x y : ℕ). (indicator (not (eqb x y)) + 0) % 4294967296) (sym (cl .1)) (sym (cl .0))))
+
+      module _ (kind : ℕ) (m : meets used word ≡ true) (kd : kind ≡ kindField (recordAt bytes i)) where
+        pub gives-literal : (value : ℕ) (r : After) → 5 ≤ kind → RecordAfresh u sets d bytes i masks digits value
+            → (r .old ≡ old) × (r .value ≡ value) × (r .changed ≡ (indicator (not (eqb value old)) + 0) % 4294967296)
+            → CellGives u sets c bytes firsts ends uses masks cells i d place digits word r
+        unfolding CellGives
+        gives-literal value r h fresh cl ch n f s b e ready v =
+            let l = literal-of n kind (kd ∙ here ch n f s b e ready v .kind-is) h in
+            gives-lit used value r us m fresh cl ch n f s b e ready v (l .0) (l .1)
+
+        module _ (end : ℕ) (add : Bool) (start sums : Sum) (r : After) (en : end ≡ getD ends i 0) (ad : add ≡ eqb (kind % 2) 1) (few : kind < 5)
+            (st : (start .value ≡ begun add old) × (start .changed ≡ 0))
+            (cl : (r .old ≡ old) × (r .value ≡ sums .value) × (r .changed ≡ (indicator (not (eqb (sums .value) old)) + sums .changed) % 4294967296)) where
+          pub gives-ports : (leb 1 kind && leb kind 2) ≡ true
+              → PortsSo u sets c bytes firsts ends uses masks cells (i + 1) d (place * u) digits word used add u start sums
+              → CellGives u sets c bytes firsts ends uses masks cells i d place digits word r
+          unfolding CellGives PortsSo modulus
+          gives-ports h so ch n f s b e ready v =
+              let q = quantifier-of n kind (kd ∙ here ch n f s b e ready v .kind-is) h in
+              let p = so ch f (b + u ^ d) e ready (ports-here ch n f s b e ready v used us q) in
+              let ol = old-here ch n f s b e ready v old o in
+              let an = ad ∙ adds-kind n kind (kd ∙ here ch n f s b e ready v .kind-is) few in
+              inner-cell u after ch (cellOf u cells) (ready .masks-settled .ports1) (cells-low (ready .cells-fit)) n f b d e r sums (literals ch n f s b e ready v) (q .inner)
+              (fits ch n f s b e ready v .children) (touched-is ch n f s b e ready v used true us m) (cl .0 ∙ ol)
+              (p .value-is ∙ ap₂ (λ (x : Bool) (y : ℕ). gathered x y (eachPort u (λ z. renewals u after ch (cellOf u cells) f (b + u ^ d) (suc d) (z ∷ e)))) an (st .0 ∙ ap₂ begun an ol)
+              ∙ ap (gathered (adds n) (begun (adds n) (cellOf u cells b e)))
+              (sym (q .renewed u e (renewals u after ch (cellOf u cells) f (b + u ^ d) (childDepth n d)) ∙ ap (λ (x : ℕ). eachPort u (λ z. renewals u after ch (cellOf u cells) f (b + u ^ d) x (z ∷ e))) (q .deeper d))))
+              (p .changed-is ∙ ap (λ (x : ℕ). (x + sum (eachPort u (λ z. changes u after ch (cellOf u cells) f (b + u ^ d) (suc d) (z ∷ e) ∷ []))) % 4294967296) (st .1)
+              ∙ ap (λ (x : ℕ). x % 4294967296) (zero-add _
+              ∙ ap sum (sym (q .counted u e (λ x. changes u after ch (cellOf u cells) f (b + u ^ d) (childDepth n d) x ∷ [])
+              ∙ ap (λ (x : ℕ). eachPort u (λ z. changes u after ch (cellOf u cells) f (b + u ^ d) x (z ∷ e) ∷ [])) (q .deeper d)))))
+              (cl .1) (cl .2 ∙ ap (λ (x : ℕ). (indicator (not (eqb (sums .value) x)) + sums .changed) % 4294967296) (sym (cl .0)))
+
+          pub gives-trees : (leb 1 kind && leb kind 2) ≡ false
+              → TreesGive u sets c bytes firsts ends uses masks cells (i + 1) end d place digits word add start sums
+              → CellGives u sets c bytes firsts ends uses masks cells i d place digits word r
+          unfolding CellGives TreesGive modulus
+          gives-trees h so ch n f s b e ready v =
+              let q = joint-of n kind (kd ∙ here ch n f s b e ready v .kind-is) few h in
+              let p = so ch f (b + u ^ d) e ready (trees-here ch n f s b e ready v q) (end-here ch n f s b e ready v end en) in
+              let ol = old-here ch n f s b e ready v old o in
+              let an = ad ∙ adds-kind n kind (kd ∙ here ch n f s b e ready v .kind-is) few in
+              inner-cell u after ch (cellOf u cells) (ready .masks-settled .ports1) (cells-low (ready .cells-fit)) n f b d e r sums (literals ch n f s b e ready v) (q .inner)
+              (fits ch n f s b e ready v .children) (touched-is ch n f s b e ready v used true us m) (cl .0 ∙ ol)
+              (p .value-is ∙ ap₂ (λ (x : Bool) (y : ℕ). gathered x y (renewals u after ch (cellOf u cells) f (b + u ^ d) d e)) an (st .0 ∙ ap₂ begun an ol)
+              ∙ ap (gathered (adds n) (begun (adds n) (cellOf u cells b e)))
+              (sym (q .renewed u e (renewals u after ch (cellOf u cells) f (b + u ^ d) (childDepth n d)) ∙ ap (λ (x : ℕ). renewals u after ch (cellOf u cells) f (b + u ^ d) x e) (q .level d))))
+              (p .changed-is ∙ ap (λ (x : ℕ). (x + changes u after ch (cellOf u cells) f (b + u ^ d) d e) % 4294967296) (st .1)
+              ∙ ap (λ (x : ℕ). x % 4294967296) (one-sum _
+              ∙ ap sum (sym (q .counted u e (λ x. changes u after ch (cellOf u cells) f (b + u ^ d) (childDepth n d) x ∷ [])
+              ∙ ap (λ (x : ℕ). changes u after ch (cellOf u cells) f (b + u ^ d) x e ∷ []) (q .level d)))))
+              (cl .1) (cl .2 ∙ ap (λ (x : ℕ). (indicator (not (eqb (sums .value) x)) + sums .changed) % 4294967296) (sym (cl .0)))
+
+  -- the trees of a forest
+  module _ (i until d place digits word : ℕ) where
+    abbrev Trees : Sum → Type 0
+    Trees acc = TreesReady u sets c bytes firsts ends uses masks cells i until d place digits word acc
+
+    pub none-left : (add : Bool) (acc : Sum) → Trees acc → until ≤ i → TreesGive u sets c bytes firsts ends uses masks cells i until d place digits word add acc acc
+    unfolding TreesGive nodeCount
+    none-left add acc r h ch none b e ready v q = trees-none u after ch (cellOf u cells) add b d e acc (r .few)
+    none-left add acc r h ch (tree n f s) b e ready v q = absurd (omega arith)
+
+    pub some-left : (acc : Sum) → Trees acc → i < until → CellReady u sets c bytes firsts ends uses masks cells i d place digits word
+    unfolding nodeCount
+    some-left acc r h = go (r .forest) (r .visit) (r .ends-at)
+      where
+        go : (f : Forest) → Standing (r .change) i f (r .first) d (r .tuple) place digits word → until ≡ i + nodeCount f
+            → CellReady u sets c bytes firsts ends uses masks cells i d place digits word
+        go none v q = absurd (omega arith)
+        go (tree n f s) v q = record {
+          change = r .change;
+          node = n;
+          children = f;
+          siblings = s;
+          first = r .first;
+          tuple = r .tuple;
+          ready = r .ready;
+          visit = v;
+        }
+
+    module _ (next : ℕ) (nx : next ≡ getD ends i 0) where
+      pub next-ready : (acc mid : Sum) → Trees acc → mid .changed < modulus → i < until → (i < next) × TreesReady u sets c bytes firsts ends uses masks cells next until d place digits word mid
+      unfolding nodeCount
+      next-ready acc mid r few h = go (r .forest) (r .visit) (r .ends-at)
+        where
+          go : (f : Forest) → Standing (r .change) i f (r .first) d (r .tuple) place digits word → until ≡ i + nodeCount f
+              → (i < next) × TreesReady u sets c bytes firsts ends uses masks cells next until d place digits word mid
+          go none v q = absurd (omega arith)
+          go (tree n f s) v q =
+              let at = here i d place digits word (r .change) n f s (r .first) (r .tuple) (r .ready) v .end-is in (
+                omega (arith, nx, at),
+                record {
+                  change = r .change;
+                  forest = s;
+                  first = siblingFirst u n f (r .first) d;
+                  tuple = r .tuple;
+                  ready = r .ready;
+                  visit = rw (nx ∙ at) (visit-next u sets (r .change) bytes firsts ends uses cells i n f s (r .first) d (r .tuple) place digits word v);
+                  ends-at = omega (arith, nx, at, q);
+                  few = few;
+                },
+              )
+
+      pub trees-give : (add : Bool) (acc mid r : Sum) (x : After) → i < until → CellGives u sets c bytes firsts ends uses masks cells i d place digits word x
+          → Joined add acc x mid → TreesGive u sets c bytes firsts ends uses masks cells next until d place digits word add mid r
+          → TreesGive u sets c bytes firsts ends uses masks cells i until d place digits word add acc r
+      unfolding TreesGive CellGives nodeCount
+      trees-give add acc mid r x h cell joined rest ch none b e ready v q = absurd (omega arith)
+      trees-give add acc mid r x h cell joined rest ch (tree n f s) b e ready v q =
+          let at = here i d place digits word ch n f s b e ready v .end-is in
+          trees-more u after ch (cellOf u cells) add n f s b d e acc mid r x (cell ch n f s b e ready v) joined
+          (rest ch s (siblingFirst u n f b d) e ready
+          (rw (nx ∙ at) (visit-next u sets ch bytes firsts ends uses cells i n f s b d e place digits word v)) (omega (arith, nx, at, q)))
+
+    -- a cell's outcome has gone into the sum or minimum so far
+    pub record Stepped (add : Bool) (acc mid : Sum) : Type 0 where
+      pub found : After
+      pub gives : CellGives u sets c bytes firsts ends uses masks cells i d place digits word found
+      pub joined : Joined add acc found mid
+
+  -- The walk over a forest's trees stands before node j: what the trees from there on come to, all of them come to.
+  pub record Onward (i until d place digits word : ℕ) (add : Bool) (acc : Sum) (j : ℕ) (sum : Sum) : Type 0 where
+    pub late : i ≤ j
+    pub ready : TreesReady u sets c bytes firsts ends uses masks cells j until d place digits word sum
+    pub so : (r : Sum) → TreesGive u sets c bytes firsts ends uses masks cells j until d place digits word add sum r
+        → TreesGive u sets c bytes firsts ends uses masks cells i until d place digits word add acc r
+
+  module _ (i until d place digits word : ℕ) (add : Bool) (acc : Sum) where
+    pub onward-first : TreesReady u sets c bytes firsts ends uses masks cells i until d place digits word acc
+        → Onward i until d place digits word add acc i acc
+    onward-first r = record { late = omega arith; ready = r; so = λ x h. h }
+
+    pub onward-next : (j next : ℕ) (sum mid : Sum) → Onward i until d place digits word add acc j sum → j < until → next ≡ getD ends j 0
+        → Stepped j until d place digits word add sum mid → (j < next) × Onward i until d place digits word add acc next mid
+    onward-next j next sum mid o l nx st =
+        let n = next-ready j until d place digits word next nx sum mid (o .ready) (rest-few (mid .changed) _ (st .joined .changed-is)) l in (
+          n .0,
+          record {
+            late = omega (arith, o .late, n .0);
+            ready = n .1;
+            so = λ r h. o .so r (trees-give j until d place digits word next nx add sum mid r (st .found) l (st .gives) (st .joined) h);
+          },
+        )
+
+    pub onward-last : (j : ℕ) (sum : Sum) → Onward i until d place digits word add acc j sum → until ≤ j
+        → TreesGive u sets c bytes firsts ends uses masks cells i until d place digits word add acc sum
+    onward-last j sum o h = o .so sum (none-left j until d place digits word add sum (o .ready) h)
+
+  -- the ports of a quantifier
+  module _ (i d row digits word used : ℕ) where
+    abbrev Ports : Sum → Type 0
+    Ports acc = PortsReady u sets c bytes firsts ends uses masks cells i d row digits word used acc
+
+    abbrev So : Bool → ℕ → Sum → Sum → Type 0
+    So add m acc r = PortsSo u sets c bytes firsts ends uses masks cells i d row digits word used add m acc r
+
+    pub port-ready : (acc : Sum) → Ports acc → (x digits′ word′ : ℕ) → x < u → digits′ ≡ digits + x * 256 ^ d → word′ ≡ portWord c word d x
+        → CellReady u sets c bytes firsts ends uses masks cells i (d + 1) (row + x) digits′ word′
+    unfolding treeCount
+    port-ready acc r x digits′ word′ l dg wd = go (r .forest) (r .visit)
+      where
+        go : (f : Forest) → PortsVisit u sets (r .change) bytes firsts ends uses cells i f (r .first) d (r .tuple) row digits word used
+            → CellReady u sets c bytes firsts ends uses masks cells i (d + 1) (row + x) digits′ word′
+        go none v = absurd (omega (arith, v .one))
+        go (tree n f s) v = record {
+          change = r .change;
+          node = n;
+          children = f;
+          siblings = s;
+          first = r .first;
+          tuple = x ∷ r .tuple;
+          ready = r .ready;
+          visit = rw (add-one d, dg, wd) (port-visit u sets (r .change) bytes firsts ends uses cells c (r .ready .says) i (tree n f s) (r .first) d (r .tuple) row digits word used x v l);
+        }
+
+    pub ports-begin : (add : Bool) (acc : Sum) → acc .changed < modulus → So add 0 acc acc
+    unfolding PortsSo
+    ports-begin add acc low ch f b e ready v = ports-none u after ch (cellOf u cells) add f b d e acc low
+
+    -- the child's outcome at port x has gone into the sum or minimum so far
+    pub record PortStepped (add : Bool) (x word′ : ℕ) (mid r : Sum) : Type 0 where
+      pub digits′ : ℕ
+      pub digits-are : digits′ ≡ digits + x * 256 ^ d
+      pub found : After
+      pub gives : CellGives u sets c bytes firsts ends uses masks cells i (d + 1) (row + x) digits′ word′ found
+      pub joined : Joined add mid found r
+
+    pub ports-next : (add : Bool) (x word′ : ℕ) (acc mid r : Sum) → x < u → word′ ≡ portWord c word d x → So add x acc mid
+        → PortStepped add x word′ mid r → So add (suc x) acc r
+    unfolding PortsSo CellGives treeCount
+    ports-next add x word′ acc mid r l wd so st ch none b e ready v = absurd (omega (arith, v .one))
+    ports-next add x word′ acc mid r l wd so st ch (tree n f s) b e ready v =
+        let cell : CellAfter u after ch (cellOf u cells) n f b (suc d) (x ∷ e) (st .found) =
+        rw (add-one d) at (st .gives ch n f s b (x ∷ e) ready (rw (add-one d, st .digits-are, wd) (port-visit u sets ch bytes firsts ends uses cells c (ready .says) i (tree n f s) b d e row digits word used x v l))) in
+        port-more u after ch (cellOf u cells) add (tree n f s) b d e x acc mid r (so ch (tree n f s) b e ready v)
+        (one-tree u after ch (cellOf u cells) add n f s b (suc d) (x ∷ e) mid r (st .found) (v .one) cell (st .joined))
+
+    -- the ports between two that are visited
+    pub ports-skip : (acc r : Sum) → acc .value < modulus → meets used (restWord word d) ≡ false → (m x : ℕ) → ((y : ℕ) → x ≤ y → y < x + m → (y ≢ c .p) × (y ≢ c .q)) → So true x acc r → So true (x + m) acc r
+    unfolding PortsSo
+    ports-skip acc r low h zero x apart so ch f b e ready v = subst (λ (y : ℕ). PortsAfter u after ch (cellOf u cells) true f b d e y acc r) (sym (add-zero x)) (so ch f b e ready v)
+    ports-skip acc r low h (suc m) x apart so ch f b e ready v =
+        let before = ports-skip acc r low h m x (λ y g l. apart y g (omega arith)) so ch f b e ready v in
+        let a = apart (x + m) (omega arith) (omega arith) in
+        subst (λ (y : ℕ). PortsAfter u after ch (cellOf u cells) true f b d e y acc r) (let w : suc (x + m) ≡ x + suc m = omega arith in w)
+        (port-skipped u after ch (cellOf u cells) f b d e (x + m) acc r low (cells-low (ready .cells-fit))
+        (port-untouched u sets ch bytes firsts ends uses cells (ready .masks-settled .sets16) c (ready .says) i f b d e row digits word used (x + m) v h (a .0) (a .1)) before)
+
+    pub row-fits : (acc : Sum) → Ports acc → (x : ℕ) → x < u → row + x < 18446744073709551616
+    row-fits acc r x h =
+        let m = r .ready .masks-settled in
+        let w = width-low u d (m .ports64) (omega (arith, r .visit .depth)) in
+        let l : placeOf u (r .tuple) ≤ 262144 = omega (arith, place-lt u (m .ports1) (r .visit .tuple)) in
+        let p : placeOf u (r .tuple) * u ≤ 262144 * 64 = mul-le-mul l (m .ports64) in
+        omega (arith, r .visit .row-is, m .ports64)
+
+    pub digits-ready : (acc : Sum) → Ports acc → (x : ℕ) → x < u → (d ≤ 2) × (digits < 256 ^ d) × (x < 256)
+    digits-ready acc r x h =
+        let m = r .ready .masks-settled in
+        (omega (arith, r .visit .depth), rw (r .visit .digits-are) (packed-lt (omega (arith, m .ports64)) (r .visit .tuple)), omega (arith, m .ports64))
+
+    abbrev pub Passed : Bool → Bool → Sum → ℕ → Sum → Type 0
+    Passed every add acc x r = Reached u c every (λ m. So add m acc r) x
+
+    module _ (all add : Bool) (al : all ≡ (not add || meets used (restWord word d))) (acc : Sum) (ready : Ports acc) where
+      pub sums : all ≡ false → (add ≡ true) × (meets used (restWord word d) ≡ false)
+      sums h = go add refl
+        where
+          go : (x : Bool) → add ≡ x → (add ≡ true) × (meets used (restWord word d) ≡ false)
+          go true q = (q, sym (ap (λ (y : Bool). not y || meets used (restWord word d)) q) ∙ sym al ∙ h)
+          go false q = absurd (true≢false (sym (ap (λ (y : Bool). not y || meets used (restWord word d)) q) ∙ sym al ∙ h))
+
+      pub skip-to : (r : Sum) → all ≡ false → (x x′ : ℕ) → x ≤ x′ → ((y : ℕ) → x ≤ y → y < x′ → (y ≢ c .p) × (y ≢ c .q)) → So add x acc r → So add x′ acc r
+      skip-to r h x x′ l apart so =
+          let s = sums h in
+          let w : x + (x′ - x) ≡ x′ = omega arith in
+          subst (λ (a : Bool). So a x′ acc r) (sym (s .0))
+          (subst (λ (m : ℕ). So true m acc r) w (ports-skip acc r (ready .low) (s .1) (x′ - x) x (λ y g k. apart y g (omega arith)) (subst (λ (a : Bool). So a x acc r) (s .0) so)))
+
+      pub ports-start : (x : ℕ) → x ≡ cond all 0 (c .p) → Passed all add acc x acc
+      ports-start x q =
+          reached-first u c (ready .ready .says .order) (ready .ready .says .below) all (λ m. So add m acc acc) (skip-to acc) x q (ports-begin add acc (ready .few))
+
+      pub ports-step : (x x′ : ℕ) (mid r : Sum) → Passed all add acc x mid → x < u → So add (suc x) acc r → x′ ≡ cond all (x + 1) (cond (ltb x (c .q)) (c .q) u)
+          → (x < x′) × Passed all add acc x′ r
+      ports-step x x′ mid r passed l so q =
+          reached-next u c (ready .ready .says .order) (ready .ready .says .below) all (λ m. So add m acc r) (skip-to r) x x′ (passed .late) l so q
+
+    pub finished : (every add : Bool) (acc : Sum) (x : ℕ) (r : Sum) → Passed every add acc x r → u ≤ x → So add u acc r
+    finished every add acc x r passed h = reached-all u c every (λ m. So add m acc r) x passed h

@@ -1,0 +1,18 @@
+use borrow.Author.Needs.{needs}
+use Rattle.cells_try.proofs.Rooted.{root-ready, root-gives}
+use Rattle.cells_try.proofs.root_after.Statement.{statement}
+use Rattle.cells_try.proofs.root_after.Tie as tie
+
+first-word-requires : tie.Need-first-word-requires
+first-word-requires c κs = search needs
+
+cell-after-requires : tie.Need-cell-after-requires
+cell-after-requires c κs =
+    root-ready _ _ _ _ _ _ _ _ _ (c .before .before .before .before .before .before .before .pre) _ (c .first-word .ensures)
+
+returns : tie.Need-returns
+returns c =
+    root-gives _ _ _ _ _ _ _ _ _ (c .before .before .before .before .before .before .before .before .pre) _ _ (c .before .first-word .ensures) (c .cell-after .ensures)
+
+pub root-after-spec : {M : Type 1} → statement M
+root-after-spec = tie.close (tie.spec first-word-requires cell-after-requires returns)

@@ -1,0 +1,72 @@
+-- What the walk that only reads asks and gives: internal to the crate.
+use mathlib.Core.Path.{_≡_}
+use mathlib.Core.Bool.{Bool}
+use mathlib.Core.List.{List}
+use Prim.Native.Nat.{ℕ, _+_, _<_}
+use Rattle.logic.specs.Formula.{Node, Forest, tree, nodeCount}
+use Rattle.logic.specs.Configuration.{configuration, inMasks}
+use Rattle.logic.specs.Truth.{Tuple}
+use Rattle.logic.specs.Change.{Change, modulus, cellOf}
+use Rattle.cells_touch.specs.declared.Changed.{Changed}
+use Rattle.cells_touch.specs.inner.Hits.{Says}
+use Rattle.cells_sum.specs.declared.After.{After}
+use Rattle.cells_sum.specs.declared.Sum.{Sum}
+use Rattle.cells_walk.specs.inner.Visit.{Visit, MasksSettled, CellsFit, TablesLong, CellAfter, TreesAfter, PortsVisit, PortsAfter}
+
+-- The tables, the change and the masks after it.
+pub record Ready (u sets : ℕ) (c : Changed) (firsts ends uses masks cells : List ℕ) (change : Change) : Type 0 where
+  pub says : Says u change c
+  pub masks-settled : MasksSettled u sets masks
+  pub cells-fit : CellsFit cells
+  pub long : TablesLong firsts ends uses
+
+-- The walk stands before a node's cell.
+pub record CellReady (u sets : ℕ) (c : Changed) (bytes firsts ends uses masks cells : List ℕ) (i d place digits word : ℕ) : Type 0 where
+  pub change : Change
+  pub node : Node
+  pub children : Forest
+  pub siblings : Forest
+  pub first : ℕ
+  pub tuple : Tuple
+  pub ready : Ready u sets c firsts ends uses masks cells change
+  pub visit : Visit u sets change bytes firsts ends uses cells i (tree node children siblings) first d tuple place digits word
+
+unfoldable pub CellGives : ℕ → ℕ → Changed → List ℕ → List ℕ → List ℕ → List ℕ → List ℕ → List ℕ → ℕ → ℕ → ℕ → ℕ → ℕ → After → Type 0
+CellGives u sets c bytes firsts ends uses masks cells i d place digits word r =
+    (ch : Change) (n : Node) (f s : Forest) (b : ℕ) (e : Tuple) → Ready u sets c firsts ends uses masks cells ch
+    → Visit u sets ch bytes firsts ends uses cells i (tree n f s) b d e place digits word
+    → CellAfter u (configuration u (inMasks masks)) ch (cellOf u cells) n f b d e r
+
+-- The walk stands before the trees of a forest, which end at node `until`.
+pub record TreesReady (u sets : ℕ) (c : Changed) (bytes firsts ends uses masks cells : List ℕ) (i until d place digits word : ℕ) (acc : Sum) : Type 0 where
+  pub change : Change
+  pub forest : Forest
+  pub first : ℕ
+  pub tuple : Tuple
+  pub ready : Ready u sets c firsts ends uses masks cells change
+  pub visit : Visit u sets change bytes firsts ends uses cells i forest first d tuple place digits word
+  pub ends-at : until ≡ i + nodeCount forest
+  pub few : acc .changed < modulus
+
+unfoldable pub TreesGive : ℕ → ℕ → Changed → List ℕ → List ℕ → List ℕ → List ℕ → List ℕ → List ℕ → ℕ → ℕ → ℕ → ℕ → ℕ → ℕ → Bool → Sum → Sum → Type 0
+TreesGive u sets c bytes firsts ends uses masks cells i until d place digits word add acc r =
+    (ch : Change) (f : Forest) (b : ℕ) (e : Tuple) → Ready u sets c firsts ends uses masks cells ch
+    → Visit u sets ch bytes firsts ends uses cells i f b d e place digits word → until ≡ i + nodeCount f
+    → TreesAfter u (configuration u (inMasks masks)) ch (cellOf u cells) add f b d e acc r
+
+-- The walk stands below a quantifier at depth d, before the tree of its one child at each port.
+pub record PortsReady (u sets : ℕ) (c : Changed) (bytes firsts ends uses masks cells : List ℕ) (i d row digits word used : ℕ) (acc : Sum) : Type 0 where
+  pub change : Change
+  pub forest : Forest
+  pub first : ℕ
+  pub tuple : Tuple
+  pub ready : Ready u sets c firsts ends uses masks cells change
+  pub visit : PortsVisit u sets change bytes firsts ends uses cells i forest first d tuple row digits word used
+  pub low : acc .value < modulus
+  pub few : acc .changed < modulus
+
+unfoldable pub PortsSo : ℕ → ℕ → Changed → List ℕ → List ℕ → List ℕ → List ℕ → List ℕ → List ℕ → ℕ → ℕ → ℕ → ℕ → ℕ → ℕ → Bool → ℕ → Sum → Sum → Type 0
+PortsSo u sets c bytes firsts ends uses masks cells i d row digits word used add m acc r =
+    (ch : Change) (f : Forest) (b : ℕ) (e : Tuple) → Ready u sets c firsts ends uses masks cells ch
+    → PortsVisit u sets ch bytes firsts ends uses cells i f b d e row digits word used
+    → PortsAfter u (configuration u (inMasks masks)) ch (cellOf u cells) add f b d e m acc r

@@ -1,0 +1,4 @@
+-- What only proofs and inner contracts use.
+pub mod Nodes
+pub mod Root
+pub mod Visit

@@ -1,0 +1,211 @@
+// The steps of a change's walk over the cells: a node's entries in the index, the tuple's ports, literals afresh, the ports to
+// visit. Paper 01, section One move.
+use cells_sum::After;
+use cells_sum::unless;
+use cells_touch::Changed;
+use cells_touch::meet;
+use cells_touch::rest_word;
+use logic::has_port;
+use logic::mask_size;
+use logic::related;
+use logic::size_penalty;
+use table_format::HEADER;
+use table_format::RECORD;
+use table_format::a_of;
+use table_format::b_of;
+use table_format::kind_of;
+use table_format::relation_of;
+ghost use mathlib.Core.Path.{_≡_};
+ghost use mathlib.Core.Bool.{cond, not, _&&_, _||_};
+ghost use Prim.Native.Nat.{_+_, _*_, _/_, _%_, _^_, _≤_, _<_};
+ghost use lib.Dec.{leb, ltb};
+ghost use lib.ListN.{length, getD};
+ghost use Rattle.cells_touch.specs.inner.Hits.{meets, restWord};
+ghost use Rattle.table_format.specs.Bytes.{headerLength, recordLength, kindField};
+ghost use Rattle.cells_walk.specs.inner.Nodes.{recordAt};
+ghost use Rattle.cells_walk.specs.inner.Visit.{LiteralReady, Afresh, RecordReady, RecordAfresh};
+
+fn wide(x: u32) -> usize
+    ensures { λ r. ⌜ (r ≡ x) × (r < 4294967296) ⌝ }
+{
+    x as usize
+}
+
+// A cell's number at a place of its node.
+pub fn cell_at(firsts: &[u32], i: usize, place: usize, cells: &[u32]) -> u32
+    requires { ⌜ (i < length (now firsts)) × (getD (now firsts) i 0 + place < length (now cells)) ⌝ }
+    ensures { λ r. ⌜ r ≡ getD (now (cells .entry)) (getD (now (firsts .entry)) i 0 + place) 0 ⌝ }
+{
+    let at = wide(firsts[i]) + place;
+    cells[at]
+}
+
+// A cell that is not touched keeps its number, and so do all below it.
+pub fn kept(firsts: &[u32], i: usize, place: usize, cells: &[u32]) -> After
+    requires { ⌜ (i < length (now firsts)) × (getD (now firsts) i 0 + place < length (now cells)) ⌝ }
+    ensures { λ r. ⌜ (r .old ≡ getD (now (cells .entry)) (getD (now (firsts .entry)) i 0 + place) 0) × (r .value ≡ r .old) × (r .changed ≡ 0) ⌝ }
+{
+    let old = cell_at(firsts, i, place, cells);
+    After {
+        old: old,
+        value: old,
+        changed: 0,
+    }
+}
+
+pub fn end_at(ends: &[u16], i: usize) -> usize
+    requires { ⌜ i < length (now ends) ⌝ }
+    ensures { λ r. ⌜ r ≡ getD (now (ends .entry)) i 0 ⌝ }
+{
+    ends[i] as usize
+}
+
+pub fn uses_at(uses: &[u64], i: usize) -> u64
+    requires { ⌜ i < length (now uses) ⌝ }
+    ensures { λ r. ⌜ r ≡ getD (now (uses .entry)) i 0 ⌝ }
+{
+    uses[i]
+}
+
+pub fn kind_at(table: &[u8], i: usize) -> u8
+    requires { ⌜ headerLength + recordLength * i + recordLength ≤ length (now table) ⌝ }
+    ensures { λ r. ⌜ r ≡ kindField (recordAt (now (table .entry)) i) ⌝ }
+{
+    let at = HEADER + RECORD * i;
+    kind_of(&table[at..])
+}
+
+// The port of a variable.
+fn port_at(digits: u32, variable: u8) -> u32
+    requires { ⌜ variable ≤ 2 ⌝ }
+    ensures { λ r. ⌜ r ≡ digits / 256 ^ variable % 256 ⌝ }
+{
+    if variable == 0 {
+        return digits % 256;
+    }
+    if variable == 1 {
+        return digits / 256 % 256;
+    }
+    digits / 65536 % 256
+}
+
+// The digits of a tuple with one more port, below a quantifier at this depth.
+pub fn with_port(digits: u32, depth: usize, x: usize) -> u32
+    requires { ⌜ (depth ≤ 2) × (digits < 256 ^ depth) × (x < 256) ⌝ }
+    ensures { λ r. ⌜ r ≡ digits + x * 256 ^ depth ⌝ }
+{
+    let port = x as u32;
+    if depth == 0 {
+        return digits + port;
+    }
+    if depth == 1 {
+        return digits + 256 * port;
+    }
+    digits + 65536 * port
+}
+
+fn mask_at(masks: &[u64], set: u8) -> u64
+    requires { ⌜ set < length (now masks) ⌝ }
+    ensures { λ r. ⌜ r ≡ getD (now (masks .entry)) set 0 ⌝ }
+{
+    masks[set as usize]
+}
+
+// A literal's penalty at a tuple.
+fn literal_after(
+    kind: u8,
+    relation: u8,
+    a: u8,
+    b: u8,
+    ports: usize,
+    sets: usize,
+    depth: usize,
+    masks: &[u64],
+    digits: u32,
+) -> u32
+    requires { ⌜ LiteralReady ports sets depth kind relation a b (now masks) digits ⌝ }
+    ensures { λ r. ⌜ Afresh ports sets depth kind relation a b (now (masks .entry)) digits r ⌝ }
+{
+    if kind == 5 {
+        return unless(has_port(mask_at(masks, b), port_at(digits, a)));
+    }
+    if kind == 6 {
+        return unless(!has_port(mask_at(masks, b), port_at(digits, a)));
+    }
+    if kind == 7 {
+        return unless(related(relation, port_at(digits, a), port_at(digits, b)));
+    }
+    size_penalty(relation, mask_size(mask_at(masks, a)), b as u32)
+}
+
+// The penalty of literal i at a tuple.
+pub fn literal_at(
+    table: &[u8],
+    i: usize,
+    ports: usize,
+    sets: usize,
+    depth: usize,
+    masks: &[u64],
+    digits: u32,
+) -> u32
+    requires { ⌜ RecordReady ports sets depth (now table) i (now masks) digits ⌝ }
+    ensures { λ r. ⌜ RecordAfresh ports sets depth (now (table .entry)) i (now (masks .entry)) digits r ⌝ }
+{
+    let at = HEADER + RECORD * i;
+    let part = &table[at..];
+    literal_after(
+        kind_of(part),
+        relation_of(part),
+        a_of(part),
+        b_of(part),
+        ports,
+        sets,
+        depth,
+        masks,
+        digits,
+    )
+}
+
+// Whether a node of a kind binds a variable.
+pub fn is_quantifier(kind: u8) -> bool
+    ensures { λ r. ⌜ r ≡ (leb 1 kind && leb kind 2) ⌝ }
+{
+    if 1 <= kind {
+        return kind <= 2;
+    }
+    false
+}
+
+// Whether every port below a quantifier must be visited: a minimum reads all of them, and a sum does if more than the ports
+// of the change can be touched.
+pub fn every_port(add: bool, used: u64, word: u64, depth: usize) -> bool
+    ensures { λ r. ⌜ r ≡ (not add || meets used (restWord word depth)) ⌝ }
+{
+    if add {
+        return meet(used, rest_word(word, depth));
+    }
+    true
+}
+
+// The first port to visit, and the next.
+pub fn first_port(all: bool, c: Changed) -> usize
+    ensures { λ r. ⌜ r ≡ cond all 0 (c .p) ⌝ }
+{
+    if all {
+        return 0;
+    }
+    c.p
+}
+
+pub fn next_port(all: bool, c: Changed, x: usize, ports: usize) -> usize
+    requires { ⌜ x < ports ⌝ }
+    ensures { λ r. ⌜ r ≡ cond all (x + 1) (cond (ltb x (c .q)) (c .q) ports) ⌝ }
+{
+    if all {
+        return x + 1;
+    }
+    if x < c.q {
+        return c.q;
+    }
+    ports
+}

@@ -1,0 +1,13 @@
+-- Laws of the calls' definitions.
+pub mod Grounds
+pub mod Reading
+pub mod LoadAnswers
+pub mod NodeAnswers
+pub mod NodeParts
+pub mod LoadParts
+pub mod Lists
+pub mod OwnParts
+pub mod Spelling
+pub mod Steps
+pub mod Within
+pub mod Scratch

@@ -1,0 +1,83 @@
+-- Every run from an accepted load is right, by induction over its calls. Assumes nothing.
+use mathlib.Core.Path.{_≡_, refl, sym, ap, _∙_}
+use mathlib.Core.Bool.{cond, not, _||_}
+use mathlib.Core.List.{List, _++_}
+use Prim.Native.Nat.{ℕ, zero, suc}
+use native.Mathlib.Omega.{arith}
+use lib.Dec.{ltb}
+use lib.ListN.{length, take, drop, take-append-drop}
+use lib.Seq.{length-take-le}
+use borrow.Author.Tests.{ltb-false, not-false}
+use Rattle.logic.specs.Formula.{Plan}
+use Rattle.logic.specs.Configuration.{Sets, inMasks, ownMasks, spelled, allWithin}
+use Rattle.logic.specs.Cells.{ownCells}
+use Rattle.logic.specs.Moves.{refusal}
+use Rattle.logic.proofs.Lists.{or-left}
+use Rattle.table_format.specs.Decode.{Decoded, broken, sound, decode}
+use Rattle.contracts.specs.declared.Loaded.{Loaded}
+use Rattle.contracts.specs.declared.Loaded.the-variants.{Accepted, Refused}
+use Rattle.contracts.specs.Load.{loadNumber, loadGrounds, loadOr, loadPlan, loads}
+use Rattle.contracts.proofs.LoadAnswers.{load-cells}
+use Rattle.contracts.specs.Book.{bookStep}
+use Rattle.contracts.specs.Lists.{Call, Answer, State, Run, ended, called, feed, bookAfter, bookCells, AllRight}
+use Rattle.contracts.proofs.Steps.{either-ground, Holds, own-holds, step-right}
+
+-- an accepted load's answer is no refusal
+refused-not : (number root total : ℕ) (xs ys : List ℕ) → _≡_ {A = Loaded × List ℕ} (Refused (suc number), xs) (Accepted root total, ys) → ⊥
+unfolding loadNumber
+refused-not number root total xs ys h =
+    let e : suc number ≡ 0 = ap (λ (t : Loaded × List ℕ). loadNumber (t .0)) h in absurd (omega arith)
+
+-- An accepted load implies that the bytes are the table of a plan.
+pub load-decodes : (bytes masks before cells : List ℕ) (root total : ℕ) → loads (decode bytes) masks before ≡ (Accepted root total, cells)
+    → (P : Plan) × (decode bytes ≡ sound P)
+unfolding loads
+load-decodes bytes masks before cells root total h = go (decode bytes) refl
+  where
+    go : (d : Decoded) → decode bytes ≡ d → (P : Plan) × (decode bytes ≡ sound P)
+    go broken e = absurd (refused-not 10 root total before cells (sym (ap (λ (x : Decoded). loads x masks before) e) ∙ h))
+    go (sound P) e = (P, e)
+
+module _ (P : Plan) (masks before cells : List ℕ) (root total : ℕ) (h : loads (sound P) masks before ≡ (Accepted root total, cells)) where
+  abbrev own : List ℕ
+  own = take (ownMasks P) masks
+
+  -- and that no ground applies
+  load-free : refusal (loadGrounds P own (length masks) (length before)) ≡ 0
+  unfolding loads loadPlan loadOr
+  load-free = go (refusal (loadGrounds P own (length masks) (length before))) refl
+    where
+      go : (g : ℕ) → refusal (loadGrounds P own (length masks) (length before)) ≡ g → refusal (loadGrounds P own (length masks) (length before)) ≡ 0
+      go zero e = e
+      go (suc g) e =
+          absurd (refused-not g root total _ cells
+          (sym (ap (λ (x : ℕ). let r = loadOr x P own (take (ownCells P) before) in (r .0, r .1 ++ drop (ownCells P) before)) e) ∙ h))
+
+  -- The tables as an accepted load leaves them hold what they must.
+  pub load-holds : Holds P (inMasks own) (drop (ownMasks P) masks) (drop (ownCells P) before) record { masks = masks; cells = cells }
+  unfolding loadGrounds refusal bookCells spelled
+  load-holds =
+      let short = ltb (length masks) (ownMasks P) in
+      let few = ltb (length before) (ownCells P) in
+      let g = either-ground (short || few) 11 (cond (not (allWithin (P .ports) own)) 13 0) load-free in
+      let w = either-ground (not (allWithin (P .ports) own)) 12 0 (g .1) in
+      own-holds P (inMasks own) (drop (ownMasks P) masks) (drop (ownCells P) before) record { masks = masks; cells = cells }
+      own (bookCells P (inMasks own))
+      record {
+        spells = refl;
+        enough = length-take-le (ownMasks P) masks (ltb-false (length masks) (ownMasks P) (or-left short few (g .0)));
+        within = not-false _ (w .0);
+        penalties = refl;
+      }
+      (sym (take-append-drop (ownMasks P) masks)) (sym (ap (λ (t : Loaded × List ℕ). t .1) h) ∙ load-cells masks before P load-free)
+
+-- A list of calls from any tables that hold what they must.
+pub run-right : (bytes : List ℕ) (P : Plan) → decode bytes ≡ sound P → (k : Sets) (tail-masks tail-cells : List ℕ)
+    → (s : State) (calls : List Call) (answers : List Answer) (s″ : State) → Holds P k tail-masks tail-cells s → Run bytes s calls answers s″
+    → AllRight P k calls answers × Holds P (bookAfter P k calls answers) tail-masks tail-cells s″
+unfolding AllRight bookAfter
+run-right bytes P d k tm tc s calls answers s″ h ended = (tt, h)
+run-right bytes P d k tm tc s calls answers s″ h (called {s′ = s′} {call = call} {answer = answer} {calls = rest} {answers = others} x r) =
+    let q = step-right bytes P d k tm tc s s′ h call answer x in
+    let w = run-right bytes P d (bookStep P k (feed call answer)) tm tc s′ rest others s″ (q .1) r in
+    ((q .0, w .0), w .1)

@@ -1,0 +1,335 @@
+-- One call keeps what is kept: for every call and every answer that the calls' definitions allow, the answer is right under the
+-- book's sets, and masks and cells are the book's afterwards. Assumes nothing.
+use mathlib.Core.Path.{_≡_, refl, sym, ap, _∙_, subst}
+use mathlib.Core.Bool.{Bool, true, false, cond, not, _||_}
+use mathlib.Core.List.{List, [], _∷_, _++_}
+use Prim.Native.Nat.{ℕ, zero, suc, _≤_}
+use native.Mathlib.Omega.{arith}
+use lib.Dec.{eqb, ltb}
+use lib.ListN.{length, getD, take, drop, length-append}
+use lib.Seq.{take-at, drop-at, length-take-le}
+use borrow.Author.Tests.{le-ltb, ne-eqb, not-false}
+use Rattle.logic.specs.declared.Move.{Move}
+use Rattle.logic.specs.Formula.{Plan}
+use Rattle.logic.specs.Configuration.{Sets, configuration, inMasks, ownMasks, spelled, allWithin}
+use Rattle.logic.specs.Cells.{ownCells, cells as planCells, rootPenalty}
+use Rattle.logic.specs.Moves.{Ground, refusal, moveGrounds, known, legal, moveMasks, movePairs, flips, kindsKnown}
+use Rattle.logic.specs.Change.{someOf, pairsChange, differing}
+use Rattle.logic.proofs.Moves.{move-masks, move-spells}
+use Rattle.logic.proofs.Theorems.{move-true, length-cells}
+use Rattle.table_format.specs.Decode.{Decoded, sound, decode}
+use Rattle.table_format.specs.inner.Facts.{PlanFacts}
+use Rattle.table_format.proofs.Encoding.{decode-sound}
+use Rattle.table_format.proofs.Facts.{plan-facts}
+use Rattle.contracts.specs.declared.Moved.{Moved}
+use Rattle.contracts.specs.declared.Improved.{Improved}
+use Rattle.contracts.specs.MoveCall.{tableGrounds, moveCallGrounds, cellsAfter, moveAnswer, moveOr, movePlan, moves}
+use Rattle.contracts.specs.TrialCall.{trialOr, trialPlan, trials}
+use Rattle.contracts.specs.ImproveCall.{improveGrounds, rootNow, rootAfter, MadeBest, NoneBetter, Chosen, ImprovesOr, ImprovesPlan, Improves}
+use Rattle.contracts.specs.Book.{fedMove, chosenStep, bookStep}
+use Rattle.contracts.specs.Lists.{Call, moveCall, trialCall, improveCall, Answer, moveAnswered, trialAnswered, improveAnswered, State, Step, feed, bookRoot, bookCells, bookMade, NumbersRight, MovedRight, scratchGround, BestMade, NoneLowers, ImprovedRight, Right, Kept}
+use Rattle.contracts.proofs.Within.{move-within, move-length}
+use Rattle.logic.proofs.Changed as changed
+use Rattle.contracts.specs.declared.Improved.the-variants as improved
+
+-- The plan's own masks and cells are the book's: the masks spell its sets and have no other port, the cells are the penalties.
+pub record OwnKept (P : Plan) (k : Sets) (own before : List ℕ) : Type 0 where
+  pub spells : inMasks own ≡ k
+  pub enough : length own ≡ ownMasks P
+  pub within : allWithin (P .ports) own ≡ true
+  pub penalties : before ≡ bookCells P k
+
+-- grounds answer 0 only if the first does not apply and the rest answer 0
+pub either-ground : (a : Bool) (i g : ℕ) → cond a (suc i) g ≡ 0 → (a ≡ false) × (g ≡ 0)
+either-ground true i g h = absurd (omega arith)
+either-ground false i g h = (refl, h)
+
+-- a move that meets neither 14 nor 15 is legal
+pub grounds-legal : (P : Plan) (k : Sets) (m : Move) → refusal (moveGrounds P k m) ≡ 0 → legal P k m ≡ true
+unfolding refusal moveGrounds
+grounds-legal P k m h =
+    let r = either-ground (not (known P m)) 13 (cond (not (legal P k m)) 15 0) h in
+    not-false _ (either-ground (not (legal P k m)) 14 0 (r .1) .0)
+
+later-ground : (i : ℕ) (b : Bool) (gs : List Ground) → refusal ((suc i, b) ∷ gs) ≡ 0 → refusal gs ≡ 0
+unfolding refusal
+later-ground i b gs h = either-ground b i (refusal gs) h .1
+
+-- Where the tables that the load accepted are lent, 12 applies only if another table, as scratch, is too short, and 13 never.
+pub tables-pass : (P : Plan) (own : List ℕ) (masks-length cells-length : ℕ) (lengths : List ℕ) (gs : List Ground)
+    → ownMasks P ≤ masks-length → ownCells P ≤ cells-length → allWithin (P .ports) own ≡ true
+    → refusal (tableGrounds P own masks-length (cells-length ∷ lengths) ++ gs) ≡ refusal ((12, someOf (λ l. ltb l (ownCells P)) lengths) ∷ gs)
+unfolding tableGrounds refusal someOf
+tables-pass P own ml cl ls gs a b w = rw (le-ltb ml (ownMasks P) a, le-ltb cl (ownCells P) b, w)
+
+-- the same where scratch is lent
+or-nothing : (b : Bool) → (b || false) ≡ b
+or-nothing true = refl
+or-nothing false = refl
+
+pub scratch-passes : (P : Plan) (own : List ℕ) (masks-length cells-length : ℕ) (scratch : List ℕ) (gs : List Ground)
+    → ownMasks P ≤ masks-length → ownCells P ≤ cells-length → allWithin (P .ports) own ≡ true
+    → refusal (tableGrounds P own masks-length (cells-length ∷ length scratch ∷ []) ++ gs) ≡ refusal (scratchGround P scratch ∷ gs)
+unfolding scratchGround someOf
+scratch-passes P own ml cl scratch gs a b w =
+    tables-pass P own ml cl (length scratch ∷ []) gs a b w
+    ∙ ap (λ (t : Bool). refusal ((12, t) ∷ gs)) (or-nothing (ltb (length scratch) (ownCells P)))
+
+module _ (P : Plan) (facts : PlanFacts P) where
+  -- A legal move leaves the penalties of the sets with its pairs flipped.
+  pub made-cells : (m : Move) (own : List ℕ) → legal P (inMasks own) m ≡ true → ownMasks P ≤ length own
+      → cellsAfter P m own (bookCells P (inMasks own)) ≡ bookCells P (bookMade m (inMasks own))
+  unfolding cellsAfter bookCells bookMade spelled
+  made-cells m own h l =
+      move-true P (facts .ports1) (facts .ports64) (facts .constants) (facts .cells-most) m own h l
+      ∙ ap (planCells P) (move-spells P m own h l)
+
+  pub root-made : (m : Move) (own : List ℕ) → legal P (inMasks own) m ≡ true → ownMasks P ≤ length own
+      → rootAfter P m own (bookCells P (inMasks own)) ≡ bookRoot P (bookMade m (inMasks own))
+  unfolding rootAfter bookRoot rootPenalty bookCells
+  root-made m own h l = ap (λ (c : List ℕ). getD c 0 0) (made-cells m own h l)
+
+  -- its three numbers
+  pub made-numbers : (m : Move) (own : List ℕ) → legal P (inMasks own) m ≡ true → ownMasks P ≤ length own
+      → (let b = bookCells P (inMasks own) in
+      NumbersRight P (inMasks own) m (rootNow b) (rootAfter P m own b) (differing b (cellsAfter P m own b)))
+  unfolding rootNow bookRoot bookCells rootPenalty cellsAfter
+  made-numbers m own h l =
+      let b = bookCells P (inMasks own) in
+      record {
+        before-right = refl;
+        after-right = root-made m own h l;
+        changed-right = ap (differing b) (made-cells m own h l);
+        changed-touched =
+            changed.changed-touched P (facts .ports1) (spelled P (moveMasks m own)) (pairsChange (movePairs m)) b (length-cells P _);
+      }
+
+  made-kept : (m : Move) (own : List ℕ) → legal P (inMasks own) m ≡ true → length own ≡ ownMasks P → allWithin (P .ports) own ≡ true
+      → OwnKept P (bookMade m (inMasks own)) (moveMasks m own) (cellsAfter P m own (bookCells P (inMasks own)))
+  unfolding bookMade
+  made-kept m own h l w = record {
+    spells = move-masks P m own h (omega arith);
+    enough = move-length m own ∙ l;
+    within = move-within P m own h (omega arith) w;
+    penalties = made-cells m own h (omega arith);
+  }
+
+  -- what holds where the masks themselves spell the sets holds of the book's sets
+  of-book : (k : Sets) (own before : List ℕ) (C : Sets → List ℕ → Type 0) → OwnKept P k own before
+      → C (inMasks own) (bookCells P (inMasks own)) → C k before
+  of-book k own before C o c =
+      subst (λ (j : Sets). C j before) (o .spells)
+      (subst (C (inMasks own)) (ap (bookCells P) (o .spells) ∙ sym (o .penalties)) c)
+
+  -- a move by the first ground that applies to it
+  move-at : (m : Move) (own : List ℕ) → length own ≡ ownMasks P → allWithin (P .ports) own ≡ true
+      → (g : ℕ) → refusal (moveGrounds P (inMasks own) m) ≡ g
+      → (let r = moveOr g P m own (bookCells P (inMasks own)) in
+      MovedRight g P (inMasks own) m (r .0) × OwnKept P (cond (eqb g 0) (flips (movePairs m) (inMasks own)) (inMasks own)) (r .1) (r .2))
+  unfolding moveOr moveAnswer MovedRight bookMade rootNow rootAfter
+  move-at m own l w zero e =
+      let h = grounds-legal P (inMasks own) m e in (made-numbers m own h (omega arith), made-kept m own h l w)
+  move-at m own l w (suc g) e =
+      rw (ne-eqb (suc g) 0 (λ z. omega arith)) (refl, record { spells = refl; enough = l; within = w; penalties = refl })
+
+  -- Moves, over the plan's own parts.
+  pub move-own : (m : Move) (k : Sets) (own before : List ℕ) → OwnKept P k own before
+      → (let g = refusal (moveGrounds P k m) in
+      let r = moveOr g P m own before in MovedRight g P k m (r .0) × OwnKept P (bookStep P k (fedMove m)) (r .1) (r .2))
+  unfolding bookStep
+  move-own m k own before o =
+      of-book k own before
+      (λ j c. let g = refusal (moveGrounds P j m) in
+      let r = moveOr g P m own c in MovedRight g P j m (r .0) × OwnKept P (cond (eqb g 0) (flips (movePairs m) j) j) (r .1) (r .2))
+      o (move-at m own (o .enough) (o .within) (refusal (moveGrounds P (inMasks own) m)) refl)
+
+  trial-at : (m : Move) (own : List ℕ) → length own ≡ ownMasks P → (g : ℕ) → (g ≡ 0 → legal P (inMasks own) m ≡ true)
+      → MovedRight g P (inMasks own) m (trialOr g P m own (bookCells P (inMasks own)))
+  unfolding trialOr moveAnswer MovedRight rootNow rootAfter
+  trial-at m own l zero H = made-numbers m own (H refl) (omega arith)
+  trial-at m own l (suc g) H = refl
+
+  -- Trials, over the plan's own parts.
+  pub trial-own : (m : Move) (scratch : List ℕ) (k : Sets) (own before : List ℕ) → OwnKept P k own before
+      → (let g = refusal (scratchGround P scratch ∷ moveGrounds P k m) in MovedRight g P k m (trialOr g P m own before))
+  unfolding scratchGround
+  trial-own m scratch k own before o =
+      of-book k own before
+      (λ j c. let g = refusal (scratchGround P scratch ∷ moveGrounds P j m) in MovedRight g P j m (trialOr g P m own c))
+      o (trial-at m own (o .enough) (refusal (scratchGround P scratch ∷ moveGrounds P (inMasks own) m))
+      (λ e. grounds-legal P (inMasks own) m (later-ground 11 (ltb (length scratch) (ownCells P)) (moveGrounds P (inMasks own) m) e)))
+
+  -- an accepted improve that makes a move
+  best-made : (kinds : ℕ) (own : List ℕ) → length own ≡ ownMasks P → (m : Move) (b a n : ℕ) (own′ after : List ℕ)
+      → MadeBest P kinds own (bookCells P (inMasks own)) m b a n own′ after → BestMade P (inMasks own) kinds m b a n
+  best-made kinds own l m b a n own′ after x =
+      let old = bookCells P (inMasks own) in
+      let h = x .candidate .is-legal in
+      let r = root-made m own h (omega arith) in
+      let q = made-numbers m own h (omega arith) in
+      record {
+        of-kinds = x .candidate .of-kinds;
+        is-legal = h;
+        lowers = rw (← r) (rw (← (q .before-right)) (x .smaller));
+        least = λ m′ f g. rw (← r) (rw (← (root-made m′ own g (omega arith))) (x .least m′ record { of-kinds = f; is-legal = g }));
+        numbers = record {
+          before-right = x .before-is ∙ q .before-right;
+          after-right = x .after-is ∙ q .after-right;
+          changed-right = x .changed-is ∙ q .changed-right;
+          changed-touched = rw (x .changed-is) (q .changed-touched);
+        };
+      }
+
+  none-lowers : (kinds : ℕ) (own : List ℕ) → length own ≡ ownMasks P → (root : ℕ) (own′ after : List ℕ)
+      → NoneBetter P kinds own (bookCells P (inMasks own)) root own′ after → NoneLowers P (inMasks own) kinds root
+  unfolding rootNow bookRoot rootPenalty bookCells
+  none-lowers kinds own l root own′ after x = record {
+    none = λ m f g. rw (← (root-made m own g (omega arith))) (x .none-smaller m record { of-kinds = f; is-legal = g });
+    root-right = x .root-is;
+  }
+
+  improve-at : (kinds : ℕ) (own : List ℕ) → length own ≡ ownMasks P → allWithin (P .ports) own ≡ true
+      → (g : ℕ) (r : Improved) (own′ after : List ℕ) → ImprovesOr g P kinds own (bookCells P (inMasks own)) r own′ after
+      → ImprovedRight g P (inMasks own) kinds r × OwnKept P (chosenStep (inMasks own) r) own′ after
+  unfolding ImprovesOr Chosen ImprovedRight chosenStep bookMade
+  improve-at kinds own l w zero (improved.Made m b a n) own′ after x =
+      (best-made kinds own l m b a n own′ after x, rw (x .masks-are, x .cells-are) (made-kept m own (x .candidate .is-legal) l w))
+  improve-at kinds own l w zero (improved.NoBetter root) own′ after x =
+      (none-lowers kinds own l root own′ after x, rw (x .masks-kept, x .cells-kept) record { spells = refl; enough = l; within = w; penalties = refl })
+  improve-at kinds own l w zero (improved.Refused number) own′ after x = absurd x
+  improve-at kinds own l w (suc g) r own′ after x =
+      (x .0, rw (x .0, x .1, x .2) record { spells = refl; enough = l; within = w; penalties = refl })
+
+  -- Improve, over the plan's own parts, for every answer that is allowed.
+  pub improve-own : (kinds g : ℕ) (k : Sets) (own before : List ℕ) → OwnKept P k own before → (r : Improved) (own′ after : List ℕ)
+      → ImprovesOr g P kinds own before r own′ after → ImprovedRight g P k kinds r × OwnKept P (chosenStep k r) own′ after
+  improve-own kinds g k own before o r own′ after =
+      of-book k own before
+      (λ j c. ImprovesOr g P kinds own c r own′ after → ImprovedRight g P j kinds r × OwnKept P (chosenStep j r) own′ after)
+      o (improve-at kinds own (o .enough) (o .within) g r own′ after)
+
+-- What stands before and after each call of a list: masks and cells are the book's, and no mask has a port of u or more.
+pub record Holds (P : Plan) (k : Sets) (tail-masks tail-cells : List ℕ) (s : State) : Type 0 where
+  pub kept : Kept P k tail-masks tail-cells s
+  pub within : allWithin (P .ports) (take (ownMasks P) (s .masks)) ≡ true
+  pub enough-cells : ownCells P ≤ length (s .cells)
+
+length-book : (P : Plan) (k : Sets) → length (bookCells P k) ≡ ownCells P
+unfolding bookCells
+length-book P k = length-cells P (configuration (P .ports) k)
+
+long-enough : (own rest : List ℕ) (n : ℕ) → length own ≡ n → n ≤ length (own ++ rest)
+long-enough own rest n l = rw (length-append own rest) (omega arith)
+
+module _ (P : Plan) (k : Sets) (tail-masks tail-cells : List ℕ) (s : State) where
+  -- the plan's own parts of tables that hold what they must
+  pub holds-own : Holds P k tail-masks tail-cells s → OwnKept P k (take (ownMasks P) (s .masks)) (take (ownCells P) (s .cells))
+  holds-own h = record {
+    spells = h .kept .masks-are;
+    enough = length-take-le (ownMasks P) (s .masks) (h .kept .enough-masks);
+    within = h .within;
+    penalties =
+        ap (take (ownCells P)) (h .kept .cells-are) ∙ take-at (bookCells P k) tail-cells (ownCells P) (length-book P k);
+  }
+
+  -- and the rest of the cell table
+  pub holds-rest : Holds P k tail-masks tail-cells s → drop (ownCells P) (s .cells) ≡ tail-cells
+  holds-rest h =
+      ap (drop (ownCells P)) (h .kept .cells-are) ∙ drop-at (bookCells P k) tail-cells (ownCells P) (length-book P k)
+
+  pub own-holds : (own after : List ℕ) → OwnKept P k own after → s .masks ≡ own ++ tail-masks → s .cells ≡ after ++ tail-cells
+      → Holds P k tail-masks tail-cells s
+  own-holds own after o m c = record {
+    kept = record {
+      enough-masks = rw m (long-enough own tail-masks (ownMasks P) (o .enough));
+      masks-are = ap inMasks front ∙ o .spells;
+      masks-tail = ap (drop (ownMasks P)) m ∙ drop-at own tail-masks (ownMasks P) (o .enough);
+      cells-are = c ∙ ap (λ (l : List ℕ). l ++ tail-cells) (o .penalties);
+    };
+    within = rw front (o .within);
+    enough-cells = rw (c, o .penalties) (long-enough (bookCells P k) tail-cells (ownCells P) (length-book P k));
+  }
+    where
+      front : take (ownMasks P) (s .masks) ≡ own
+      front = ap (take (ownMasks P)) m ∙ take-at own tail-masks (ownMasks P) (o .enough)
+
+module _ (P : Plan) (facts : PlanFacts P) (k : Sets) (tail-masks tail-cells : List ℕ) (s s′ : State) (h : Holds P k tail-masks tail-cells s) where
+  move-step : (m : Move) (r : Moved) → (r, s′ .masks, s′ .cells) ≡ moves (sound P) m (s .masks) (s .cells)
+      → MovedRight (refusal (moveGrounds P k m)) P k m r × Holds P (bookStep P k (fedMove m)) tail-masks tail-cells s′
+  unfolding moves movePlan moveCallGrounds refusal someOf
+  move-step m r e =
+      let own = take (ownMasks P) (s .masks) in
+      let before = take (ownCells P) (s .cells) in
+      let o = holds-own P k tail-masks tail-cells s h in
+      let q = move-own P facts m k own before o in
+      let g : refusal (tableGrounds P own (length (s .masks)) (length (s .cells) ∷ []) ++ moveGrounds P (inMasks own) m) ≡ refusal (moveGrounds P k m) =
+      tables-pass P own (length (s .masks)) (length (s .cells)) [] (moveGrounds P (inMasks own) m) (h .kept .enough-masks) (h .enough-cells) (h .within)
+      ∙ ap (λ (j : Sets). refusal (moveGrounds P j m)) (o .spells) in
+      let x = moveOr (refusal (moveGrounds P k m)) P m own before in
+      let all : _≡_ {A = Moved × List ℕ × List ℕ} (r, s′ .masks, s′ .cells) (x .0, x .1 ++ tail-masks, x .2 ++ tail-cells) =
+      e ∙ (λ i. let y = moveOr (g i) P m own before in
+      (y .0, y .1 ++ h .kept .masks-tail i, y .2 ++ holds-rest P k tail-masks tail-cells s h i)) in (
+        rw (ap (λ (t : Moved × List ℕ × List ℕ). t .0) all) (q .0),
+        own-holds P (bookStep P k (fedMove m)) tail-masks tail-cells s′ (x .1) (x .2) (q .1)
+            (ap (λ (t : Moved × List ℕ × List ℕ). t .1) all) (ap (λ (t : Moved × List ℕ × List ℕ). t .2) all),
+      )
+
+  trial-step : (m : Move) (scratch : List ℕ) (r : Moved) → r ≡ trials (sound P) m (s .masks) (s .cells) (length scratch)
+      → MovedRight (refusal (scratchGround P scratch ∷ moveGrounds P k m)) P k m r
+  unfolding trials trialPlan moveCallGrounds
+  trial-step m scratch r e =
+      let own = take (ownMasks P) (s .masks) in
+      let before = take (ownCells P) (s .cells) in
+      let o = holds-own P k tail-masks tail-cells s h in
+      let g = scratch-passes P own (length (s .masks)) (length (s .cells)) scratch (moveGrounds P (inMasks own) m)
+      (h .kept .enough-masks) (h .enough-cells) (h .within)
+      ∙ ap (λ (j : Sets). refusal (scratchGround P scratch ∷ moveGrounds P j m)) (o .spells) in
+      rw (e ∙ ap (λ (i : ℕ). trialOr i P m own before) g) (trial-own P facts m scratch k own before o)
+
+  improve-step : (kinds : ℕ) (scratch : List ℕ) (r : Improved) → Improves (sound P) kinds (s .masks) (s .cells) (length scratch) r (s′ .masks) (s′ .cells)
+      → ImprovedRight (refusal (scratchGround P scratch ∷ (14, not (kindsKnown kinds)) ∷ [])) P k kinds r
+      × Holds P (chosenStep k r) tail-masks tail-cells s′
+  unfolding Improves ImprovesPlan improveGrounds
+  improve-step kinds scratch r x =
+      let own = take (ownMasks P) (s .masks) in
+      let before = take (ownCells P) (s .cells) in
+      let o = holds-own P k tail-masks tail-cells s h in
+      let gs : List Ground = (14, not (kindsKnown kinds)) ∷ [] in
+      let g = scratch-passes P own (length (s .masks)) (length (s .cells)) scratch gs (h .kept .enough-masks) (h .enough-cells) (h .within) in
+      let q = improve-own P facts kinds (refusal (scratchGround P scratch ∷ gs)) k own before o r (x .own-masks) (x .own-cells)
+      (subst (λ (i : ℕ). ImprovesOr i P kinds own before r (x .own-masks) (x .own-cells)) g (x .improves)) in (
+        q .0,
+        own-holds P (chosenStep k r) tail-masks tail-cells s′ (x .own-masks) (x .own-cells) (q .1)
+            (x .masks-are ∙ ap (λ (l : List ℕ). x .own-masks ++ l) (h .kept .masks-tail))
+            (x .cells-are ∙ ap (λ (l : List ℕ). x .own-cells ++ l) (holds-rest P k tail-masks tail-cells s h)),
+      )
+
+  same-holds : s′ .masks ≡ s .masks → s′ .cells ≡ s .cells → Holds P k tail-masks tail-cells s′
+  same-holds a b =
+      let e : s ≡ s′ = λ i. record { masks = sym a i; cells = sym b i } in
+      subst (Holds P k tail-masks tail-cells) e h
+
+  -- a call of each kind with an answer of each kind
+  step-at : (bytes : List ℕ) → decode bytes ≡ sound P → (call : Call) (answer : Answer) → Step bytes s call answer s′
+      → Right P k call answer × Holds P (bookStep P k (feed call answer)) tail-masks tail-cells s′
+  unfolding Step Right feed bookStep
+  step-at bytes d (moveCall m) (moveAnswered r) e =
+      move-step m r (e ∙ ap (λ (x : Decoded). moves x m (s .masks) (s .cells)) d)
+  step-at bytes d (moveCall m) (trialAnswered r) e = absurd e
+  step-at bytes d (moveCall m) (improveAnswered r) e = absurd e
+  step-at bytes d (trialCall m scratch) (moveAnswered r) e = absurd e
+  step-at bytes d (trialCall m scratch) (trialAnswered r) e =
+      (trial-step m scratch r (e .0 ∙ ap (λ (x : Decoded). trials x m (s .masks) (s .cells) (length scratch)) d), same-holds (e .1) (e .2))
+  step-at bytes d (trialCall m scratch) (improveAnswered r) e = absurd e
+  step-at bytes d (improveCall kinds scratch) (moveAnswered r) e = absurd e
+  step-at bytes d (improveCall kinds scratch) (trialAnswered r) e = absurd e
+  step-at bytes d (improveCall kinds scratch) (improveAnswered r) e =
+      improve-step kinds scratch r
+      (subst (λ (x : Decoded). Improves x kinds (s .masks) (s .cells) (length scratch) r (s′ .masks) (s′ .cells)) d e)
+
+-- One call: its answer is right under the book's sets before it, and afterwards masks and cells are those of the book's next sets.
+pub step-right : (bytes : List ℕ) (P : Plan) → decode bytes ≡ sound P → (k : Sets) (tail-masks tail-cells : List ℕ) (s s′ : State)
+    → Holds P k tail-masks tail-cells s → (call : Call) (answer : Answer) → Step bytes s call answer s′
+    → Right P k call answer × Holds P (bookStep P k (feed call answer)) tail-masks tail-cells s′
+step-right bytes P d k tail-masks tail-cells s s′ h =
+    step-at P (plan-facts P (decode-sound bytes P d .rules)) k tail-masks tail-cells s s′ h bytes d

@@ -1,0 +1,74 @@
+-- The masks that a legal move leaves have no port of u or more, so that ground 13 does not come up in a list. Assumes nothing.
+use mathlib.Core.Path.{_≡_, refl, ap, _∙_}
+use mathlib.Core.Bool.{Bool, true, false, cond, not}
+use mathlib.Core.List.{List, [], _∷_}
+use Prim.Native.Nat.{ℕ, zero, suc, _^_, _≤_, _<_}
+use native.Mathlib.Omega.{arith}
+use lib.Dec.{eqb}
+use lib.ListN.{length, getD, set, length-set}
+use lib.Pow.{pow-pos}
+use borrow.Author.Tests.{lt-ltb, ne-eqb}
+use Rattle.logic.specs.declared.Move.{Move}
+use Rattle.logic.specs.Formula.{Plan}
+use Rattle.logic.specs.Configuration.{Sets, inMask, inMasks, ownMasks, withinPorts, leave, allWithin}
+use Rattle.logic.specs.Moves.{MoveKind, add, drop, transfer, swap, unknown, moveKind, known, legal, kindMasks, moveMasks, Pair, movePairs, flip, flips}
+use Rattle.logic.proofs.Lists.{and-left, and-right, and-true, and-false}
+use Rattle.logic.proofs.Touched.{PortsBelow}
+use Rattle.logic.proofs.Masks.{within-ports}
+use Rattle.logic.proofs.Moves.{known-pairs, known-ports, move-masks}
+
+-- no set has a port of u or more
+unfoldable pub NoneAbove : ℕ → Sets → Type 0
+NoneAbove u k = (S p : ℕ) → u ≤ p → k S p ≡ false
+
+empty-mask : (u p : ℕ) → u ≤ p → inMask 0 p ≡ false
+unfolding withinPorts
+empty-mask u p l = within-ports u 0 .0 (lt-ltb 0 (2 ^ u) (pow-pos u)) p l
+
+-- ground 13's condition over the masks is that of the sets that they spell
+pub within-none : (u : ℕ) (ms : List ℕ) → allWithin u ms ≡ true → NoneAbove u (inMasks ms)
+unfolding allWithin inMasks NoneAbove
+within-none u [] h S p l = empty-mask u p l
+within-none u (m ∷ ms) h zero p l = within-ports u m .0 (and-left (withinPorts u m) (allWithin u ms) h) p l
+within-none u (m ∷ ms) h (suc S) p l = within-none u ms (and-right (withinPorts u m) (allWithin u ms) h) S p l
+
+pub none-within : (u : ℕ) (ms : List ℕ) → NoneAbove u (inMasks ms) → allWithin u ms ≡ true
+unfolding allWithin inMasks NoneAbove
+none-within u [] H = refl
+none-within u (m ∷ ms) H =
+    and-true (withinPorts u m) (allWithin u ms) (within-ports u m .1 (H 0)) (none-within u ms (λ S. H (suc S)))
+
+-- a flip at a port below u moves no port of u or more
+flip-none : (u : ℕ) (q : Pair) (k : Sets) → q .1 < u → NoneAbove u k → NoneAbove u (flip q k)
+unfolding NoneAbove flip
+flip-none u q k h H S p l =
+    ap (λ (b : Bool). cond b (not (k S p)) (k S p)) (and-false (eqb S (q .0)) (eqb p (q .1)) (λ e. ne-eqb p (q .1) (λ z. omega arith)))
+    ∙ H S p l
+
+flips-none : (u : ℕ) (qs : List Pair) (k : Sets) → PortsBelow u qs → NoneAbove u k → NoneAbove u (flips qs k)
+unfolding flips PortsBelow
+flips-none u [] k h H = H
+flips-none u (q ∷ qs) k h H = flips-none u qs (flip q k) (h .1) (flip-none u q k (h .0) H)
+
+pub move-within : (P : Plan) (m : Move) (own : List ℕ) → legal P (inMasks own) m ≡ true → ownMasks P ≤ length own
+    → allWithin (P .ports) own ≡ true → allWithin (P .ports) (moveMasks m own) ≡ true
+unfolding legal
+move-within P m own h l w =
+    none-within (P .ports) (moveMasks m own)
+    (rw (move-masks P m own h l)
+    (flips-none (P .ports) (movePairs m) (inMasks own) (known-ports P (movePairs m) (known-pairs P m (and-left (known P m) _ h)))
+    (within-none (P .ports) own w)))
+
+-- a move keeps the length of the mask table
+kind-length : (κ : MoveKind) (m : Move) (ms : List ℕ) → length (kindMasks κ m ms) ≡ length ms
+unfolding kindMasks
+kind-length add m ms = length-set {A = ℕ} ms (m .s) _
+kind-length drop m ms = length-set {A = ℕ} ms (m .s) _
+kind-length transfer m ms =
+    length-set {A = ℕ} (set ms (m .s) (leave (getD ms (m .s) 0) (m .p))) (m .t) _ ∙ length-set {A = ℕ} ms (m .s) _
+kind-length swap m ms = length-set {A = ℕ} ms (m .s) _
+kind-length unknown m ms = refl
+
+pub move-length : (m : Move) (ms : List ℕ) → length (moveMasks m ms) ≡ length ms
+unfolding moveMasks
+move-length m ms = kind-length (moveKind (m .kind)) m ms

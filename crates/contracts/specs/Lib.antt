@@ -1,0 +1,10 @@
+pub mod Admitted
+pub mod Read
+pub mod Load
+pub mod NodeCells
+pub mod OwnParts
+pub mod Book
+pub mod ImproveCall
+pub mod Lists
+pub mod MoveCall
+pub mod TrialCall

@@ -1,0 +1,146 @@
+-- Lists of calls, and demand 3 as one claim over every list. Paper 01, section Lists of calls.
+use mathlib.Core.Path.{_≡_}
+use mathlib.Core.Bool.{true, not}
+use mathlib.Core.List.{List, [], _∷_, _++_}
+use Prim.Native.Nat.{ℕ, zero, suc, _≤_, _<_}
+use lib.Dec.{ltb}
+use lib.ListN.{length, take, drop}
+use Rattle.logic.specs.declared.Move.{Move}
+use Rattle.logic.specs.Formula.{Plan}
+use Rattle.logic.specs.Configuration.{Sets, configuration, inMasks, ownMasks}
+use Rattle.logic.specs.Cells.{ownCells, cells as planCells, rootPenalty}
+use Rattle.logic.specs.Moves.{Ground, refusal, moveGrounds, movePairs, flips, legal, kindsKnown, ofKinds}
+use Rattle.logic.specs.Change.{pairsChange, differing, touchedCount}
+use Rattle.table_format.specs.Decode.{decode}
+use Rattle.contracts.specs.declared.Moved.{Moved}
+use Rattle.contracts.specs.declared.Improved.{Improved}
+use Rattle.contracts.specs.MoveCall.{moves}
+use Rattle.contracts.specs.TrialCall.{trials}
+use Rattle.contracts.specs.ImproveCall.{Improves}
+use Rattle.contracts.specs.Book.{Fed, fedMove, fedTrial, fedImprove, bookStep}
+use Rattle.contracts.specs.declared.Improved.the-variants as improved
+use Rattle.contracts.specs.declared.Moved.the-variants as moved
+
+-- One call of a list: its kind, its arguments and the scratch that it is lent. "Scratch may be another table at every call, hold
+-- anything or be too short."
+pub data Call : Type 0 where
+  moveCall : Move → Call
+  trialCall : Move → List ℕ → Call
+  improveCall : ℕ → List ℕ → Call
+
+pub data Answer : Type 0 where
+  moveAnswered : Moved → Answer
+  trialAnswered : Moved → Answer
+  improveAnswered : Improved → Answer
+
+-- "Each call is lent these tables as the last call left them, and nobody else writes them until the list ends."
+pub record State : Type 0 where
+  pub masks : List ℕ
+  pub cells : List ℕ
+
+-- One call, by the very definitions that the calls' contracts cite; s is the state before it and s′ the state after it.
+unfoldable pub Step : List ℕ → State → Call → Answer → State → Type 0
+Step bytes s (moveCall m) (moveAnswered r) s′ = (r, s′ .masks, s′ .cells) ≡ moves (decode bytes) m (s .masks) (s .cells)
+Step bytes s (moveCall m) (trialAnswered r) s′ = ⊥
+Step bytes s (moveCall m) (improveAnswered r) s′ = ⊥
+Step bytes s (trialCall m scratch) (moveAnswered r) s′ = ⊥
+Step bytes s (trialCall m scratch) (trialAnswered r) s′ =
+    (r ≡ trials (decode bytes) m (s .masks) (s .cells) (length scratch)) × (s′ .masks ≡ s .masks) × (s′ .cells ≡ s .cells)
+Step bytes s (trialCall m scratch) (improveAnswered r) s′ = ⊥
+Step bytes s (improveCall kinds scratch) (moveAnswered r) s′ = ⊥
+Step bytes s (improveCall kinds scratch) (trialAnswered r) s′ = ⊥
+Step bytes s (improveCall kinds scratch) (improveAnswered r) s′ =
+    Improves (decode bytes) kinds (s .masks) (s .cells) (length scratch) r (s′ .masks) (s′ .cells)
+
+pub data Run (bytes : List ℕ) : State → List Call → List Answer → State → Type 0 where
+  ended : {s : State} → Run bytes s [] [] s
+  called : {s s′ s″ : State} {call : Call} {answer : Answer} {calls : List Call} {answers : List Answer}
+      → Step bytes s call answer s′ → Run bytes s′ calls answers s″ → Run bytes s (call ∷ calls) (answer ∷ answers) s″
+
+-- What the book is fed of a call and its answer: improve's answer alone.
+unfoldable pub feed : Call → Answer → Fed
+feed (moveCall m) answer = fedMove m
+feed (trialCall m scratch) answer = fedTrial m
+feed (improveCall kinds scratch) (moveAnswered r) = fedImprove kinds (improved.Refused 0)
+feed (improveCall kinds scratch) (trialAnswered r) = fedImprove kinds (improved.Refused 0)
+feed (improveCall kinds scratch) (improveAnswered r) = fedImprove kinds r
+
+-- The book's sets after a list.
+unfoldable pub bookAfter : Plan → Sets → List Call → List Answer → Sets
+bookAfter P k [] answers = k
+bookAfter P k (call ∷ calls) [] = k
+bookAfter P k (call ∷ calls) (answer ∷ answers) = bookAfter P (bookStep P k (feed call answer)) calls answers
+
+-- "Its roots are the root's penalties under the book's sets", and its cells the penalties of Definition 5.
+unfoldable pub bookRoot : Plan → Sets → ℕ
+bookRoot P k = rootPenalty P (configuration (P .ports) k)
+
+unfoldable pub bookCells : Plan → Sets → List ℕ
+bookCells P k = planCells P (configuration (P .ports) k)
+
+-- The sets "after the move as if it were made".
+unfoldable pub bookMade : Move → Sets → Sets
+bookMade m k = flips (movePairs m) k
+
+-- The three numbers of an accepted move or trial: the roots' penalties before and after; "A cell has changed if its own penalties
+-- under these two configurations differ"; and no more cells change than the move touches.
+pub record NumbersRight (P : Plan) (k : Sets) (m : Move) (before after changed : ℕ) : Type 0 where
+  pub before-right : before ≡ bookRoot P k
+  pub after-right : after ≡ bookRoot P (bookMade m k)
+  pub changed-right : changed ≡ differing (bookCells P k) (bookCells P (bookMade m k))
+  pub changed-touched : changed ≤ touchedCount P (pairsChange (movePairs m))
+
+-- A move or a trial that meets a ground answers its number; any other is accepted with right numbers.
+unfoldable pub MovedRight : ℕ → Plan → Sets → Move → Moved → Type 0
+MovedRight zero P k m (moved.Accepted before after changed) = NumbersRight P k m before after changed
+MovedRight zero P k m (moved.Refused number) = ⊥
+MovedRight (suc g) P k m r = r ≡ moved.Refused (suc g)
+
+-- 12 for scratch that is too short.
+unfoldable pub scratchGround : Plan → List ℕ → Ground
+scratchGround P scratch = (12, ltb (length scratch) (ownCells P))
+
+-- "'No better move' exactly when no legal move of the kinds lowers the root", with the root's penalty; else a legal move of the
+-- kinds that lowers it, and no other legal move of the kinds leaves a smaller root.
+pub record BestMade (P : Plan) (k : Sets) (kinds : ℕ) (m : Move) (before after changed : ℕ) : Type 0 where
+  pub of-kinds : ofKinds kinds m ≡ true
+  pub is-legal : legal P k m ≡ true
+  pub lowers : bookRoot P (bookMade m k) < bookRoot P k
+  pub least : (m′ : Move) → ofKinds kinds m′ ≡ true → legal P k m′ ≡ true → bookRoot P (bookMade m k) ≤ bookRoot P (bookMade m′ k)
+  pub numbers : NumbersRight P k m before after changed
+
+pub record NoneLowers (P : Plan) (k : Sets) (kinds : ℕ) (root : ℕ) : Type 0 where
+  pub none : (m : Move) → ofKinds kinds m ≡ true → legal P k m ≡ true → bookRoot P k ≤ bookRoot P (bookMade m k)
+  pub root-right : root ≡ bookRoot P k
+
+unfoldable pub ImprovedRight : ℕ → Plan → Sets → ℕ → Improved → Type 0
+ImprovedRight zero P k kinds (improved.Made chosen before after changed) = BestMade P k kinds chosen before after changed
+ImprovedRight zero P k kinds (improved.NoBetter root) = NoneLowers P k kinds root
+ImprovedRight zero P k kinds (improved.Refused number) = ⊥
+ImprovedRight (suc g) P k kinds r = r ≡ improved.Refused (suc g)
+
+-- An answer is right under the book's sets before its call.
+unfoldable pub Right : Plan → Sets → Call → Answer → Type 0
+Right P k (moveCall m) (moveAnswered r) = MovedRight (refusal (moveGrounds P k m)) P k m r
+Right P k (moveCall m) (trialAnswered r) = ⊥
+Right P k (moveCall m) (improveAnswered r) = ⊥
+Right P k (trialCall m scratch) (moveAnswered r) = ⊥
+Right P k (trialCall m scratch) (trialAnswered r) = MovedRight (refusal (scratchGround P scratch ∷ moveGrounds P k m)) P k m r
+Right P k (trialCall m scratch) (improveAnswered r) = ⊥
+Right P k (improveCall kinds scratch) (moveAnswered r) = ⊥
+Right P k (improveCall kinds scratch) (trialAnswered r) = ⊥
+Right P k (improveCall kinds scratch) (improveAnswered r) =
+    ImprovedRight (refusal (scratchGround P scratch ∷ (14, not (kindsKnown kinds)) ∷ [])) P k kinds r
+
+unfoldable pub AllRight : Plan → Sets → List Call → List Answer → Type 0
+AllRight P k [] [] = Unit {0}
+AllRight P k [] (answer ∷ answers) = ⊥
+AllRight P k (call ∷ calls) [] = ⊥
+AllRight P k (call ∷ calls) (answer ∷ answers) = Right P k call answer × AllRight P (bookStep P k (feed call answer)) calls answers
+
+-- "The masks of demand 3 are the book's sets", the tail as it was; every cell is the penalty under them, the tail as it was.
+pub record Kept (P : Plan) (k : Sets) (tail-masks tail-cells : List ℕ) (s : State) : Type 0 where
+  pub enough-masks : ownMasks P ≤ length (s .masks)
+  pub masks-are : inMasks (take (ownMasks P) (s .masks)) ≡ k
+  pub masks-tail : drop (ownMasks P) (s .masks) ≡ tail-masks
+  pub cells-are : s .cells ≡ bookCells P k ++ tail-cells

@@ -1,0 +1,36 @@
+// What the calls answer. What each of them promises, the book and the lists of calls are the definitions in specs/. Paper 01.
+use logic::Move;
+
+pub enum Answer {
+    Accepted { nodes: u32, cells: u32 },
+    Refused(u8),
+}
+
+pub enum Loaded {
+    Accepted { root: u32, cells: u32 },
+    Refused(u8),
+}
+
+// A move and a trial answer root before, root after and how many cells differ.
+pub enum Moved {
+    Accepted {
+        before: u32,
+        after: u32,
+        changed: u32,
+    },
+    Refused(u8),
+}
+
+// Improve answers the move that it made with the three numbers, or "no better move" with the root.
+pub enum Improved {
+    Made {
+        chosen: Move,
+        before: u32,
+        after: u32,
+        changed: u32,
+    },
+    NoBetter {
+        root: u32,
+    },
+    Refused(u8),
+}

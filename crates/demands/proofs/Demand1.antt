@@ -1,0 +1,121 @@
+-- Demand 1: "an accepted call writes those parts of the lent tables that document 01 names for it and no more. A refused call [..]
+-- writes nothing." What a call answers and leaves is a function of the plan's own bytes, masks and cells and of the tables' lengths:
+-- two calls whose own parts agree answer the same, and leave what stands behind them as it was. That every call ends, and
+-- that its answer and tables are those of the definitions, is each call's contract.
+use mathlib.Core.Path.{_≡_, refl, sym, ap, _∙_, subst}
+use mathlib.Core.List.{List}
+use Prim.Native.Nat.{ℕ}
+use lib.ListN.{drop, take, length}
+use Rattle.logic.specs.Formula.{Plan}
+use Rattle.logic.specs.Configuration.{ownMasks}
+use Rattle.logic.specs.Cells.{ownCells}
+use Rattle.logic.specs.declared.Move.{Move}
+use Rattle.table_format.specs.Decode.{Decoded, broken, sound, decode, ownBytes}
+use Rattle.table_format.proofs.Own.{own-agree}
+use Rattle.contracts.specs.Load.{loads}
+use Rattle.call_list.specs.Working.{Worked}
+use Rattle.contracts.specs.NodeCells.{nodeCells}
+use Rattle.call_list.proofs.Scratch.{scratch-length, scratch-past}
+use Rattle.contracts.proofs.NodeAnswers.{node-own}
+use Rattle.contracts.specs.declared.Improved.{Improved}
+use Rattle.contracts.specs.MoveCall.{moves}
+use Rattle.contracts.specs.TrialCall.{scratchOwn, trials}
+use Rattle.contracts.specs.ImproveCall.{Improves}
+use Rattle.contracts.specs.OwnParts.{SameFirst, SameTables, SameLent, Allows}
+use Rattle.contracts.proofs.LoadParts.{load-sound}
+use Rattle.contracts.proofs.OwnParts.{move-sound, trial-sound, same-back, improve-any}
+
+-- Two loads whose tables agree on the plan's own bytes, masks and cells, and on being long enough for them, have the same answer and
+-- leave the same own cells.
+pub load-own-parts : (l l′ masks masks′ xs xs′ : List ℕ) → SameFirst (ownBytes l) l l′
+    → ((P : Plan) → decode l ≡ sound P → SameFirst (ownMasks P) masks masks′ × SameFirst (ownCells P) xs xs′)
+    → (loads (decode l) masks xs .0 ≡ loads (decode l′) masks′ xs′ .0)
+    × ((P : Plan) → decode l ≡ sound P → take (ownCells P) (loads (decode l) masks xs .1) ≡ take (ownCells P) (loads (decode l′) masks′ xs′ .1))
+unfolding loads
+load-own-parts l l′ masks masks′ xs xs′ b same = (
+  go (decode l) refl ∙ ap (λ (d : Decoded). loads d masks′ xs′ .0) agree,
+  λ P e. ap (λ (d : Decoded). take (ownCells P) (loads d masks xs .1)) e
+      ∙ load-sound P masks masks′ xs xs′ (same P e .0) (same P e .1) .1
+      ∙ ap (λ (d : Decoded). take (ownCells P) (loads d masks′ xs′ .1)) (sym e ∙ agree),
+)
+  where
+    agree : decode l ≡ decode l′
+    agree = own-agree l l′ (b .entries) (b .enough)
+
+    go : (d : Decoded) → decode l ≡ d → loads d masks xs .0 ≡ loads d masks′ xs′ .0
+    go broken e = refl
+    go (sound P) e = load-sound P masks masks′ xs xs′ (same P e .0) (same P e .1) .0
+
+-- The same of a node's cells.
+pub node-own-parts : (l l′ xs xs′ : List ℕ) (node : ℕ) → SameFirst (ownBytes l) l l′ → ((P : Plan) → decode l ≡ sound P → SameFirst (ownCells P) xs xs′)
+    → nodeCells (decode l) xs node ≡ nodeCells (decode l′) xs′ node
+unfolding nodeCells
+node-own-parts l l′ xs xs′ node b same = go (decode l) refl ∙ ap (λ (d : Decoded). nodeCells d xs′ node) (own-agree l l′ (b .entries) (b .enough))
+  where
+    go : (d : Decoded) → decode l ≡ d → nodeCells d xs node ≡ nodeCells d xs′ node
+    go broken e = refl
+    go (sound P) e = node-own P xs xs′ node (same P e .entries) (same P e .enough)
+
+-- Two moves whose tables agree on the plan's own bytes, masks and cells, and on being long enough for them, have the same answer and
+-- leave the same own masks and cells.
+pub move-own-parts : (l l′ masks masks′ cells cells′ : List ℕ) (m : Move) → SameFirst (ownBytes l) l l′
+    → ((P : Plan) → decode l ≡ sound P → SameTables P masks masks′ cells cells′)
+    → (moves (decode l) m masks cells .0 ≡ moves (decode l′) m masks′ cells′ .0)
+    × ((P : Plan) → decode l ≡ sound P
+    → (take (ownMasks P) (moves (decode l) m masks cells .1) ≡ take (ownMasks P) (moves (decode l′) m masks′ cells′ .1))
+    × (take (ownCells P) (moves (decode l) m masks cells .2) ≡ take (ownCells P) (moves (decode l′) m masks′ cells′ .2)))
+unfolding moves
+move-own-parts l l′ masks masks′ cells cells′ m b same = (
+  go (decode l) refl ∙ ap (λ (d : Decoded). moves d m masks′ cells′ .0) agree,
+  λ P e. let q = move-sound P masks masks′ cells cells′ (same P e) m in (
+    ap (λ (d : Decoded). take (ownMasks P) (moves d m masks cells .1)) e ∙ q .1
+        ∙ ap (λ (d : Decoded). take (ownMasks P) (moves d m masks′ cells′ .1)) (sym e ∙ agree),
+    ap (λ (d : Decoded). take (ownCells P) (moves d m masks cells .2)) e ∙ q .2
+        ∙ ap (λ (d : Decoded). take (ownCells P) (moves d m masks′ cells′ .2)) (sym e ∙ agree),
+  ),
+)
+  where
+    agree : decode l ≡ decode l′
+    agree = own-agree l l′ (b .entries) (b .enough)
+
+    go : (d : Decoded) → decode l ≡ d → moves d m masks cells .0 ≡ moves d m masks′ cells′ .0
+    go broken e = refl
+    go (sound P) e = move-sound P masks masks′ cells cells′ (same P e) m .0
+
+-- The same of trials, whatever scratch holds.
+pub trial-own-parts : (l l′ masks masks′ cells cells′ scratch scratch′ : List ℕ) (m : Move) → SameFirst (ownBytes l) l l′
+    → ((P : Plan) → decode l ≡ sound P → SameLent P masks masks′ cells cells′ scratch scratch′)
+    → trials (decode l) m masks cells (length scratch) ≡ trials (decode l′) m masks′ cells′ (length scratch′)
+unfolding trials
+trial-own-parts l l′ masks masks′ cells cells′ scratch scratch′ m b same =
+    go (decode l) refl ∙ ap (λ (d : Decoded). trials d m masks′ cells′ (length scratch′)) (own-agree l l′ (b .entries) (b .enough))
+  where
+    go : (d : Decoded) → decode l ≡ d → trials d m masks cells (length scratch) ≡ trials d m masks′ cells′ (length scratch′)
+    go broken e = refl
+    go (sound P) e = trial-sound P masks masks′ cells cells′ (same P e .tables) m scratch scratch′ (same P e .enough)
+
+-- The same of improve: over both tables the same answers are allowed, with the same own masks and cells afterwards.
+pub improve-own-parts : (l l′ masks masks′ cells cells′ scratch scratch′ : List ℕ) (kinds : ℕ) → SameFirst (ownBytes l) l l′
+    → ((P : Plan) → decode l ≡ sound P → SameLent P masks masks′ cells cells′ scratch scratch′) → (r : Improved) (masks₁ cells₁ : List ℕ)
+    → (Improves (decode l) kinds masks cells (length scratch) r masks₁ cells₁ → Allows (decode l′) kinds masks′ cells′ scratch′ r masks₁ cells₁)
+    × (Improves (decode l′) kinds masks′ cells′ (length scratch′) r masks₁ cells₁ → Allows (decode l) kinds masks cells scratch r masks₁ cells₁)
+improve-own-parts l l′ masks masks′ cells cells′ scratch scratch′ kinds b same r masks₁ cells₁ = (
+  (λ x. subst (λ (d : Decoded). Allows d kinds masks′ cells′ scratch′ r masks₁ cells₁) agree
+      (improve-any (decode l) masks masks′ cells cells′ scratch scratch′ kinds same r masks₁ cells₁ x)),
+  (λ x. improve-any (decode l) masks′ masks cells′ cells scratch′ scratch kinds
+      (λ P e. record { tables = same-back P masks masks′ cells cells′ (same P e .tables); enough = sym (same P e .enough) })
+      r masks₁ cells₁
+      (subst (λ (d : Decoded). Improves d kinds masks′ cells′ (length scratch′) r masks₁ cells₁) (sym agree) x)),
+)
+  where
+    agree : decode l ≡ decode l′
+    agree = own-agree l l′ (b .entries) (b .enough)
+
+-- Whatever the list, no cell of scratch past the plan's own is written, and none at all where the table is broken.
+pub work-past : (bytes calls masks cells scratch answers : List ℕ) (count : ℕ) (masks′ cells′ scratch′ answers′ : List ℕ)
+    → Worked bytes calls masks cells scratch answers count masks′ cells′ scratch′ answers′
+    → (length scratch′ ≡ length scratch) × (drop (scratchOwn (decode bytes)) scratch′ ≡ drop (scratchOwn (decode bytes)) scratch)
+work-past bytes calls masks cells scratch answers count masks′ cells′ scratch′ answers′ w = (
+  scratch-length (decode bytes) scratch scratch′ (w .said) (w .answered) (w .scratch-run),
+  scratch-past (decode bytes) scratch scratch′ (w .said) (w .answered) (w .scratch-run),
+)

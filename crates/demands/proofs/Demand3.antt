@@ -1,0 +1,64 @@
+-- Demand 3, one claim over every list of calls: from the tables as an accepted load leaves them, the masks are those of the book,
+-- each cell holds Definition 5's penalty under them, and every answer is right.
+use mathlib.Core.Path.{_≡_, refl, sym, ap, _∙_, subst}
+use mathlib.Core.Logic.{_↔_}
+use mathlib.Core.Bool.{true}
+use mathlib.Core.List.{List}
+use Prim.Native.Nat.{ℕ, _≤_}
+use native.Mathlib.Omega.{arith}
+use lib.ListN.{take, drop}
+use Rattle.logic.specs.declared.Move.{Move}
+use Rattle.logic.specs.Formula.{Plan}
+use Rattle.logic.specs.Configuration.{Sets, inMasks, ownMasks}
+use Rattle.logic.specs.Cells.{ownCells}
+use Rattle.logic.specs.Moves.{legal, ofKinds}
+use Rattle.call_list.specs.Working.{Worked}
+use Rattle.table_format.specs.Decode.{Decoded, sound, decode}
+use Rattle.contracts.specs.declared.Loaded.the-variants.{Accepted, Refused}
+use Rattle.contracts.specs.Load.{loads}
+use Rattle.contracts.specs.declared.Improved.{Improved}
+use Rattle.contracts.specs.Lists.{Call, Answer, State, Run, bookAfter, bookRoot, bookMade, ImprovedRight, AllRight, Kept}
+use Rattle.contracts.proofs.Lists.{load-holds, run-right}
+use Rattle.contracts.specs.declared.Improved.the-variants as improved
+
+-- Demand 3. From the tables as an accepted load leaves them, for every list of calls and all answers that the calls' contracts
+-- allow: each answer is right under the book's sets before its call; afterwards the masks are the book's sets, each cell is
+-- Definition 5's penalty under them, and what is past the plan's own is as it was.
+pub lists-right : (bytes masks before cells : List ℕ) (root total : ℕ) → loads (decode bytes) masks before ≡ (Accepted root total, cells)
+    → (P : Plan) → decode bytes ≡ sound P → (calls : List Call) (answers : List Answer) (s : State)
+    → Run bytes record { masks = masks; cells = cells } calls answers s
+    → AllRight P (inMasks (take (ownMasks P) masks)) calls answers
+    × Kept P (bookAfter P (inMasks (take (ownMasks P) masks)) calls answers) (drop (ownMasks P) masks) (drop (ownCells P) before) s
+lists-right bytes masks before cells root total h P d calls answers s r =
+    let l = sym (ap (λ (x : Decoded). loads x masks before) d) ∙ h in
+    let q = run-right bytes P d (inMasks (take (ownMasks P) masks)) (drop (ownMasks P) masks) (drop (ownCells P) before)
+    record { masks = masks; cells = cells } calls answers s (load-holds P masks before cells root total l) r in
+    (q .0, q .1 .kept)
+
+isNoBetter : Improved → Type 0
+isNoBetter (improved.Made chosen before after changed) = ⊥
+isNoBetter (improved.NoBetter root) = Unit {0}
+isNoBetter (improved.Refused number) = ⊥
+
+-- An accepted improve that is right answers "no better move" exactly when no legal move of its kinds lowers the root.
+pub no-better-exactly : (P : Plan) (k : Sets) (kinds : ℕ) (r : Improved) → ImprovedRight 0 P k kinds r
+    → ((root : ℕ) × (r ≡ improved.NoBetter root)) ↔ ((m : Move) → ofKinds kinds m ≡ true → legal P k m ≡ true → bookRoot P k ≤ bookRoot P (bookMade m k))
+unfolding ImprovedRight isNoBetter
+no-better-exactly P k kinds (improved.Made m b a n) x = (
+  (λ e. absurd (subst isNoBetter (sym (e .1)) tt)),
+  (λ H. let h = H m (x .of-kinds) (x .is-legal) in absurd (omega (arith, x .lowers))),
+)
+no-better-exactly P k kinds (improved.NoBetter root) x = ((λ e. x .none), (λ H. (root, refl)))
+no-better-exactly P k kinds (improved.Refused number) x = absurd x
+
+-- After an accepted load every answer that `work` writes is right under the book's sets before its call, and it leaves the masks
+-- as the book's sets and each cell as Definition 5's penalty under them, with what is past the plan's own as it was.
+pub work-right : (bytes masks before cells : List ℕ) (root total : ℕ) → loads (decode bytes) masks before ≡ (Accepted root total, cells)
+    → (P : Plan) → decode bytes ≡ sound P
+    → (calls scratch answers : List ℕ) (count : ℕ) (masks′ cells′ scratch′ answers′ : List ℕ)
+    → (w : Worked bytes calls masks cells scratch answers count masks′ cells′ scratch′ answers′)
+    → AllRight P (inMasks (take (ownMasks P) masks)) (w .said) (w .answered)
+    × Kept P (bookAfter P (inMasks (take (ownMasks P) masks)) (w .said) (w .answered)) (drop (ownMasks P) masks) (drop (ownCells P) before)
+    record { masks = masks′; cells = cells′ }
+work-right bytes masks before cells root total h P d calls scratch answers count masks′ cells′ scratch′ answers′ w =
+    lists-right bytes masks before cells root total h P d (w .said) (w .answered) record { masks = masks′; cells = cells′ } (w .run)

@@ -1,0 +1,267 @@
+-- Computed calls over plan A: each kind of move accepted once and refused once, its pairs and its place in a sum of kinds; and two
+-- lists of calls with their answers. Assumes nothing.
+use mathlib.Core.Path.{_≡_, refl, sym, ap, _∙_, subst}
+use mathlib.Core.Bool.{Bool, true, false}
+use mathlib.Core.List.{List, [], _∷_, _++_}
+use Prim.Native.Nat.{ℕ, _≤_}
+use native.Mathlib.Omega.{arith}
+use lib.ListN.{length, replicate}
+use Rattle.logic.specs.declared.Move.{Move}
+use Rattle.logic.specs.Formula.{kindNumber, nodeCount, childDepth}
+use Rattle.logic.specs.Configuration.{indicator, portsIn, configuration, inMask, inMasks, ownMasks, spelled, withinPorts, enter, leave, allWithin}
+use Rattle.logic.specs.Truth.{portOf}
+use Rattle.logic.specs.Penalty.{compare, sizePenalty, literalPenalty, sum, least, copy, combine, eachPort, below, penalties, penalty}
+use Rattle.logic.specs.Cells.{cellCount, placeOf, tupleAt, tabulate, siblingFirst, layout, ownCells, cells, rootPenalty}
+use Rattle.logic.specs.Moves.{moveKind, fieldsKnown, fieldsFit, known, fits, legal, refusal, moveGrounds, kindMasks, moveMasks, Pair, kindPairs, movePairs, kindWeight, kindsKnown, ofKinds}
+use Rattle.logic.specs.Change.{someOf, pairsChange, memberHit, hit, nodeHit, forestHit, touched, modulus, differences, newNumbers, renew, cellOf, renewals, newCell, newCells, differing}
+use Rattle.logic.specs.Known.{literal, over, plan, planA, move}
+use Rattle.table_format.specs.Bytes.{encoding}
+use Rattle.table_format.specs.Rules.{everyNode, treeCount, arityRule, mayNest, nestingRule, depthRule, literalRule, innerRule, nodeRule, formulaRule, mostCells, planRule}
+use Rattle.table_format.specs.Decode.{Decoded, sound, decode}
+use Rattle.table_format.proofs.Encoding.{decode-complete}
+use Rattle.contracts.specs.Load.{loadGrounds, loadOr, loadPlan, loads}
+use Rattle.contracts.specs.declared.Moved.{Moved}
+use Rattle.contracts.specs.declared.Improved.{Improved}
+use Rattle.contracts.specs.MoveCall.{tableGrounds, moveCallGrounds, cellsAfter, moveAnswer, moveOr, movePlan, moves}
+use Rattle.contracts.specs.TrialCall.{trialOr, trialPlan, trials}
+use Rattle.contracts.specs.ImproveCall.{improveGrounds, rootNow, rootAfter, Chosen, ImprovesOr, ImprovesPlan, Improves}
+use Rattle.contracts.specs.Lists.{Call, moveCall, trialCall, improveCall, Answer, moveAnswered, trialAnswered, improveAnswered, State, Step, Run, ended, called, bookAfter, AllRight, Kept}
+use Rattle.demands.proofs.Demand3.{lists-right}
+use Rattle.contracts.specs.declared.Moved.the-variants as moved
+use Rattle.contracts.specs.declared.Loaded.the-variants as loaded
+use Rattle.contracts.specs.declared.Improved.the-variants as improved
+
+-- what computes here
+computing : Unit {0}
+unfolding kindNumber nodeCount childDepth indicator portsIn configuration inMask inMasks ownMasks spelled withinPorts enter leave portOf compare sizePenalty literalPenalty sum least copy combine eachPort below penalties penalty cellCount placeOf tupleAt tabulate siblingFirst layout ownCells cells rootPenalty moveKind fieldsKnown fieldsFit known fits legal refusal moveGrounds kindMasks moveMasks kindPairs movePairs kindWeight kindsKnown ofKinds someOf pairsChange memberHit hit nodeHit forestHit touched modulus differences newNumbers renew cellOf renewals newCell newCells differing literal over plan planA move everyNode treeCount arityRule mayNest nestingRule depthRule literalRule innerRule nodeRule formulaRule mostCells planRule allWithin loadGrounds loadOr loadPlan loads tableGrounds moveCallGrounds cellsAfter moveAnswer moveOr movePlan moves trialOr trialPlan trials improveGrounds rootNow rootAfter Chosen ImprovesOr ImprovesPlan Improves Step
+computing = tt
+
+-- plan A's cells under its masks, and after each of four moves
+abbrev cellsA : List ℕ
+cellsA = 1 ∷ 1 ∷ 1 ∷ 0 ∷ 1 ∷ 0 ∷ 0 ∷ 0 ∷ 0 ∷ 1 ∷ 0 ∷ 0 ∷ 0 ∷ 0 ∷ 1 ∷ 0 ∷ 0 ∷ 1 ∷ 0 ∷ 0 ∷ 0 ∷ 0 ∷ 1 ∷ 0 ∷ 0 ∷ 1 ∷ 1 ∷ 1 ∷ 1 ∷ 0 ∷ 1 ∷ 1 ∷ 1 ∷ 0 ∷ []
+
+abbrev cellsAdd : List ℕ
+cellsAdd = 3 ∷ 3 ∷ 2 ∷ 0 ∷ 1 ∷ 1 ∷ 0 ∷ 0 ∷ 1 ∷ 1 ∷ 0 ∷ 1 ∷ 0 ∷ 0 ∷ 1 ∷ 0 ∷ 0 ∷ 1 ∷ 0 ∷ 0 ∷ 0 ∷ 0 ∷ 1 ∷ 0 ∷ 0 ∷ 1 ∷ 0 ∷ 1 ∷ 1 ∷ 0 ∷ 1 ∷ 1 ∷ 1 ∷ 1 ∷ []
+
+abbrev cellsDrop : List ℕ
+cellsDrop = 0 ∷ 0 ∷ 0 ∷ 0 ∷ 0 ∷ 0 ∷ 0 ∷ 0 ∷ 0 ∷ 1 ∷ 0 ∷ 0 ∷ 0 ∷ 1 ∷ 1 ∷ 0 ∷ 0 ∷ 1 ∷ 0 ∷ 1 ∷ 0 ∷ 0 ∷ 0 ∷ 0 ∷ 0 ∷ 1 ∷ 1 ∷ 1 ∷ 1 ∷ 0 ∷ 1 ∷ 0 ∷ 1 ∷ 0 ∷ []
+
+abbrev cellsTransfer : List ℕ
+cellsTransfer = 3 ∷ 3 ∷ 2 ∷ 0 ∷ 1 ∷ 1 ∷ 0 ∷ 0 ∷ 1 ∷ 1 ∷ 0 ∷ 1 ∷ 0 ∷ 0 ∷ 2 ∷ 0 ∷ 0 ∷ 1 ∷ 0 ∷ 0 ∷ 1 ∷ 0 ∷ 1 ∷ 0 ∷ 0 ∷ 1 ∷ 0 ∷ 1 ∷ 1 ∷ 0 ∷ 1 ∷ 1 ∷ 0 ∷ 1 ∷ []
+
+abbrev cellsSwap : List ℕ
+cellsSwap = 3 ∷ 3 ∷ 3 ∷ 1 ∷ 1 ∷ 1 ∷ 0 ∷ 0 ∷ 1 ∷ 0 ∷ 0 ∷ 1 ∷ 0 ∷ 0 ∷ 1 ∷ 0 ∷ 0 ∷ 1 ∷ 0 ∷ 0 ∷ 0 ∷ 1 ∷ 1 ∷ 0 ∷ 1 ∷ 1 ∷ 0 ∷ 1 ∷ 1 ∷ 0 ∷ 1 ∷ 1 ∷ 1 ∷ 0 ∷ []
+
+-- The tables are longer than the plan's own: a fourth mask, with ports that the plan lacks, and a 35th cell. They stay as they are.
+abbrev masksWith : ℕ → ℕ → ℕ → List ℕ
+masksWith S T I = S ∷ T ∷ I ∷ 255 ∷ []
+
+abbrev lent : List ℕ → List ℕ
+lent own = own ++ 77 ∷ []
+
+abbrev outcome : Moved → List ℕ → List ℕ → Moved × List ℕ × List ℕ
+outcome r masks cells = (r, masks, cells)
+
+-- one move over plan A's tables as the load leaves them
+abbrev moved-A : ℕ → ℕ → ℕ → ℕ → ℕ → Moved × List ℕ × List ℕ
+moved-A kind s t p q = moves (sound planA) (move kind s t p q) (masksWith 3 7 1) (lent cellsA)
+
+-- S has ports 0 and 1, T 0 to 2, I 0. Add 2 to I; drop 1 from T; transfer 2 from T to I; swap 0 and 2 in I.
+pub known-moves : (moved-A 1 2 0 2 0 ≡ outcome (moved.Accepted 1 3 8) (masksWith 3 7 5) (lent cellsAdd))
+    × (moved-A 2 1 0 1 0 ≡ outcome (moved.Accepted 1 0 8) (masksWith 3 5 1) (lent cellsDrop))
+    × (moved-A 3 1 2 2 0 ≡ outcome (moved.Accepted 1 3 11) (masksWith 3 3 5) (lent cellsTransfer))
+    × (moved-A 4 2 0 0 2 ≡ outcome (moved.Accepted 1 3 11) (masksWith 3 7 4) (lent cellsSwap))
+unfolding computing
+known-moves = (refl, refl, refl, refl)
+
+-- Add 0 to S, drop 2 from S, transfer 0 from T to S, swap 0 and 1 in S: each breaks its condition. A field that the kind doesn't use
+-- is not 0; kinds 0 and 5; a fourth set, a fourth port.
+abbrev refused-A : ℕ → Moved × List ℕ × List ℕ
+refused-A number = outcome (moved.Refused number) (masksWith 3 7 1) (lent cellsA)
+
+pub known-refusals : (moved-A 1 0 0 0 0 ≡ refused-A 15)
+    × (moved-A 2 0 0 2 0 ≡ refused-A 15)
+    × (moved-A 3 1 0 0 0 ≡ refused-A 15)
+    × (moved-A 4 0 0 0 1 ≡ refused-A 15)
+    × (moved-A 1 2 1 2 0 ≡ refused-A 14)
+    × (moved-A 2 1 0 1 1 ≡ refused-A 14)
+    × (moved-A 3 1 2 2 1 ≡ refused-A 14)
+    × (moved-A 4 2 1 0 2 ≡ refused-A 14)
+    × (moved-A 0 0 0 0 0 ≡ refused-A 14)
+    × (moved-A 5 0 0 0 0 ≡ refused-A 14)
+    × (moved-A 1 3 0 2 0 ≡ refused-A 14)
+    × (moved-A 4 2 0 0 3 ≡ refused-A 14)
+unfolding computing
+known-refusals = (refl, refl, refl, refl, refl, refl, refl, refl, refl, refl, refl, refl)
+
+-- 12 before 13: a mask short; a cell short; then a mask of the plan's own with port 3.
+pub known-tables : (moves (sound planA) (move 1 0 0 0 0) (8 ∷ 7 ∷ []) (lent cellsA) ≡ outcome (moved.Refused 12) (8 ∷ 7 ∷ []) (lent cellsA))
+    × (moves (sound planA) (move 1 0 0 0 0) (masksWith 8 7 1) (0 ∷ []) ≡ outcome (moved.Refused 12) (masksWith 8 7 1) (0 ∷ []))
+    × (moves (sound planA) (move 0 0 0 0 0) (masksWith 8 7 1) (lent cellsA) ≡ outcome (moved.Refused 13) (masksWith 8 7 1) (lent cellsA))
+unfolding computing
+known-tables = (refl, refl, refl)
+
+abbrev pairs : List Pair → List Pair
+pairs qs = qs
+
+-- "one for add and drop, two for the others"
+pub known-pairs-changed : (movePairs (move 1 2 0 5 0) ≡ pairs ((2, 5) ∷ []))
+    × (movePairs (move 2 2 0 5 0) ≡ pairs ((2, 5) ∷ []))
+    × (movePairs (move 3 2 1 5 0) ≡ pairs ((2, 5) ∷ (1, 5) ∷ []))
+    × (movePairs (move 4 2 0 5 6) ≡ pairs ((2, 5) ∷ (2, 6) ∷ []))
+unfolding computing
+known-pairs-changed = (refl, refl, refl, refl)
+
+-- whether a sum of kinds has add, drop, transfer and swap
+abbrev has : ℕ → Bool × Bool × Bool × Bool
+has kinds = (ofKinds kinds (move 1 0 0 0 0), ofKinds kinds (move 2 0 0 0 0), ofKinds kinds (move 3 0 0 0 0), ofKinds kinds (move 4 0 0 0 0))
+
+pub known-kinds : (has 1 ≡ (true, false, false, false))
+    × (has 2 ≡ (false, true, false, false))
+    × (has 4 ≡ (false, false, true, false))
+    × (has 8 ≡ (false, false, false, true))
+    × (has 15 ≡ (true, true, true, true))
+    × (ofKinds 15 (move 0 0 0 0 0) ≡ false)
+    × (ofKinds 15 (move 5 0 0 0 0) ≡ false)
+    × (kindsKnown 0 ≡ false)
+    × (kindsKnown 1 ≡ true)
+    × (kindsKnown 15 ≡ true)
+    × (kindsKnown 16 ≡ false)
+unfolding computing
+known-kinds = (refl, refl, refl, refl, refl, refl, refl, refl, refl, refl, refl)
+
+-- the table of plan A, and 99 for a byte past it
+abbrev bytesA : List ℕ
+bytesA = encoding planA ++ 99 ∷ []
+
+rules-A : planRule planA ≡ true
+unfolding computing
+rules-A = refl
+
+pub decode-A : decode bytesA ≡ sound planA
+decode-A = decode-complete bytesA planA record { rest = 99 ∷ []; is = refl; rules = rules-A }
+
+-- "Plan A prints `penalty 1 cells 34`". The cells held other numbers before.
+pub known-load : loads (decode bytesA) (masksWith 3 7 1) (lent (replicate 34 4294967295)) ≡ (loaded.Accepted 1 34, lent cellsA)
+unfolding computing
+known-load = ap (λ (d : Decoded). loads d (masksWith 3 7 1) (lent (replicate 34 4294967295))) decode-A
+
+abbrev state : List ℕ → List ℕ → State
+state masks own = record { masks = masks; cells = lent own }
+
+-- Scratch that is long enough and holds anything, and scratch that is too short.
+abbrev scratch : List ℕ
+scratch = replicate 34 4294967295
+
+abbrev short : List ℕ
+short = replicate 33 0
+
+from-zero : (n : ℕ) → 0 ≤ n
+from-zero n = omega arith
+
+-- once the root is 0 no move leaves a smaller one
+none-better : Improves (sound planA) 15 (masksWith 3 5 1) (lent cellsDrop) (length scratch) (improved.NoBetter 0) (masksWith 3 5 1) (lent cellsDrop)
+unfolding computing
+none-better = record {
+  own-masks = 3 ∷ 5 ∷ 1 ∷ [];
+  own-cells = cellsDrop;
+  improves = record { none-smaller = λ m c. from-zero _; root-is = refl; masks-kept = refl; cells-kept = refl };
+  masks-are = refl;
+  cells-are = refl;
+}
+
+-- B's drop leaves the root 0, and no move leaves a smaller one
+drop-best : Improves (sound planA) 15 (masksWith 3 7 1) (lent cellsA) (length scratch)
+    (improved.Made (move 2 1 0 1 0) 1 0 8) (masksWith 3 5 1) (lent cellsDrop)
+unfolding computing
+drop-best = record {
+  own-masks = 3 ∷ 5 ∷ 1 ∷ [];
+  own-cells = cellsDrop;
+  improves = record {
+    candidate = record { of-kinds = refl; is-legal = refl };
+    smaller = omega arith;
+    least = λ m c. from-zero _;
+    before-is = refl;
+    after-is = refl;
+    changed-is = refl;
+    masks-are = refl;
+    cells-are = refl;
+  };
+  masks-are = refl;
+  cells-are = refl;
+}
+
+-- refused for scratch that is too short, and for a sum of 0
+improve-short : Improves (sound planA) 15 (masksWith 3 7 1) (lent cellsA) (length short) (improved.Refused 12) (masksWith 3 7 1) (lent cellsA)
+unfolding computing
+improve-short = record { own-masks = 3 ∷ 7 ∷ 1 ∷ []; own-cells = cellsA; improves = (refl, refl, refl); masks-are = refl; cells-are = refl }
+
+improve-none : Improves (sound planA) 0 (masksWith 3 7 1) (lent cellsA) (length scratch) (improved.Refused 14) (masksWith 3 7 1) (lent cellsA)
+unfolding computing
+improve-none = record { own-masks = 3 ∷ 7 ∷ 1 ∷ []; own-cells = cellsA; improves = (refl, refl, refl); masks-are = refl; cells-are = refl }
+
+abbrev stateA : State
+stateA = state (masksWith 3 7 1) cellsA
+
+abbrev stateDrop : State
+stateDrop = state (masksWith 3 5 1) cellsDrop
+
+-- one call of a list over plan A's table
+move-called : (m : Move) (r : Moved) (s s′ : State) → (r, s′ .masks, s′ .cells) ≡ moves (sound planA) m (s .masks) (s .cells)
+    → Step bytesA s (moveCall m) (moveAnswered r) s′
+unfolding Step
+move-called m r s s′ e = e ∙ ap (λ (d : Decoded). moves d m (s .masks) (s .cells)) (sym decode-A)
+
+trial-called : (m : Move) (lent-scratch : List ℕ) (r : Moved) (s : State)
+    → r ≡ trials (sound planA) m (s .masks) (s .cells) (length lent-scratch) → Step bytesA s (trialCall m lent-scratch) (trialAnswered r) s
+unfolding Step
+trial-called m lent-scratch r s e =
+    (e ∙ ap (λ (d : Decoded). trials d m (s .masks) (s .cells) (length lent-scratch)) (sym decode-A), refl, refl)
+
+improve-called : (kinds : ℕ) (lent-scratch : List ℕ) (r : Improved) (s s′ : State)
+    → Improves (sound planA) kinds (s .masks) (s .cells) (length lent-scratch) r (s′ .masks) (s′ .cells)
+    → Step bytesA s (improveCall kinds lent-scratch) (improveAnswered r) s′
+unfolding Step
+improve-called kinds lent-scratch r s s′ x =
+    subst (λ (d : Decoded). Improves d kinds (s .masks) (s .cells) (length lent-scratch) r (s′ .masks) (s′ .cells)) (sym decode-A) x
+
+-- A list from the tables as the load leaves them: B's drop (1 before, 0 after, 8 changed), an add that is refused, and "no better
+-- move" of any kind.
+abbrev pub knownCalls : List Call
+knownCalls = moveCall (move 2 1 0 1 0) ∷ moveCall (move 1 0 0 0 0) ∷ improveCall 15 scratch ∷ []
+
+abbrev pub knownAnswers : List Answer
+knownAnswers = moveAnswered (moved.Accepted 1 0 8) ∷ moveAnswered (moved.Refused 15) ∷ improveAnswered (improved.NoBetter 0) ∷ []
+
+pub known-run : Run bytesA stateA knownCalls knownAnswers stateDrop
+unfolding computing
+known-run =
+    called (move-called (move 2 1 0 1 0) (moved.Accepted 1 0 8) stateA stateDrop refl)
+    (called (move-called (move 1 0 0 0 0) (moved.Refused 15) stateDrop stateDrop refl)
+    (called (improve-called 15 scratch (improved.NoBetter 0) stateDrop stateDrop none-better) ended))
+
+-- Another: improve with each of its answers, and trials.
+pub known-run-improve : Run bytesA stateA
+    (improveCall 15 short ∷ improveCall 0 scratch ∷ trialCall (move 2 1 0 1 0) scratch ∷ trialCall (move 2 1 0 1 0) short
+    ∷ trialCall (move 1 0 0 0 0) scratch ∷ improveCall 15 scratch ∷ improveCall 15 scratch ∷ [])
+    (improveAnswered (improved.Refused 12) ∷ improveAnswered (improved.Refused 14) ∷ trialAnswered (moved.Accepted 1 0 8)
+    ∷ trialAnswered (moved.Refused 12) ∷ trialAnswered (moved.Refused 15) ∷ improveAnswered (improved.Made (move 2 1 0 1 0) 1 0 8)
+    ∷ improveAnswered (improved.NoBetter 0) ∷ [])
+    stateDrop
+unfolding computing
+known-run-improve =
+    called (improve-called 15 short (improved.Refused 12) stateA stateA improve-short)
+    (called (improve-called 0 scratch (improved.Refused 14) stateA stateA improve-none)
+    (called (trial-called (move 2 1 0 1 0) scratch (moved.Accepted 1 0 8) stateA refl)
+    (called (trial-called (move 2 1 0 1 0) short (moved.Refused 12) stateA refl)
+    (called (trial-called (move 1 0 0 0 0) scratch (moved.Refused 15) stateA refl)
+    (called (improve-called 15 scratch (improved.Made (move 2 1 0 1 0) 1 0 8) stateA stateDrop drop-best)
+    (called (improve-called 15 scratch (improved.NoBetter 0) stateDrop stateDrop none-better) ended))))))
+
+-- Demand 3's theorem at the first list: what it promises of a list that there is.
+pub known-list-right : AllRight planA (inMasks (3 ∷ 7 ∷ 1 ∷ [])) knownCalls knownAnswers
+    × Kept planA (bookAfter planA (inMasks (3 ∷ 7 ∷ 1 ∷ [])) knownCalls knownAnswers) (255 ∷ []) (77 ∷ []) stateDrop
+unfolding ownMasks ownCells cellCount childDepth planA plan over literal
+known-list-right =
+    lists-right bytesA (masksWith 3 7 1) (lent (replicate 34 4294967295)) (lent cellsA) 1 34 known-load planA decode-A
+    knownCalls knownAnswers stateDrop known-run

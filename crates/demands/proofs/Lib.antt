@@ -1,0 +1,7 @@
+-- The three demands, and known plans, texts and lists computed.
+pub mod KnownTexts
+pub mod Demand2
+pub mod Demand1
+pub mod KnownRun
+pub mod Demand3
+pub mod KnownLine

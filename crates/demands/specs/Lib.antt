@@ -1,0 +1,2 @@
+pub mod KnownTexts
+pub mod ReadThenLoad

@@ -1,3 +1,0 @@
-pub mod Accepting
-pub mod Answering
-pub mod Judging

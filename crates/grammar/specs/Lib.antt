@@ -1,3 +1,0 @@
-pub mod Grammar
-pub mod Parser
-pub mod Contract

@@ -1,4 +1,0 @@
-pub mod Choosing
-pub mod Trying
-pub mod Searching
-pub mod Answering

@@ -1,4 +1,0 @@
-pub mod Telling
-pub mod Scratch
-pub mod Extending
-pub mod Right

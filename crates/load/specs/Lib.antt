@@ -1,4 +1,0 @@
-pub mod Joined
-pub mod Fill
-pub mod Load
-pub mod NodeCells

@@ -1,0 +1,9 @@
+pub mod Cells
+pub mod Change
+pub mod Configuration
+pub mod Formula
+pub mod Known
+pub mod Moves
+pub mod Penalty
+pub mod Truth
+pub mod inner

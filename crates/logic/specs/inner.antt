@@ -1,0 +1,4 @@
+-- What only proofs and inner contracts use.
+pub mod Agreement
+pub mod Flip
+pub mod Literals

@@ -1,0 +1,5 @@
+-- Laws.
+pub mod Answering
+pub mod Choosing
+pub mod Searching
+pub mod Trying

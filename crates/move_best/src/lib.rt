@@ -1,0 +1,154 @@
+// The choice of improve: the best of all candidates, by the root that each would leave. Nothing is written but the masks that a
+// candidate would leave, in a table of this crate's own. Paper 01, section One move.
+use cells_touch::change_of;
+use cells_try::root_after;
+use logic::Move;
+use move_legal::narrow;
+use move_masks::copy_masks;
+use move_masks::masks_after;
+use move_order::first_candidate;
+use move_order::next_candidate;
+ghost use mathlib.Core.Path.{_≡_};
+ghost use mathlib.Core.Bool.{true, false, cond};
+ghost use lib.Dec.{ltb};
+ghost use Rattle.move_order.specs.inner.Stepping.{outset};
+ghost use Rattle.move_best.specs.inner.Choosing.{SearchReady, SearchRoom, TryReady, RootIs, Chooses, choiceOf};
+
+// The best so far: found once a candidate leaves a smaller root than now. Its root is the one to beat.
+pub struct Choice {
+    pub found: bool,
+    pub m: Move,
+    pub root: u32,
+}
+
+// The root that a legal move would leave.
+fn root_of(
+    table: &[u8],
+    firsts: &[u32],
+    ends: &[u16],
+    uses: &[u64],
+    masks: &[u64],
+    cells: &[u32],
+    ports: usize,
+    sets: usize,
+    m: Move,
+    work: &mut [u64],
+) -> u32
+    requires { ⌜ TryReady ports sets (now table) (now firsts) (now ends) (now uses) (now masks) (now cells) m (now work) ⌝ }
+    ensures { λ r. ⌜ RootIs (now (table .entry)) (now (masks .entry)) (now (cells .entry)) m r ⌝ }
+{
+    copy_masks(masks, sets, work);
+    masks_after(m, narrow(ports), narrow(sets), work);
+    let r = root_after(
+        table,
+        firsts,
+        ends,
+        uses,
+        &work[..],
+        cells,
+        ports,
+        sets,
+        change_of(m),
+    );
+    r.value
+}
+
+// The root to beat, before any candidate.
+fn none_yet(root: u32) -> Choice
+    ensures { λ r. ⌜ r ≡ choiceOf false outset root ⌝ }
+{
+    Choice {
+        found: false,
+        m: Move {
+            kind: 0,
+            s: 0,
+            t: 0,
+            p: 0,
+            q: 0,
+        },
+        root: root,
+    }
+}
+
+// The better of the best so far and a candidate; the earlier of two that are equal.
+fn better(best: Choice, m: Move, root: u32) -> Choice
+    ensures { λ r. ⌜ r ≡ cond (ltb root (best .root)) (choiceOf true m root) best ⌝ }
+{
+    if root < best.root {
+        return Choice {
+            found: true,
+            m: m,
+            root: root,
+        };
+    }
+    best
+}
+
+// A fold over the candidates.
+fn search(
+    table: &[u8],
+    firsts: &[u32],
+    ends: &[u16],
+    uses: &[u64],
+    masks: &[u64],
+    cells: &[u32],
+    ports: usize,
+    sets: usize,
+    kinds: u32,
+    work: &mut [u64],
+) -> Choice
+    requires { ⌜ SearchRoom ports sets (now table) (now firsts) (now ends) (now uses) (now masks) (now cells) (now work) ⌝ }
+    ensures { λ r. ⌜ Chooses (now (table .entry)) (now (masks .entry)) (now (cells .entry)) kinds r ⌝ }
+{
+    let u = narrow(ports);
+    let n = narrow(sets);
+    let mut best = none_yet(cells[0]);
+    let mut at = first_candidate(kinds, u, n, masks);
+    while at.found {
+        let root = root_of(
+            table,
+            firsts,
+            ends,
+            uses,
+            masks,
+            cells,
+            ports,
+            sets,
+            at.m,
+            work,
+        );
+        best = better(best, at.m, root);
+        at = next_candidate(at.m, kinds, u, n, masks);
+    }
+    best
+}
+
+// The candidate that leaves the least root, the first of them in the order kind, S, T, p, q, if that root is smaller than now.
+pub fn choose(
+    table: &[u8],
+    firsts: &[u32],
+    ends: &[u16],
+    uses: &[u64],
+    masks: &[u64],
+    cells: &[u32],
+    ports: usize,
+    sets: usize,
+    kinds: u32,
+) -> Choice
+    requires { ⌜ SearchReady ports sets (now table) (now firsts) (now ends) (now uses) (now masks) (now cells) ⌝ }
+    ensures { λ r. ⌜ Chooses (now (table .entry)) (now (masks .entry)) (now (cells .entry)) kinds r ⌝ }
+{
+    let mut work = [0u64; 16];
+    search(
+        table,
+        firsts,
+        ends,
+        uses,
+        masks,
+        cells,
+        ports,
+        sets,
+        kinds,
+        &mut work[0..sets],
+    )
+}

@@ -1,0 +1,4 @@
+-- Laws.
+pub mod Fitting
+pub mod Known
+pub mod Judging

@@ -1,0 +1,3 @@
+-- Laws.
+pub mod Accepting
+pub mod Answering

@@ -1,0 +1,3 @@
+-- Laws.
+pub mod Copying
+pub mod Masks

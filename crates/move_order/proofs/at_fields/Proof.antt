@@ -1,0 +1,12 @@
+use mathlib.Core.Path.{refl}
+use Rattle.move_order.specs.Candidates.{fieldsAre}
+use Rattle.move_order.proofs.at_fields.Statement.{statement}
+use Rattle.move_order.proofs.at_fields.Tie as tie
+
+returns : tie.Need-returns
+unfolding fieldsAre
+returns c =
+    refl
+
+pub at-fields-spec : {M : Type 1} → statement M
+at-fields-spec = tie.close (tie.spec returns)

@@ -1,0 +1,83 @@
+-- The order of moves as one number, and what a step to the next candidate gives.
+use mathlib.Core.Path.{_≡_}
+use mathlib.Core.Bool.{Bool, true, false}
+use mathlib.Core.List.{List, [], _∷_}
+use Prim.Native.Nat.{ℕ, _+_, _*_, _≤_, _<_}
+use lib.ListN.{length, take}
+use Rattle.logic.specs.declared.Move.{Move}
+use Rattle.logic.specs.Formula.{Plan}
+use Rattle.logic.specs.Configuration.{inMasks}
+use Rattle.logic.specs.Moves.{fits, ofKinds}
+use Rattle.contracts.specs.ImproveCall.{Candidate}
+use Rattle.move_order.specs.declared.Next.{Next}
+use Rattle.move_legal.specs.inner.Legal.{Fields, Sized}
+use Rattle.move_order.specs.Candidates.{fieldsAre}
+
+-- The same order as one number, for sets below 16 and ports below 64: proofs/Order shows that both order the plan's moves alike.
+unfoldable pub place : Move → ℕ
+place m = (((m .kind * 16 + m .s) * 16 + m .t) * 64 + m .p) * 64 + m .q
+
+-- A candidate by its fields and the masks.
+pub record Suits (ports sets kinds : ℕ) (masks : List ℕ) (m : Move) : Type 0 where
+  pub of-kinds : ofKinds kinds m ≡ true
+  pub fields : Fields ports sets m
+  pub fitting : fits (inMasks (take sets masks)) m ≡ true
+
+-- A position in the order, from before the first move (kind 0) to past the last (kind 5).
+pub record Position (ports sets : ℕ) (m : Move) : Type 0 where
+  pub sized : Sized ports sets
+  pub kind-high : m .kind ≤ 5
+  pub s-below : m .s < sets
+  pub t-below : m .t < sets
+  pub p-below : m .p < ports
+  pub q-below : m .q < ports
+
+-- One from which a step can be made.
+pub record Begins (ports sets : ℕ) (m : Move) : Type 0 where
+  pub position : Position ports sets m
+  pub not-past : m .kind < 5
+
+pub record BeginsOver (ports sets : ℕ) (m : Move) (masks : List ℕ) : Type 0 where
+  pub begins : Begins ports sets m
+  pub masks-enough : sets ≤ length masks
+
+pub record SizedOver (ports sets : ℕ) (masks : List ℕ) : Type 0 where
+  pub sized : Sized ports sets
+  pub masks-enough : sets ≤ length masks
+
+-- r is the first candidate after m.
+pub record Follows (P : Plan) (kinds : ℕ) (own : List ℕ) (m r : Move) : Type 0 where
+  pub candidate : Candidate P kinds own r
+  pub later : place m < place r
+  pub nearest : (m′ : Move) → Candidate P kinds own m′ → place m < place m′ → place r ≤ place m′
+
+-- There is none after m.
+pub record NoneLater (P : Plan) (kinds : ℕ) (own : List ℕ) (m : Move) : Type 0 where
+  pub all-passed : (m′ : Move) → Candidate P kinds own m′ → place m′ ≤ place m
+
+unfoldable pub NextOr : Bool → Plan → ℕ → List ℕ → Move → Move → Type 0
+NextOr true P kinds own m r = Follows P kinds own m r
+NextOr false P kinds own m r = NoneLater P kinds own m
+
+-- What a step to the next candidate gives, of every plan with so many ports and sets.
+unfoldable pub GivesNext : ℕ → ℕ → ℕ → List ℕ → Move → Next → Type 0
+GivesNext ports sets kinds masks m r =
+    (P : Plan) → P .ports ≡ ports → P .sets ≡ sets → NextOr (r .found) P kinds (take sets masks) m (r .m)
+
+-- One step through the known moves of the kinds: none of them lies between m and r.
+pub record Steps (ports sets kinds : ℕ) (m r : Move) : Type 0 where
+  pub position : Position ports sets r
+  pub later : place m < place r
+  pub none-between : (m′ : Move) → Fields ports sets m′ → ofKinds kinds m′ ≡ true → place m < place m′ → place r ≤ place m′
+
+unfoldable pub StepsAny : ℕ → ℕ → Move → Move → Type 0
+StepsAny ports sets m r = (kinds : ℕ) → Steps ports sets kinds m r
+
+-- What stands before the first move.
+unfoldable pub outset : Move
+outset = fieldsAre 0 0 0 0 0
+
+-- A list got by steps to the next candidate until there is none.
+unfoldable pub Walked : Plan → ℕ → List ℕ → Move → List Move → Type 0
+Walked P kinds own m [] = NoneLater P kinds own m
+Walked P kinds own m (r ∷ rs) = Follows P kinds own m r × Walked P kinds own r rs

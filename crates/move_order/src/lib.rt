@@ -1,0 +1,116 @@
+// All legal moves of some kinds in one order, and the step from one to the next. Paper 01, section One move; the order is paper
+// 02's, request 2026-01.
+use logic::Move;
+use move_legal::fits_move;
+use move_legal::has_fields;
+use move_legal::q_end;
+use move_legal::t_end;
+ghost use mathlib.Core.Path.{_≡_};
+ghost use Prim.Native.Nat.{_/_, _%_};
+ghost use lib.Dec.{eqb};
+ghost use Rattle.logic.specs.Moves.{moveKind, kindWeight};
+ghost use Rattle.move_order.specs.Candidates.{fieldsAre};
+ghost use Rattle.move_order.specs.inner.Stepping.{Suits, Begins, BeginsOver, SizedOver, Steps, StepsAny, outset, GivesNext};
+ghost use Rattle.move_legal.specs.inner.Legal.{Says};
+
+// The next candidate, if there is one.
+pub struct Next {
+    pub found: bool,
+    pub m: Move,
+}
+
+// Whether a kind is one of those in the sum.
+fn of_kinds(kinds: u32, kind: u32) -> bool
+    ensures { λ r. ⌜ r ≡ eqb (kinds / kindWeight (moveKind kind) % 2) 1 ⌝ }
+{
+    match kind {
+        1 => kinds % 2 == 1,
+        2 => (kinds >> 1) % 2 == 1,
+        3 => (kinds >> 2) % 2 == 1,
+        4 => (kinds >> 3) % 2 == 1,
+        _ => (kinds >> 4) % 2 == 1,
+    }
+}
+
+fn at_fields(kind: u32, s: u32, t: u32, p: u32, q: u32) -> Move
+    ensures { λ r. ⌜ r ≡ fieldsAre kind s t p q ⌝ }
+{
+    Move {
+        kind: kind,
+        s: s,
+        t: t,
+        p: p,
+        q: q,
+    }
+}
+
+// The next position after m: q counts up first, then p, T, S and the kind.
+fn step(m: Move, ports: u32, sets: u32) -> Move
+    requires { ⌜ Begins ports sets m ⌝ }
+    ensures { λ r. ⌜ StepsAny ports sets m r ⌝ }
+{
+    if m.q + 1 < q_end(m.kind, ports) {
+        return at_fields(m.kind, m.s, m.t, m.p, m.q + 1);
+    }
+    if m.p + 1 < ports {
+        return at_fields(m.kind, m.s, m.t, m.p + 1, 0);
+    }
+    if m.t + 1 < t_end(m.kind, sets) {
+        return at_fields(m.kind, m.s, m.t + 1, 0, 0);
+    }
+    if m.s + 1 < sets {
+        return at_fields(m.kind, m.s + 1, 0, 0, 0);
+    }
+    at_fields(m.kind + 1, 0, 0, 0, 0)
+}
+
+// The next position that can be of the kinds: a kind that is not asked for is passed over at once.
+fn advance(m: Move, kinds: u32, ports: u32, sets: u32) -> Move
+    requires { ⌜ Begins ports sets m ⌝ }
+    ensures { λ r. ⌜ Steps ports sets kinds m r ⌝ }
+{
+    if of_kinds(kinds, m.kind) {
+        return step(m, ports, sets);
+    }
+    at_fields(m.kind + 1, 0, 0, 0, 0)
+}
+
+// Whether a move is legal and of the kinds.
+fn is_candidate(m: Move, kinds: u32, ports: u32, sets: u32, masks: &[u64]) -> bool
+    requires { ⌜ BeginsOver ports sets m (now masks) ⌝ }
+    ensures { λ r. ⌜ Says r (Suits ports sets kinds (now (masks .entry)) m) ⌝ }
+{
+    if !of_kinds(kinds, m.kind) {
+        return false;
+    }
+    if !has_fields(m, ports, sets) {
+        return false;
+    }
+    fits_move(m, ports, sets, masks)
+}
+
+// The first candidate after m in the order kind, S, T, p, q.
+pub fn next_candidate(m: Move, kinds: u32, ports: u32, sets: u32, masks: &[u64]) -> Next
+    requires { ⌜ BeginsOver ports sets m (now masks) ⌝ }
+    ensures { λ r. ⌜ GivesNext ports sets kinds (now (masks .entry)) m r ⌝ }
+{
+    let mut at = advance(m, kinds, ports, sets);
+    while at.kind < 5 {
+        if is_candidate(at, kinds, ports, sets, masks) {
+            return Next { found: true, m: at };
+        }
+        at = advance(at, kinds, ports, sets);
+    }
+    Next {
+        found: false,
+        m: at,
+    }
+}
+
+// The first candidate of all.
+pub fn first_candidate(kinds: u32, ports: u32, sets: u32, masks: &[u64]) -> Next
+    requires { ⌜ SizedOver ports sets (now masks) ⌝ }
+    ensures { λ r. ⌜ GivesNext ports sets kinds (now (masks .entry)) outset r ⌝ }
+{
+    next_candidate(at_fields(0, 0, 0, 0, 0), kinds, ports, sets, masks)
+}

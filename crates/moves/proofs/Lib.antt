@@ -1,2 +1,0 @@
-pub mod Rooted
-pub mod Writes

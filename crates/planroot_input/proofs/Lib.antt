@@ -1,0 +1,7 @@
+-- Laws.
+pub mod Closing
+pub mod Gathering
+pub mod Passing
+pub mod Runs
+pub mod Splitting
+pub mod Stepping

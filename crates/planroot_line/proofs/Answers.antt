@@ -1,0 +1,94 @@
+-- The line in each of its cases. Assumes nothing.
+use mathlib.Core.Path.{_≡_, refl, sym, ap, _∙_}
+use mathlib.Core.Bool.{Bool, true, false, cond, not, _&&_}
+use mathlib.Core.List.{List, _++_}
+use Prim.Native.Nat.{ℕ, _-_, _≤_, _<_, min}
+use native.Mathlib.Decide.{decLe}
+use native.Mathlib.Omega.{arith}
+use lib.Dec.{leb}
+use lib.ListN.{length, take, drop}
+use lib.Seq.{take-all, length-take-le}
+use borrow.Author.Tests.{eq-eqb, ne-eqb, lt-ltb}
+use Rattle.logic.specs.Formula.{Plan}
+use Rattle.logic.specs.Moves.{refusal}
+use Rattle.text_tokens.specs.Tokens.{pick}
+use Rattle.text_grammar.specs.Parser.{Result, parsed}
+use Rattle.text_core.specs.Core.{planOf}
+use Rattle.table_format.specs.Bytes.{setsField, wordBytes, header, encoding}
+use Rattle.table_format.specs.Decode.{decode}
+use Rattle.contracts.specs.declared.Answer.{Answer}
+use Rattle.contracts.specs.declared.Answer.the-variants.{Accepted, Refused}
+use Rattle.contracts.specs.Read.{readNumber, tableLength, readGrounds, readOr, reads}
+use Rattle.contracts.specs.Admitted.{admittedPlan}
+use Rattle.contracts.proofs.Grounds.{few-sets}
+use Rattle.contracts.proofs.Reading.{accepted-admitted, admitted-read}
+use Rattle.contracts.specs.declared.Loaded.{Loaded}
+use Rattle.contracts.specs.Load.{loads}
+use Rattle.planroot_line.specs.declared.Line.{Line}
+use Rattle.planroot_line.specs.declared.Line.the-variants.{Refusal}
+use Rattle.planroot_line.specs.Loading.{loadLine}
+use Rattle.planroot_line.specs.Line.{readLine, textLine}
+use Rattle.planroot_line.specs.inner.Contract.{LinesPlan, LinesText}
+
+-- a text that is too long is refused by its length, whatever follows
+too-long : (u : ℕ) (s B : List ℕ) → 4096 < length s → reads u s B ≡ (Refused (cond (leb 1 u && leb u 64) 1 10), B)
+unfolding reads readGrounds refusal readOr
+too-long u s B h = rw (lt-ltb 4096 (length s) h) (go (leb 1 u && leb u 64) (parsed s))
+  where
+    go : (p : Bool) (r : Result) → readOr (cond (not p) 10 1) u r B ≡ (Refused (cond p 1 10), B)
+    go true r = refl
+    go false r = refl
+
+-- reading is decided by the first 4,097 bytes
+pub same-start : (u : ℕ) (t B : List ℕ) → reads u (take 4097 t) B ≡ reads u t B
+same-start u t B = go (decLe (length t) 4097)
+  where
+    go : Dec (length t ≤ 4097) → reads u (take 4097 t) B ≡ reads u t B
+    go (yes h) = ap (λ (x : List ℕ). reads u x B) (take-all 4097 t h)
+    go (no f) =
+        let long : length (take 4097 t) ≡ 4097 = length-take-le 4097 t (omega arith) in
+        too-long u (take 4097 t) B (omega arith) ∙ sym (too-long u t B (omega arith))
+
+header-sets : (u : ℕ) (P : Plan) (rest : List ℕ) → setsField (encoding P ++ rest) ≡ P .sets
+unfolding setsField encoding header wordBytes
+header-sets u P rest = refl
+
+-- a table that reading left has at most 16 sets
+pub read-sets : (u : ℕ) (s B O : List ℕ) (x : Answer) (nodes total : ℕ) → (x, O) ≡ reads u s B → x ≡ Accepted nodes total → setsField O ≤ 16
+unfolding readNumber admittedPlan planOf
+read-sets u s B O x nodes total e y =
+    let z : readNumber (reads u s B .0) ≡ 0 = ap (λ (q : Answer × List ℕ). readNumber (q .0)) (sym e) ∙ ap readNumber y in
+    let A = accepted-admitted u s B z in
+    let P = admittedPlan A in
+    let bytes : O ≡ encoding P ++ drop (tableLength P) B = ap (λ (q : Answer × List ℕ). q .1) (e ∙ admitted-read u s B A) in
+    let n : setsField O ≡ length (A .sets) = ap setsField bytes ∙ header-sets u P (drop (tableLength P) B) in
+    omega (arith, few-sets (A .sets) (A .tree) (A .names))
+
+module _ (count : ℕ) (ms table cells : List ℕ) (n : ℕ) (N : n ≡ setsField table) (few : setsField table ≤ 16) where
+  pub plan-other : (count ≡ n → ⊥) → LinesPlan count ms table cells (Refusal 0)
+  unfolding LinesPlan
+  plan-other f vs c m = sym (ap (λ (b : Bool). pick b (loadLine (loads (decode table) vs cells .0)) (Refusal 0)) (ne-eqb (length vs) (setsField table) (λ e. f (omega arith))))
+
+  pub plan-loaded : (x : Loaded) (O : List ℕ) (r : Line) → count ≡ n → (x, O) ≡ loads (decode table) (take (n - 0) (drop 0 ms)) cells → r ≡ loadLine x
+      → LinesPlan count ms table cells r
+  unfolding LinesPlan
+  plan-loaded x O r e L R vs c m =
+      let long : length vs ≡ n = omega arith in
+      let k : n - 0 ≡ min 16 count = omega arith in
+      let own : take (n - 0) (drop 0 ms) ≡ vs = ap (λ (i : ℕ). take i ms) k ∙ m ∙ take-all 16 vs (omega arith) in
+      R ∙ ap (λ (q : Loaded × List ℕ). loadLine (q .0)) (L ∙ ap (λ (l : List ℕ). loads (decode table) l cells) own)
+      ∙ sym (ap (λ (b : Bool). pick b (loadLine (loads (decode table) vs cells .0)) (Refusal 0)) (eq-eqb (length vs) (setsField table) (long ∙ N)))
+
+module _ (u count : ℕ) (ms s table cells O : List ℕ) (x : Answer) (E : (x, O) ≡ reads u s table) where
+  read-of : (t : List ℕ) → s ≡ take 4097 t → (x, O) ≡ reads u t table
+  read-of t e = E ∙ ap (λ (l : List ℕ). reads u l table) e ∙ same-start u t table
+
+  pub text-refused : (n : ℕ) → x ≡ Refused n → LinesText u count ms s table cells (Refusal n)
+  unfolding LinesText textLine readLine
+  text-refused n y vs t c m e =
+      sym (ap (λ (q : Answer × List ℕ). readLine (q .0) (q .1) vs cells) (sym (read-of t e)) ∙ ap (λ (q : Answer). readLine q O vs cells) y)
+
+  pub text-read : (nodes total : ℕ) (r : Line) → x ≡ Accepted nodes total → LinesPlan count ms O cells r → LinesText u count ms s table cells r
+  unfolding LinesText LinesPlan textLine readLine
+  text-read nodes total r y P vs t c m e =
+      P vs c m ∙ sym (ap (λ (q : Answer × List ℕ). readLine (q .0) (q .1) vs cells) (sym (read-of t e)) ∙ ap (λ (q : Answer). readLine q O vs cells) y)

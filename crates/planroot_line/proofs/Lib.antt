@@ -1,0 +1,4 @@
+-- Laws.
+pub mod Answers
+pub mod Finishing
+pub mod Pieces

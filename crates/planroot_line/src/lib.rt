@@ -1,0 +1,72 @@
+// The line that planroot prints for an input. Paper 01, section Known plans.
+use call_load::load;
+use call_read::read;
+use contracts::Answer;
+use contracts::Loaded;
+use planroot_input::Scan;
+use planroot_input::close;
+use table_format::sets_of;
+ghost use mathlib.Core.Path.{_≡_};
+ghost use Rattle.planroot_line.specs.Loading.{loadLine};
+ghost use Rattle.planroot_line.specs.inner.Contract.{Tables, PlanTables, LinesPlan, LinesText, SomeInput, Finishes};
+
+pub enum Line {
+    Penalty { root: u32, cells: u32 },
+    Refusal(u8),
+}
+
+fn load_line(answer: Loaded) -> Line
+    ensures { λ r. ⌜ r ≡ loadLine answer ⌝ }
+{
+    match answer {
+        Loaded::Accepted { root, cells } => Line::Penalty {
+            root: root,
+            cells: cells,
+        },
+        Loaded::Refused(n) => Line::Refusal(n),
+    }
+}
+
+// Loads a plan that was read, if the masks, of which there are `count`, are one a set.
+fn plan_line(count: usize, masks: &[u64], table: &[u8], cells: &mut [u32]) -> Line
+    requires { ⌜ PlanTables (now masks) (now table) ⌝ }
+    ensures { λ r. ⌜ LinesPlan count (now (masks .entry)) (now (table .entry)) (now (cells .entry)) r ⌝ }
+{
+    let n = sets_of(table);
+    if count != n {
+        return Line::Refusal(0);
+    }
+    load_line(load(table, &masks[0..n], cells))
+}
+
+// Reads the text and loads its plan.
+fn text_line(
+    u: u64,
+    count: usize,
+    masks: &[u64],
+    text: &[u8],
+    table: &mut [u8],
+    cells: &mut [u32],
+) -> Line
+    requires { ⌜ Tables (now masks) (now table) ⌝ }
+    ensures { λ r. ⌜ LinesText u count (now (masks .entry)) (now (text .entry)) (now (table .entry)) (now (cells .entry)) r ⌝ }
+{
+    let answer = read(u, text, table);
+    match answer {
+        Answer::Accepted { nodes: _, cells: _ } => plan_line(count, masks, &table[..], cells),
+        Answer::Refused(n) => Line::Refusal(n),
+    }
+}
+
+// The line for an input that is passed: `close` ends it.
+pub fn finish(s: Scan, masks: &mut [u64], text: &[u8], table: &mut [u8], cells: &mut [u32]) -> Line
+    requires { ⌜ SomeInput s (now masks) (now text) (now table) ⌝ }
+    ensures { λ r. ⌜ Finishes s (now (masks .entry)) (now (text .entry)) (now (table .entry)) (now (cells .entry)) r ⌝ }
+{
+    let e = close(s, masks);
+    if !e.ok {
+        return Line::Refusal(0);
+    }
+    let length = e.length;
+    text_line(e.ports, e.masks, &masks[..], &text[0..length], table, cells)
+}

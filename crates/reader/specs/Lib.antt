@@ -1,4 +1,0 @@
-pub mod Read
-pub mod Contract
-pub mod Admitted
-pub mod Texts

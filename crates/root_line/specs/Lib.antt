@@ -1,4 +1,0 @@
-pub mod Loading
-pub mod Line
-pub mod Contract
-pub mod Pieces

@@ -1,3 +1,0 @@
-pub mod Nodes
-pub mod Root
-pub mod Visit

@@ -1,0 +1,161 @@
+-- A record's fields: what the rules of a node's bytes say of the node. Assumes nothing.
+use mathlib.Core.Path.{_≡_, refl, sym, ap, _∙_}
+use mathlib.Core.Bool.{Bool, true, false, cond, _&&_, false≢true}
+use Prim.Native.Nat.{ℕ, zero, suc, _+_, _*_, _^_, _≤_}
+use native.Mathlib.Omega.{arith}
+use native.Mathlib.Numerals.{add-one}
+use native.Mathlib.Nat.{pow-suc}
+use lib.Dec.{eqb, leb, ltb}
+use borrow.Author.Tests.{eqb-true, ne-eqb, leb-true, le-leb, lt-leb, ltb-true}
+use Rattle.logic.specs.Formula.{Relation, isin, notin, port, size, Node, root, all, any, and, or, lit, relationNumber, relationOf, kindNumber, childDepth}
+use Rattle.logic.proofs.Lists.{and-left, and-right, and-true}
+use Rattle.logic.proofs.Relations.{relation-number-le}
+use Rattle.table_format.specs.Bytes.{relationByte, aByte, bByte, nodeOf}
+use Rattle.table_format.specs.Rules.{literalRule, innerRule}
+use Rattle.table_format.specs.inner.Index.{nodeUses}
+use Rattle.table_format.specs.inner.Tests.{fieldRule, kindDepth, kindWidth, kindUses, UsesFit}
+use Rattle.table_format.proofs.Conjunctions.{two-true, three-true, all-three}
+
+-- the number of a relation that a number names
+number-of-relation : (r : ℕ) → r ≤ 5 → relationNumber (relationOf r) ≡ r
+unfolding relationNumber relationOf
+number-of-relation zero h = refl
+number-of-relation (suc zero) h = refl
+number-of-relation (suc (suc zero)) h = refl
+number-of-relation (suc (suc (suc zero))) h = refl
+number-of-relation (suc (suc (suc (suc zero)))) h = refl
+number-of-relation (suc (suc (suc (suc (suc zero))))) h = refl
+number-of-relation (suc (suc (suc (suc (suc (suc r)))))) h = absurd (omega arith)
+
+-- The node that sound fields name, with its bytes.
+pub record NodeIs (sets d kind r a b : ℕ) (n : Node) : Type 0 where
+  pub kind-is : kindNumber n ≡ kind
+  pub relation-is : relationByte n ≡ r
+  pub a-is : aByte n ≡ a
+  pub b-is : bByte n ≡ b
+  pub inner : innerRule sets n d ≡ true
+
+-- a node that uses no field
+plain : (sets d kind r a b : ℕ) (n : Node) → kindNumber n ≡ kind → relationByte n ≡ 0 → aByte n ≡ 0 → bByte n ≡ 0 → innerRule sets n d ≡ true
+    → (eqb r 0 && eqb a 0 && eqb b 0) ≡ true → NodeIs sets d kind r a b n
+plain sets d kind r a b n k x y z i h =
+    let t = three-true (eqb r 0) (eqb a 0) (eqb b 0) h in
+    record {
+      kind-is = k;
+      relation-is = x ∙ sym (eqb-true r 0 (t .0));
+      a-is = y ∙ sym (eqb-true a 0 (t .1));
+      b-is = z ∙ sym (eqb-true b 0 (t .2));
+      inner = i;
+    }
+
+fields-high : (sets d kind r a b : ℕ) → 9 ≤ kind → fieldRule sets d kind r a b ≡ false
+unfolding fieldRule
+fields-high sets d kind r a b h =
+    rw (ne-eqb kind 0 (λ e. omega arith), lt-leb kind 4 (omega arith), lt-leb kind 6 (omega arith), ne-eqb kind 7 (λ e. omega arith), ne-eqb kind 8 (λ e. omega arith))
+
+pub fields-node : (sets d kind r a b : ℕ) → fieldRule sets d kind r a b ≡ true → NodeIs sets d kind r a b (nodeOf kind r a b)
+unfolding fieldRule nodeOf kindNumber relationByte aByte bByte innerRule literalRule
+fields-node sets d zero r a b h = absurd (false≢true h)
+fields-node sets d (suc zero) r a b h = plain sets d 1 r a b all refl refl refl refl refl h
+fields-node sets d (suc (suc zero)) r a b h = plain sets d 2 r a b any refl refl refl refl refl h
+fields-node sets d (suc (suc (suc zero))) r a b h = plain sets d 3 r a b and refl refl refl refl refl h
+fields-node sets d (suc (suc (suc (suc zero)))) r a b h = plain sets d 4 r a b or refl refl refl refl refl h
+fields-node sets d (suc (suc (suc (suc (suc zero))))) r a b h =
+    let t = three-true (eqb r 0) (ltb a d) (ltb b sets) h in
+    record { kind-is = refl; relation-is = sym (eqb-true r 0 (t .0)); a-is = refl; b-is = refl; inner = and-true _ _ (t .1) (t .2) }
+fields-node sets d (suc (suc (suc (suc (suc (suc zero)))))) r a b h =
+    let t = three-true (eqb r 0) (ltb a d) (ltb b sets) h in
+    record { kind-is = refl; relation-is = sym (eqb-true r 0 (t .0)); a-is = refl; b-is = refl; inner = and-true _ _ (t .1) (t .2) }
+fields-node sets d (suc (suc (suc (suc (suc (suc (suc zero))))))) r a b h =
+    let t = three-true (leb r 5) (ltb a d) (ltb b d) h in
+    record { kind-is = refl; relation-is = number-of-relation r (leb-true r 5 (t .0)); a-is = refl; b-is = refl; inner = and-true _ _ (t .1) (t .2) }
+fields-node sets d (suc (suc (suc (suc (suc (suc (suc (suc zero)))))))) r a b h =
+    let t = three-true (leb r 5) (ltb a sets) (leb b 64) h in
+    record { kind-is = refl; relation-is = number-of-relation r (leb-true r 5 (t .0)); a-is = refl; b-is = refl; inner = and-true _ _ (t .1) (t .2) }
+fields-node sets d (suc (suc (suc (suc (suc (suc (suc (suc (suc k))))))))) r a b h =
+    absurd (false≢true (sym (fields-high sets d (suc (suc (suc (suc (suc (suc (suc (suc (suc k))))))))) r a b (omega arith)) ∙ h))
+
+-- a relation's number is in range
+relation-low : (r : Relation) (a b : Bool) → (a && b) ≡ true → (leb (relationNumber r) 5 && a && b) ≡ true
+relation-low r a b h =
+    let t = two-true a b h in
+    all-three (leb (relationNumber r) 5) a b (le-leb (relationNumber r) 5 (relation-number-le r)) (t .0) (t .1)
+
+pub node-fields : (sets d : ℕ) (n : Node) → innerRule sets n d ≡ true
+    → fieldRule sets d (kindNumber n) (relationByte n) (aByte n) (bByte n) ≡ true
+unfolding fieldRule kindNumber relationByte aByte bByte innerRule literalRule
+node-fields sets d root h = h
+node-fields sets d all h = refl
+node-fields sets d any h = refl
+node-fields sets d and h = refl
+node-fields sets d or h = refl
+node-fields sets d (lit (isin v S)) h = h
+node-fields sets d (lit (notin v S)) h = h
+node-fields sets d (lit (port r v w)) h = relation-low r _ _ h
+node-fields sets d (lit (size r S c)) h = relation-low r _ _ h
+
+-- a node's children and uses, by its kind
+pub kind-depth : (sets d : ℕ) (n : Node) → innerRule sets n d ≡ true → childDepth n d ≡ kindDepth (kindNumber n) d
+unfolding childDepth kindDepth kindNumber innerRule
+kind-depth sets d root h = absurd (false≢true h)
+kind-depth sets d all h = sym (add-one d)
+kind-depth sets d any h = sym (add-one d)
+kind-depth sets d and h = refl
+kind-depth sets d or h = refl
+kind-depth sets d (lit (isin v S)) h = refl
+kind-depth sets d (lit (notin v S)) h = refl
+kind-depth sets d (lit (port r v w)) h = refl
+kind-depth sets d (lit (size r S c)) h = refl
+
+pub kind-depth-le : (kind d : ℕ) → kindDepth kind d ≤ suc d
+unfolding kindDepth
+kind-depth-le kind d = go (leb kind 2)
+  where
+    go : (b : Bool) → cond b (d + 1) d ≤ suc d
+    go true = omega arith
+    go false = omega arith
+
+pub kind-width : (kind width ports d : ℕ) → width ≡ ports ^ d → kindWidth kind width ports ≡ ports ^ kindDepth kind d
+unfolding kindWidth kindDepth
+kind-width kind width ports d h = go (leb kind 2)
+  where
+    go : (b : Bool) → cond b (width * ports) width ≡ ports ^ cond b (d + 1) d
+    go true = ap (λ (x : ℕ). x * ports) h ∙ sym (pow-suc ports d) ∙ ap (λ (x : ℕ). ports ^ x) (sym (add-one d))
+    go false = h
+
+pub kind-uses : (n : Node) → nodeUses n ≡ kindUses (kindNumber n) (aByte n) (bByte n)
+unfolding nodeUses kindUses kindNumber aByte bByte
+kind-uses root = refl
+kind-uses all = refl
+kind-uses any = refl
+kind-uses and = refl
+kind-uses or = refl
+kind-uses (lit (isin v S)) = refl
+kind-uses (lit (notin v S)) = refl
+kind-uses (lit (port r v w)) = refl
+kind-uses (lit (size r S c)) = refl
+
+node-uses-fit : (sets d : ℕ) (n : Node) → d ≤ 3 → sets ≤ 16 → innerRule sets n d ≡ true → UsesFit (kindNumber n) (aByte n) (bByte n)
+unfolding kindNumber aByte bByte innerRule literalRule
+node-uses-fit sets d root e s h = absurd (false≢true h)
+node-uses-fit sets d all e s h = record { variable = λ x y. absurd (omega arith); set = λ x y. absurd (omega arith); sized = λ x. absurd (omega arith) }
+node-uses-fit sets d any e s h = record { variable = λ x y. absurd (omega arith); set = λ x y. absurd (omega arith); sized = λ x. absurd (omega arith) }
+node-uses-fit sets d and e s h = record { variable = λ x y. absurd (omega arith); set = λ x y. absurd (omega arith); sized = λ x. absurd (omega arith) }
+node-uses-fit sets d or e s h = record { variable = λ x y. absurd (omega arith); set = λ x y. absurd (omega arith); sized = λ x. absurd (omega arith) }
+node-uses-fit sets d (lit (isin v S)) e s h =
+    let a = ltb-true v d (and-left (ltb v d) _ h) in
+    let b = ltb-true S sets (and-right (ltb v d) _ h) in
+    record { variable = λ x y. omega arith; set = λ x y. omega arith; sized = λ x. absurd (omega arith) }
+node-uses-fit sets d (lit (notin v S)) e s h =
+    let a = ltb-true v d (and-left (ltb v d) _ h) in
+    let b = ltb-true S sets (and-right (ltb v d) _ h) in
+    record { variable = λ x y. omega arith; set = λ x y. omega arith; sized = λ x. absurd (omega arith) }
+node-uses-fit sets d (lit (port r v w)) e s h = record { variable = λ x y. absurd (omega arith); set = λ x y. absurd (omega arith); sized = λ x. absurd (omega arith) }
+node-uses-fit sets d (lit (size r S c)) e s h =
+    let a = ltb-true S sets (and-left (ltb S sets) _ h) in
+    record { variable = λ x y. absurd (omega arith); set = λ x y. absurd (omega arith); sized = λ x. omega arith }
+
+pub uses-fit : (sets d kind r a b : ℕ) → d ≤ 3 → sets ≤ 16 → fieldRule sets d kind r a b ≡ true → UsesFit kind a b
+uses-fit sets d kind r a b e s h =
+    let n = fields-node sets d kind r a b h in
+    rw (n .kind-is, n .a-is, n .b-is) at (node-uses-fit sets d (nodeOf kind r a b) e s (n .inner))

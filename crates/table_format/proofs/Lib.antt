@@ -1,0 +1,13 @@
+-- Laws of the plan table.
+pub mod Writing
+pub mod BrokenTables
+pub mod Bytes
+pub mod Conjunctions
+pub mod Encoding
+pub mod Facts
+pub mod FieldRules
+pub mod Laid
+pub mod Rooted
+pub mod Own
+pub mod Parts
+pub mod Ready

@@ -1,0 +1,126 @@
+-- The plan table's bytes: paper 01, section Plan table. Fields are read and written through the names below only.
+use mathlib.Core.Bool.{Bool, _&&_}
+use mathlib.Core.List.{List, [], _∷_, _++_}
+use Prim.Native.Nat.{ℕ, zero, suc, _+_, _*_, _/_, _%_}
+use lib.Dec.{eqb}
+use lib.ListN.{getD}
+use Rattle.logic.specs.Formula.{isin, notin, port, size, Node, root, all, any, and, or, lit, Forest, none, tree, Plan, relationNumber, relationOf, kindNumber, nodeCount}
+
+-- "Header, 9 bytes"; "Then 8 bytes a node".
+unfoldable pub headerLength : ℕ
+headerLength = 9
+
+unfoldable pub recordLength : ℕ
+recordLength = 8
+
+-- "stored numbers of 16 bits are little-endian"
+unfoldable pub word : ℕ → ℕ → ℕ
+word low high = low + 256 * high
+
+unfoldable pub wordBytes : ℕ → List ℕ
+wordBytes x = (x % 256) ∷ (x / 256) ∷ []
+
+-- "8 bytes a node: kind, relation, a, b, 16-bit parent, 16-bit end": the fields of the record that a part begins with.
+unfoldable pub kindField : List ℕ → ℕ
+kindField l = getD l 0 0
+
+unfoldable pub relationField : List ℕ → ℕ
+relationField l = getD l 1 0
+
+unfoldable pub aField : List ℕ → ℕ
+aField l = getD l 2 0
+
+unfoldable pub bField : List ℕ → ℕ
+bField l = getD l 3 0
+
+unfoldable pub parentField : List ℕ → ℕ
+parentField l = word (getD l 4 0) (getD l 5 0)
+
+unfoldable pub endField : List ℕ → ℕ
+endField l = word (getD l 6 0) (getD l 7 0)
+
+-- "mark `PLN`, 16-bit version 1, u, n, 16-bit node count": the fields of the header that a table begins with.
+unfoldable pub marked : List ℕ → Bool
+marked l = eqb (getD l 0 0) 80 && eqb (getD l 1 0) 76 && eqb (getD l 2 0) 78
+
+unfoldable pub versionField : List ℕ → ℕ
+versionField l = word (getD l 3 0) (getD l 4 0)
+
+unfoldable pub portsField : List ℕ → ℕ
+portsField l = getD l 5 0
+
+unfoldable pub setsField : List ℕ → ℕ
+setsField l = getD l 6 0
+
+unfoldable pub nodesField : List ℕ → ℕ
+nodesField l = word (getD l 7 0) (getD l 8 0)
+
+-- "Relation (kinds 7, 8)"; "Unused fields are 0."
+unfoldable pub relationByte : Node → ℕ
+relationByte root = 0
+relationByte all = 0
+relationByte any = 0
+relationByte and = 0
+relationByte or = 0
+relationByte (lit (isin v S)) = 0
+relationByte (lit (notin v S)) = 0
+relationByte (lit (port r v w)) = relationNumber r
+relationByte (lit (size r S c)) = relationNumber r
+
+-- "Kinds 5, 6: a is a variable, b a set. Kind 7: a and b are variables. Kind 8: a is a set, b the constant."
+unfoldable pub aByte : Node → ℕ
+aByte root = 0
+aByte all = 0
+aByte any = 0
+aByte and = 0
+aByte or = 0
+aByte (lit (isin v S)) = v
+aByte (lit (notin v S)) = v
+aByte (lit (port r v w)) = v
+aByte (lit (size r S c)) = S
+
+unfoldable pub bByte : Node → ℕ
+bByte root = 0
+bByte all = 0
+bByte any = 0
+bByte and = 0
+bByte or = 0
+bByte (lit (isin v S)) = S
+bByte (lit (notin v S)) = S
+bByte (lit (port r v w)) = w
+bByte (lit (size r S c)) = c
+
+-- The node that a kind, a relation, a and b say; other kinds are read as 8 and other relations as 5.
+unfoldable pub nodeOf : ℕ → ℕ → ℕ → ℕ → Node
+nodeOf zero r a b = root
+nodeOf (suc zero) r a b = all
+nodeOf (suc (suc zero)) r a b = any
+nodeOf (suc (suc (suc zero))) r a b = and
+nodeOf (suc (suc (suc (suc zero)))) r a b = or
+nodeOf (suc (suc (suc (suc (suc zero))))) r a b = lit (isin a b)
+nodeOf (suc (suc (suc (suc (suc (suc zero)))))) r a b = lit (notin a b)
+nodeOf (suc (suc (suc (suc (suc (suc (suc zero))))))) r a b = lit (port (relationOf r) a b)
+nodeOf (suc (suc (suc (suc (suc (suc (suc (suc k)))))))) r a b = lit (size (relationOf r) a b)
+
+-- One record by its fields, and the record of a node by its parent's number and its end.
+unfoldable pub recordBytes : ℕ → ℕ → ℕ → ℕ → ℕ → ℕ → List ℕ
+recordBytes kind relation a b parent end = kind ∷ relation ∷ a ∷ b ∷ (wordBytes parent ++ wordBytes end)
+
+unfoldable pub recordOf : Node → ℕ → ℕ → List ℕ
+recordOf n parent end = recordBytes (kindNumber n) (relationByte n) (aByte n) (bByte n) parent end
+
+-- "Nodes stand parent first, children in text order, so the records of a subtree stand together, from a node up to its end
+-- (the number of the first node after it)": the records of a forest whose first node is numbered i and whose parent is p.
+unfoldable pub records : Forest → ℕ → ℕ → List ℕ
+records none i p = []
+records (tree n c s) i p =
+    let end = i + suc (nodeCount c) in
+    recordOf n p end ++ (records c (suc i) i ++ records s end p)
+
+-- "mark `PLN`, 16-bit version 1, u, n, 16-bit node count"
+unfoldable pub header : ℕ → ℕ → ℕ → List ℕ
+header u n nodes = 80 ∷ 76 ∷ 78 ∷ (wordBytes 1 ++ (u ∷ n ∷ wordBytes nodes))
+
+-- "The root is node 0 with parent 65,535."
+unfoldable pub encoding : Plan → List ℕ
+encoding P = header (P .ports) (P .sets) (nodeCount (P .formula)) ++ records (P .formula) 0 65535

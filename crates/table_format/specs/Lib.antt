@@ -1,0 +1,5 @@
+pub mod BrokenTables
+pub mod Bytes
+pub mod Decode
+pub mod Rules
+pub mod inner

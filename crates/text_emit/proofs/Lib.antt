@@ -1,0 +1,7 @@
+-- Laws.
+pub mod Bytes
+pub mod Emitting
+pub mod Forests
+pub mod Joints
+pub mod Literals
+pub mod Whole

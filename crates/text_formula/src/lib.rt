@@ -1,0 +1,180 @@
+// Formula, disjunction, conjunction and unit, read by a cycle of calls that writes the tree as records. Paper 01, section Plan
+// text; ground 4.
+use text_grammar::Reading;
+use text_literal::refused;
+use text_literal::size_literal;
+use text_literal::variable_literal;
+use text_tokens::AMPERSAND;
+use text_tokens::AT_SIGN;
+use text_tokens::BAR;
+use text_tokens::DOUBLE_ARROW;
+use text_tokens::HASH;
+use text_tokens::LEFT_BRACKET;
+use text_tokens::QUESTION_MARK;
+use text_tokens::RIGHT_ARROW;
+use text_tokens::RIGHT_BRACKET;
+use text_tokens::TILDE;
+use text_tokens::VARIABLE;
+use text_tokens::token_at;
+use text_tokens::within;
+use text_tree::or;
+use text_tree::push;
+ghost use Prim.Native.Nat.{_-_, _≤_};
+ghost use lib.ListN.{length};
+ghost use Rattle.text_grammar.specs.Grammar.{unit, conjunction, disjunction, formula};
+ghost use Rattle.text_grammar.specs.inner.Contract.{Room, Reads, Prefixed};
+
+const NEGATION: u8 = 2;
+
+const CONJUNCTION: u16 = 5;
+
+const DISJUNCTION: u16 = 6;
+
+const ARROW: u16 = 3;
+
+const QUANTIFIER: u8 = 2;
+
+// "A formula is one disjunction, or two with an arrow between."
+pub fn formula(text: &[u8], at: usize, out: &mut [u16], n: usize, d: usize) -> Reading
+    requires { ⌜ Room (now text) (now out) at n d ⌝ }
+    ensures { λ r. ⌜ Reads formula (now (text .entry)) (now (out .entry)) (now (out .exit)) at n d r ⌝ }
+{
+    let a = disjunction(text, at, out, n, d);
+    if !a.ok {
+        return a;
+    }
+    let t = token_at(text, a.next);
+    if !within(RIGHT_ARROW, t.kind, DOUBLE_ARROW) {
+        return a;
+    }
+    let b = disjunction(text, t.next, out, a.count, d);
+    if !b.ok {
+        return b;
+    }
+    push(out, b.count, a.count as u16, (t.kind as u16) - ARROW);
+    Reading {
+        ok: true,
+        deep: or(a.deep, b.deep),
+        next: b.next,
+        count: b.count + 2,
+    }
+}
+
+// "A disjunction joins conjunctions by `|`"
+fn disjunction(text: &[u8], at: usize, out: &mut [u16], n: usize, d: usize) -> Reading
+    requires { ⌜ Room (now text) (now out) at n d ⌝ }
+    ensures { λ r. ⌜ Reads disjunction (now (text .entry)) (now (out .entry)) (now (out .exit)) at n d r ⌝ }
+{
+    let a = conjunction(text, at, out, n, d);
+    if !a.ok {
+        return a;
+    }
+    let t = token_at(text, a.next);
+    if t.kind != BAR {
+        return a;
+    }
+    let b = disjunction(text, t.next, out, a.count, d);
+    if !b.ok {
+        return b;
+    }
+    push(out, b.count, a.count as u16, DISJUNCTION);
+    Reading {
+        ok: true,
+        deep: or(a.deep, b.deep),
+        next: b.next,
+        count: b.count + 2,
+    }
+}
+
+// "a conjunction joins units by `&`"
+fn conjunction(text: &[u8], at: usize, out: &mut [u16], n: usize, d: usize) -> Reading
+    requires { ⌜ Room (now text) (now out) at n d ⌝ }
+    ensures { λ r. ⌜ Reads conjunction (now (text .entry)) (now (out .entry)) (now (out .exit)) at n d r ⌝ }
+{
+    let a = unit(text, at, out, n, d);
+    if !a.ok {
+        return a;
+    }
+    let t = token_at(text, a.next);
+    if t.kind != AMPERSAND {
+        return a;
+    }
+    let b = conjunction(text, t.next, out, a.count, d);
+    if !b.ok {
+        return b;
+    }
+    push(out, b.count, a.count as u16, CONJUNCTION);
+    Reading {
+        ok: true,
+        deep: or(a.deep, b.deep),
+        next: b.next,
+        count: b.count + 2,
+    }
+}
+
+// "A unit is `~` unit, `@v` unit (for all), `?v` unit (exists), a bracketed formula, or a literal"
+fn unit(text: &[u8], at: usize, out: &mut [u16], n: usize, d: usize) -> Reading
+    requires { ⌜ Room (now text) (now out) at n d ⌝ }
+    ensures { λ r. ⌜ Reads unit (now (text .entry)) (now (out .entry)) (now (out .exit)) at n d r ⌝ }
+{
+    let t = token_at(text, at);
+    if t.kind == LEFT_BRACKET {
+        let a = formula(text, t.next, out, n, d + 1);
+        if !a.ok {
+            return a;
+        }
+        let e = token_at(text, a.next);
+        if e.kind != RIGHT_BRACKET {
+            return refused();
+        }
+        return Reading {
+            ok: true,
+            deep: a.deep,
+            next: e.next,
+            count: a.count,
+        };
+    }
+    if t.kind == TILDE {
+        return prefixed(text, t.next, out, n, d, 0, NEGATION);
+    }
+    if within(AT_SIGN, t.kind, QUESTION_MARK) {
+        let v = token_at(text, t.next);
+        if v.kind != VARIABLE {
+            return refused();
+        }
+        return prefixed(text, v.next, out, n, d, v.value, t.kind - QUANTIFIER);
+    }
+    if t.kind == VARIABLE {
+        return variable_literal(text, t.value, t.next, out, n, d);
+    }
+    if t.kind == HASH {
+        return size_literal(text, t.next, out, n, d);
+    }
+    refused()
+}
+
+// `~` or a quantifier before the unit at `at`: its record's payload and operator follow the unit's.
+fn prefixed(
+    text: &[u8],
+    at: usize,
+    out: &mut [u16],
+    n: usize,
+    d: usize,
+    payload: u8,
+    operator: u8,
+) -> Reading
+    requires { ⌜ Room (now text) (now out) (at - 1) n d × (1 ≤ at) × (at ≤ length (now text)) ⌝ }
+    ensures { λ r. ⌜ Prefixed (now (text .entry)) (now (out .entry)) (now (out .exit)) at n d payload operator r ⌝ }
+{
+    let a = unit(text, at, out, n, d + 1);
+    if !a.ok {
+        return a;
+    }
+    push(out, a.count, payload as u16, operator as u16);
+    Reading {
+        ok: true,
+        deep: a.deep,
+        next: a.next,
+        count: a.count + 2,
+    }
+}

@@ -1,0 +1,9 @@
+-- Laws of the grammar and its readers.
+pub mod Complete
+pub mod Declaration
+pub mod Examples
+pub mod Positions
+pub mod Readers
+pub mod Signs
+pub mod Sound
+pub mod Theorems

@@ -1,0 +1,91 @@
+-- What the readers ask and ensure.
+use mathlib.Core.Path.{_≡_}
+use mathlib.Core.List.{List}
+use mathlib.Core.Bool.{true, false}
+use Prim.Native.Nat.{ℕ, suc, _+_, _*_, _-_, _≤_, _<_}
+use lib.ListN.{length, getD}
+use Rattle.logic.specs.Formula.{Literal}
+use Rattle.text_tree.specs.Tree.{Tree, tooDeep}
+use Rattle.text_tree.specs.inner.Stored.{literalOperator, literalPayload, Record, Stored}
+use Rattle.text_grammar.specs.declared.Reading.{Reading}
+use Rattle.text_grammar.specs.declared.Letters.{Letters}
+use Rattle.text_grammar.specs.declared.Syntax.{Syntax}
+use Rattle.text_grammar.specs.Grammar.{Level, unit, nextAt}
+use Rattle.text_grammar.specs.Parser.{Part, missing, found, mapPart, operand, rank, parseAt, lettersAt, afterLetters, failed, read, parsed}
+
+-- A reader at position `at` of the text s, with n numbers in the table and d of `(`, `~` and quantifiers around it. Each
+-- byte gives at most one record, so a text of 4,096 bytes fits 8,192 numbers.
+pub record Room (s out : List ℕ) (at n d : ℕ) : Type 0 where
+  pub within : at ≤ length s
+  pub room : n + 2 * (length s - at) ≤ 8192
+  pub wide : 8192 ≤ length out
+  pub shallow : d ≤ at
+
+-- The tree that was found, its records behind the n numbers that stood there, and its flag of ground 4.
+pub record Accepted (p : Part) (s before after : List ℕ) (at n d : ℕ) (r : Reading) : Type 0 where
+  pub tree : Tree
+  pub is : p ≡ found tree (r .next)
+  pub stored : Stored after (r .count) tree
+  pub deeper : r .deep ≡ tooDeep d tree
+  pub kept : (i : ℕ) → i < n → getD after i 0 ≡ getD before i 0
+  pub count : n ≤ r .count
+  pub onward : at < r .next
+  pub within : r .next ≤ length s
+  pub short : r .count + 2 * at ≤ n + 2 * r .next
+
+pub record Outcome (p : Part) (s before after : List ℕ) (at n d : ℕ) (r : Reading) : Type 0 where
+  pub accepts : r .ok ≡ true → Accepted p s before after at n d r
+  pub refuses : r .ok ≡ false → p ≡ missing
+
+-- A reader of a level, for every number of nested calls that suffices.
+abbrev pub Reads : Level → List ℕ → List ℕ → List ℕ → ℕ → ℕ → ℕ → Reading → Type 0
+Reads l s before after at n d r = (f : ℕ) → 4 * (length s - at) + rank l ≤ f → Outcome (parseAt f l s at) s before after at n d r
+
+-- What a record of this payload and operator behind a unit's records makes of the unit: `~` or a quantifier.
+pub record Prefix (payload operator : ℕ) : Type 0 where
+  pub make : Tree → Tree
+  pub stores : (t : List ℕ) (e : ℕ) (a : Tree) → Record t e payload operator → Stored t (e - 2) a → Stored t e (make a)
+  pub deeper : (d : ℕ) (a : Tree) → tooDeep d (make a) ≡ tooDeep (suc d) a
+
+-- The unit at `at`, with a prefix before it.
+abbrev pub Prefixed : List ℕ → List ℕ → List ℕ → ℕ → ℕ → ℕ → ℕ → ℕ → Reading → Type 0
+Prefixed s before after at n d payload operator r =
+    (f : ℕ) → 4 * (length s - at) + rank unit ≤ f → (p : Prefix payload operator) → Outcome (mapPart (p .make) (parseAt f unit s at)) s before after (at - 1) n d r
+
+-- The literals of an operator, by their two operands.
+pub record Form (operator : ℕ) : Type 0 where
+  pub make : ℕ → ℕ → Literal
+  pub operates : (x y : ℕ) → literalOperator (make x y) ≡ operator
+  pub pays : (x y : ℕ) → literalPayload (make x y) ≡ 256 * x + y
+
+-- The literal of an operator and a first operand, with its last operand of the kind `wanted` at `at`.
+abbrev pub Operands : List ℕ → List ℕ → List ℕ → ℕ → ℕ → ℕ → ℕ → ℕ → ℕ → Reading → Type 0
+Operands s before after first operator wanted at n d r = (m : Form operator) → Outcome (operand s wanted (m .make first) at) s before after at n d r
+
+-- The set letters at `at`, for every bound that suffices.
+pub record Lettered (s : List ℕ) (at : ℕ) (r : Letters) : Type 0 where
+  pub counts : (f : ℕ) → length s ≤ f + at → r .count ≡ length (lettersAt f s at)
+  pub ends : (f : ℕ) → length s ≤ f + at → r .next ≡ afterLetters f s at
+  pub within : r .next ≤ length s
+  pub onward : at ≤ r .next
+
+-- What the reader of a whole text asks.
+pub record Lent (s out : List ℕ) : Type 0 where
+  pub short : length s ≤ 4096
+  pub wide : 8192 ≤ length out
+
+-- What it ensures: the text's set letters and tree, the tree's records in the table, and ground 4.
+pub record Whole (s after : List ℕ) (r : Syntax) : Type 0 where
+  pub sets : List ℕ
+  pub tree : Tree
+  pub is : parsed s ≡ read sets tree
+  pub stored : Stored after (r .end) tree
+  pub deeper : r .deep ≡ tooDeep 0 tree
+  pub first : r .first ≡ nextAt s 0
+  pub letters : sets ≡ lettersAt (length s) s (r .first)
+  pub count : r .sets ≡ length sets
+  pub fits : r .end ≤ 8192
+
+pub record Parsed (s after : List ℕ) (r : Syntax) : Type 0 where
+  pub accepts : r .ok ≡ true → Whole s after r
+  pub refuses : r .ok ≡ false → parsed s ≡ failed

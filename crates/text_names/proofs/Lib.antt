@@ -1,0 +1,3 @@
+-- Laws.
+pub mod Finding
+pub mod Naming

@@ -1,2 +1,0 @@
--- What reading and then loading means.
-pub mod Theorems

@@ -1,1 +1,0 @@
-// From a text to its cells: what reading and then loading means. Theorems only.

@@ -1,0 +1,3 @@
+-- Laws.
+pub mod Examples
+pub mod Laws

@@ -1,0 +1,52 @@
+-- How a tree is kept in a table of 16-bit numbers while a text is read: linked postfix records of two numbers, a payload
+-- and an operator. A binary operator's payload is where its left part ends. A bracket leaves no record.
+use mathlib.Core.Path.{_≡_}
+use mathlib.Core.List.{List}
+use mathlib.Core.Bool.{Bool, _||_}
+use Prim.Native.Nat.{ℕ, _+_, _*_, _-_, _≤_}
+use lib.ListN.{length, getD}
+use lib.Dec.{leb, ltb}
+use Rattle.logic.specs.Formula.{Literal, isin, notin, port, size, relationNumber}
+use Rattle.text_tree.specs.Tree.{Quantifier, forall, exists, Join, conj, disj, imp, rev, iff, Tree, leaf, neg, par, bind, join}
+
+unfoldable pub literalOperator : Literal → ℕ
+literalOperator (isin v S) = 0
+literalOperator (notin v S) = 1
+literalOperator (port r v w) = 16 + relationNumber r
+literalOperator (size r S c) = 24 + relationNumber r
+
+unfoldable pub literalPayload : Literal → ℕ
+literalPayload (isin v S) = 256 * v + S
+literalPayload (notin v S) = 256 * v + S
+literalPayload (port r v w) = 256 * v + w
+literalPayload (size r S c) = 256 * S + c
+
+unfoldable pub quantifierOperator : Quantifier → ℕ
+quantifierOperator forall = 3
+quantifierOperator exists = 4
+
+unfoldable pub joinOperator : Join → ℕ
+joinOperator conj = 5
+joinOperator disj = 6
+joinOperator imp = 7
+joinOperator rev = 8
+joinOperator iff = 9
+
+-- The last record before place e of the table t.
+pub record Record (t : List ℕ) (e payload operator : ℕ) : Type 0 where
+  pub after : 2 ≤ e
+  pub within : e ≤ length t
+  pub payload-is : getD t (e - 2) 0 ≡ payload
+  pub operator-is : getD t (e - 1) 0 ≡ operator
+
+-- The tree whose records end at place e of the table t.
+pub data Stored (t : List ℕ) : ℕ → Tree → Type 0 where
+  of-leaf : {e : ℕ} {l : Literal} → Record t e (literalPayload l) (literalOperator l) → Stored t e (leaf l)
+  of-neg : {e : ℕ} {a : Tree} → Record t e 0 2 → Stored t (e - 2) a → Stored t e (neg a)
+  of-par : {e : ℕ} {a : Tree} → Stored t e a → Stored t e (par a)
+  of-bind : {e v : ℕ} {q : Quantifier} {a : Tree} → Record t e v (quantifierOperator q) → Stored t (e - 2) a → Stored t e (bind q v a)
+  of-join : {e m : ℕ} {j : Join} {a b : Tree} → Record t e m (joinOperator j) → m ≤ e - 2 → Stored t m a → Stored t (e - 2) b → Stored t e (join j a b)
+
+-- The operators of literals: `literalOperator` gives these.
+unfoldable pub literalCode : ℕ → Bool
+literalCode operator = ltb operator 2 || leb 16 operator

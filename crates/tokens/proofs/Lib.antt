@@ -1,3 +1,0 @@
--- Laws of the tokens.
-pub mod Examples
-pub mod Laws

@@ -1,3 +1,0 @@
-pub mod Opening
-pub mod Rooted
-pub mod Walking
