@@ -190,7 +190,7 @@ impl Writer<'_> {
 /// Damage to a text, one for each ground that its writer can meet, and damage that aims at none.
 pub const DAMAGES: usize = 14;
 
-/// Damages the tokens of a text; `None` where the damage is one of bytes.
+/// Damages the tokens of a text; `false` where the damage is one of bytes.
 fn damage_tokens(text: &mut Text, which: usize, r: &mut Random) -> bool {
     let close = text.tokens.iter().position(|t| t == "]").unwrap_or(0);
     let start = (close + 1).min(text.tokens.len());
@@ -199,72 +199,88 @@ fn damage_tokens(text: &mut Text, which: usize, r: &mut Random) -> bool {
         0 => text.tokens[at] = r.pick(&["<", "->", "<-", "<->", ")", "(", "&", "x", "S", "7", "[", "]", "!", "-", "007"]).to_string(),
         1 => drop(text.tokens.remove(at)),
         2 => text.tokens.insert(at, r.pick(&["|", "~", "@", ":", "#", "=", "a", "Q", "12", "00"]).to_string()),
-        3 => {
-            // Around 64 of `(`, `~` and quantifiers: a few fewer, just as many, or more.
-            let depth = 60 + r.below(9);
-            let sign = r.pick(&["~", "("]);
-            if sign == "(" {
-                text.tokens.extend((0..depth).map(|_| ")".to_string()));
-            } else {
-                text.tokens.insert(start, "(".to_string());
-                text.tokens.push(")".to_string());
-            }
-            let lead = vec![sign.to_string(); depth];
-            text.tokens.splice(start..start, lead);
-        }
-        4 => {
-            // Many nested quantifiers: 7 from 4 on, 5 where letters run out, 4 from 65 on.
-            let most = r.one_of(&[4, 26, 70]);
-            let depth = 1 + r.below(most);
-            let lead: Vec<String> = (0..depth).flat_map(|i| ["@".to_string(), ((b'a' + (i % 26) as u8) as char).to_string()]).collect();
-            text.tokens.insert(start, "(".to_string());
-            text.tokens.push(")".to_string());
-            text.tokens.splice(start..start, lead);
-        }
+        3 => nest(text, start, r),
+        4 => quantify(text, start, r),
         5 => replace(text, r, |t| t.len() == 1 && t.as_bytes()[0].is_ascii_lowercase(), &["x", "y", "q"]),
         6 => replace(text, r, |t| t.len() == 1 && t.as_bytes()[0].is_ascii_uppercase(), &["A", "M", "Z"]),
-        7 => {
-            let more = 1 + r.below(20);
-            let letters: Vec<String> = (0..more).map(|i| ((b'A' + (i % 26) as u8) as char).to_string()).collect();
-            text.tokens.splice(close..close, letters);
-        }
-        8 => {
-            replace(
-                text,
-                r,
-                |t| t.starts_with(|c: char| c.is_ascii_digit()),
-                &["64", "65", "66", "100", "18446744073709551616", "99999999999999999999999"],
-            );
-        }
-        9 => {
-            // Nested double arrows double the core each time.
-            let most = r.one_of(&[9, 9, 40]);
-            let times = 1 + r.below(most);
-            let inner: Vec<String> = text.tokens.drain(start..).collect();
-            let set = text.tokens.get(1).cloned().unwrap_or_default();
-            let mut all = inner;
-            for _ in 0..times {
-                let literal = ["<->", "#", &set, "<", "3"].map(str::to_string);
-                all = [vec!["(".to_string()], all, literal.to_vec(), vec![")".to_string()]].concat();
-            }
-            text.tokens.extend(all);
-        }
-        10 => {
-            // Many conjuncts below three quantifiers: too many cells for many ports.
-            text.u = 20 + r.below(45) as u64;
-            let set = text.tokens.get(1).cloned().unwrap_or_default();
-            let count = 1 + r.below(12);
-            let mut all: Vec<String> = ["@", "x", "@", "y", "@", "z", "("].map(str::to_string).to_vec();
-            for i in 0..count {
-                all.extend([if i > 0 { "&" } else { "~" }, "x", ":", &set].map(str::to_string));
-            }
-            all.push(")".to_string());
-            text.tokens.truncate(start);
-            text.tokens.extend(all);
-        }
+        7 => declare(text, close, r),
+        8 => replace(text, r, |t| t.starts_with(|c: char| c.is_ascii_digit()), &CONSTANTS),
+        9 => double_arrows(text, start, r),
+        10 => conjuncts(text, start, r),
         _ => return false,
     }
     true
+}
+
+/// At the limit, above it, and past every word.
+const CONSTANTS: [&str; 6] = ["64", "65", "66", "100", "18446744073709551616", "99999999999999999999999"];
+
+/// The i-th letter from `first` on, round and round.
+fn letter(first: u8, i: usize) -> String {
+    ((first + (i % 26) as u8) as char).to_string()
+}
+
+/// Puts the formula into brackets.
+fn bracket(text: &mut Text, start: usize) {
+    text.tokens.insert(start, "(".to_string());
+    text.tokens.push(")".to_string());
+}
+
+/// Around 64 of `(`, `~` and quantifiers: a few fewer, just as many, or more.
+fn nest(text: &mut Text, start: usize, r: &mut Random) {
+    let depth = 60 + r.below(9);
+    let sign = r.pick(&["~", "("]);
+    if sign == "(" {
+        text.tokens.extend((0..depth).map(|_| ")".to_string()));
+    } else {
+        bracket(text, start);
+    }
+    let lead = vec![sign.to_string(); depth];
+    text.tokens.splice(start..start, lead);
+}
+
+/// Many nested quantifiers: 7 from 4 on, 5 where letters run out, 4 from 65 on.
+fn quantify(text: &mut Text, start: usize, r: &mut Random) {
+    let most = r.one_of(&[4, 26, 70]);
+    let depth = 1 + r.below(most);
+    let lead: Vec<String> = (0..depth).flat_map(|i| ["@".to_string(), letter(b'a', i)]).collect();
+    bracket(text, start);
+    text.tokens.splice(start..start, lead);
+}
+
+/// More sets: declared twice, or a seventeenth.
+fn declare(text: &mut Text, close: usize, r: &mut Random) {
+    let more = 1 + r.below(20);
+    let letters: Vec<String> = (0..more).map(|i| letter(b'A', i)).collect();
+    text.tokens.splice(close..close, letters);
+}
+
+/// Nested double arrows double the core each time.
+fn double_arrows(text: &mut Text, start: usize, r: &mut Random) {
+    let most = r.one_of(&[9, 9, 40]);
+    let times = 1 + r.below(most);
+    let inner: Vec<String> = text.tokens.drain(start..).collect();
+    let set = text.tokens.get(1).cloned().unwrap_or_default();
+    let mut all = inner;
+    for _ in 0..times {
+        let literal = ["<->", "#", &set, "<", "3"].map(str::to_string);
+        all = [vec!["(".to_string()], all, literal.to_vec(), vec![")".to_string()]].concat();
+    }
+    text.tokens.extend(all);
+}
+
+/// Many conjuncts below three quantifiers: too many cells for many ports.
+fn conjuncts(text: &mut Text, start: usize, r: &mut Random) {
+    text.u = 20 + r.below(45) as u64;
+    let set = text.tokens.get(1).cloned().unwrap_or_default();
+    let count = 1 + r.below(12);
+    let mut all: Vec<String> = ["@", "x", "@", "y", "@", "z", "("].map(str::to_string).to_vec();
+    for i in 0..count {
+        all.extend([if i > 0 { "&" } else { "~" }, "x", ":", &set].map(str::to_string));
+    }
+    all.push(")".to_string());
+    text.tokens.truncate(start);
+    text.tokens.extend(all);
 }
 
 fn replace(text: &mut Text, r: &mut Random, fits: impl Fn(&str) -> bool, by: &[&'static str]) {
