@@ -1,0 +1,109 @@
+//! The archive as it is compared: through the binding's safe functions, with answers in the records that all evaluators here have.
+//! `Archive` calls the binding's raw functions too, on copies, and looks at every field.
+use vuyekhang::raw::{self, ImproveAnswer, LoadAnswer, MoveAnswer, ReadAnswer};
+use vuyekhang::{Kinds, Moved, Refusal};
+
+use crate::calls::{Calls, Improved, Loaded, Move, Numbers, Read};
+use crate::lent::{only_read, written};
+
+pub fn read(u: u64, text: &[u8], table: &mut [u8]) -> Result<Read, u32> {
+    let answer = vuyekhang::read(u, text, table);
+    answer.map(|a| Read { nodes: a.nodes, cells: a.cells }).map_err(|refusal| refusal.number())
+}
+
+pub fn load(table: &[u8], masks: &[u64], cells: &mut [u32]) -> Result<Loaded, u32> {
+    let answer = vuyekhang::load(table, masks, cells);
+    answer.map(|a| Loaded { root: a.root, cells: a.cells }).map_err(|refusal| refusal.number())
+}
+
+pub fn make_move(table: &[u8], masks: &mut [u64], cells: &mut [u32], m: &Move) -> Result<Numbers, u32> {
+    numbers(vuyekhang::make_move(table, masks, cells, record(m)))
+}
+
+pub fn trial(table: &[u8], masks: &[u64], cells: &[u32], scratch: &mut [u32], m: &Move) -> Result<Numbers, u32> {
+    numbers(vuyekhang::trial(table, masks, cells, scratch, record(m)))
+}
+
+pub fn improve(table: &[u8], masks: &mut [u64], cells: &mut [u32], scratch: &mut [u32], kinds: u32) -> Result<Improved, u32> {
+    match vuyekhang::improve(table, masks, cells, scratch, Kinds(kinds)) {
+        Ok(vuyekhang::Improved::Made { chosen: c, moved }) => {
+            numbers(Ok(moved)).map(|n| Improved::Made(Move { kind: c.kind, s: c.s, t: c.t, p: c.p, q: c.q }, n))
+        }
+        Ok(vuyekhang::Improved::NoBetter { root }) => Ok(Improved::NoBetter(root)),
+        Err(refusal) => Err(refusal.number()),
+    }
+}
+
+fn record(m: &Move) -> vuyekhang::Move {
+    vuyekhang::Move { kind: m.kind, s: m.s, t: m.t, p: m.p, q: m.q }
+}
+
+fn numbers(answer: Result<Moved, Refusal>) -> Result<Numbers, u32> {
+    let number = |count: usize| u32::try_from(count).expect("a plan has fewer cells");
+    answer.map(|a| Numbers { before: a.before, after: a.after, changed: number(a.changed) }).map_err(|refusal| refusal.number())
+}
+
+/// Every field of the raw answer that says this: "the answer is the number with all other fields 0".
+pub fn read_fields(answer: Result<Read, u32>) -> ReadAnswer {
+    match answer {
+        Ok(a) => ReadAnswer { number: 0, nodes: a.nodes as u32, cells: a.cells as u32 },
+        Err(number) => ReadAnswer { number, nodes: 0, cells: 0 },
+    }
+}
+
+pub fn load_fields(answer: Result<Loaded, u32>) -> LoadAnswer {
+    match answer {
+        Ok(a) => LoadAnswer { number: 0, root: a.root, cells: a.cells as u32 },
+        Err(number) => LoadAnswer { number, root: 0, cells: 0 },
+    }
+}
+
+fn move_fields(answer: Result<Numbers, u32>) -> MoveAnswer {
+    match answer {
+        Ok(a) => MoveAnswer { number: 0, before: a.before, after: a.after, changed: a.changed },
+        Err(number) => MoveAnswer { number, before: 0, after: 0, changed: 0 },
+    }
+}
+
+/// "No better move" comes with the root as before and after, and with no move.
+fn improve_fields(answer: Result<Improved, u32>) -> ImproveAnswer {
+    let (found, m, a) = match answer {
+        Ok(Improved::Made(m, numbers)) => (1, m, move_fields(Ok(numbers))),
+        Ok(Improved::NoBetter(root)) => (0, Move::default(), move_fields(Ok(Numbers { before: root, after: root, changed: 0 }))),
+        Err(number) => (0, Move::default(), move_fields(Err(number))),
+    };
+    ImproveAnswer { number: a.number, found, chosen: record(&m), before: a.before, after: a.after, changed: a.changed }
+}
+
+const BYTE: u8 = 0xA5;
+const MASK: u64 = u64::MAX;
+const CELL: u32 = 0xDEAD_BEEF;
+
+/// The archive in a list of calls. Each table is lent as a copy between guard words: a word written outside of it, or to a table
+/// that the call only reads, ends the run. So does a raw answer with a field that it should not have.
+pub struct Archive;
+
+impl Calls for Archive {
+    fn make_move(&self, table: &[u8], masks: &mut [u64], cells: &mut [u32], m: &Move) -> Result<Numbers, u32> {
+        let fields = raw::make_move(table, &mut masks.to_vec(), &mut cells.to_vec(), record(m));
+        let answer = only_read(table, BYTE, |t| written(masks, MASK, |ms| written(cells, CELL, |cs| make_move(t, ms, cs, m))));
+        assert_eq!(fields, move_fields(answer), "the fields of {m:?}");
+        answer
+    }
+
+    fn trial(&self, table: &[u8], masks: &[u64], cells: &[u32], scratch: &mut [u32], m: &Move) -> Result<Numbers, u32> {
+        let fields = raw::trial(table, masks, cells, &mut scratch.to_vec(), record(m));
+        let mut over = |t: &[u8], ms: &[u64], cs: &[u32]| written(scratch, CELL, |sc| trial(t, ms, cs, sc, m));
+        let answer = only_read(table, BYTE, |t| only_read(masks, MASK, |ms| only_read(cells, CELL, |cs| over(t, ms, cs))));
+        assert_eq!(fields, move_fields(answer), "the fields of a trial of {m:?}");
+        answer
+    }
+
+    fn improve(&self, table: &[u8], masks: &mut [u64], cells: &mut [u32], scratch: &mut [u32], kinds: u32) -> Result<Improved, u32> {
+        let fields = raw::improve(table, &mut masks.to_vec(), &mut cells.to_vec(), &mut scratch.to_vec(), kinds);
+        let mut over = |t: &[u8], ms: &mut [u64], cs: &mut [u32]| written(scratch, CELL, |sc| improve(t, ms, cs, sc, kinds));
+        let answer = only_read(table, BYTE, |t| written(masks, MASK, |ms| written(cells, CELL, |cs| over(t, ms, cs))));
+        assert_eq!(fields, improve_fields(answer), "the fields of an improve of kinds {kinds}");
+        answer
+    }
+}

@@ -1,0 +1,33 @@
+//! A plan that is read and loaded, with the tables that one engine works on.
+use vuyekhang::MOST_TABLE;
+
+use super::plans::Plan;
+use crate::archive::{load, read};
+use crate::calls::Read;
+
+#[derive(Clone, PartialEq)]
+pub struct State {
+    pub table: Vec<u8>,
+    pub masks: Vec<u64>,
+    pub cells: Vec<u32>,
+    pub scratch: Vec<u32>,
+}
+
+impl State {
+    /// Reads and loads a plan with the archive.
+    pub fn of(plan: &Plan) -> (Read, State) {
+        let mut table = vec![0; MOST_TABLE];
+        let answer = read(plan.u, plan.text.as_bytes(), &mut table).unwrap_or_else(|n| panic!("the text of {} is refused: {n}", plan.name));
+        table.truncate(9 + 8 * answer.nodes);
+        let (masks, cells) = (plan.masks.clone(), vec![0; answer.cells]);
+        let mut state = State { table, masks, scratch: cells.clone(), cells };
+        load(&state.table, &state.masks, &mut state.cells).unwrap_or_else(|n| panic!("the masks of {} are refused: {n}", plan.name));
+        (answer, state)
+    }
+
+    /// Both engines are to leave the same masks and cells.
+    pub fn same(&self, other: &State) {
+        assert_eq!(self.masks, other.masks, "masks differ");
+        assert!(self.cells == other.cells, "cells differ");
+    }
+}

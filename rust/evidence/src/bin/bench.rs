@@ -1,0 +1,82 @@
+//! `bench [PLAN..]`: times of the archive beside the plain engine, as tables in markdown. Answers are compared; times are only
+//! printed. With names (B1 to B6), only the calls on these plans.
+use evidence::bench::calls::{measure, parts, Line};
+use evidence::bench::growth::{larger, more_touched, ADD};
+use evidence::bench::plans::{plans, Plan};
+use evidence::bench::state::State;
+use evidence::with_stack;
+
+fn main() {
+    let names: Vec<String> = std::env::args().skip(1).collect();
+    with_stack(move || {
+        if !names.is_empty() {
+            return print_calls(|plan| names.iter().any(|name| name == plan));
+        }
+        print_plans();
+        print_calls(|_| true);
+        print_growth("The plan grows, the touched cells do not", &larger());
+        print_growth("The touched cells grow, the plan does not", &more_touched());
+    });
+}
+
+fn print_plans() {
+    println!("| plan | u | sets | text bytes | nodes | cells | root |\n|---|---|---|---|---|---|---|");
+    for plan in plans() {
+        let (answer, state) = State::of(&plan);
+        let (name, u, sets, bytes) = (plan.name, plan.u, plan.masks.len(), plan.text.len());
+        println!("| {name} | {u} | {sets} | {bytes} | {} | {} | {} |", answer.nodes, answer.cells, state.cells[0]);
+    }
+}
+
+fn print_calls(asked: impl Fn(&str) -> bool) {
+    println!(
+        "\n| plan | call | archive | plain | archive/plain | rows | rows/archive | recursion | recursion/archive | touched | changed |"
+    );
+    println!("|---|---|---|---|---|---|---|---|---|---|---|");
+    for plan in plans().into_iter().filter(|plan| asked(plan.name)) {
+        let state = State::of(&plan).1;
+        measure(&plan, &state, &mut |line| print_call(plan.name, line));
+    }
+}
+
+fn print_call(plan: &str, line: &Line) {
+    let against = |again: f64| if again > 0.0 { format!("{} | {}", time(again), ratio(again / line.archive)) } else { " | ".to_string() };
+    let count = |of: usize| if of > 0 { of.to_string() } else { String::new() };
+    let times = format!("{} | {} | {}", time(line.archive), time(line.plain), ratio(line.archive / line.plain));
+    let again = format!("{} | {}", against(line.by_rows), against(line.by_recursion));
+    println!("| {plan} | {} | {times} | {again} | {} | {} |", line.call, count(line.touched), count(line.changed as usize));
+}
+
+fn print_growth(title: &str, plans: &[Plan]) {
+    println!("\n{title}:\n");
+    println!("| nodes | cells | touched | archive: move | refused (14) | the rest | rest by touched cell | plain: move | refused (14) | the rest |");
+    println!("|---|---|---|---|---|---|---|---|---|---|");
+    for plan in plans {
+        let (answer, state) = State::of(plan);
+        let parts = parts(&state, ADD);
+        let (walk, plain_walk) = (parts.archive - parts.refused, parts.plain - parts.plain_refused);
+        let sizes = format!("{} | {} | {}", answer.nodes, answer.cells, parts.touched);
+        let times = [parts.archive, parts.refused, walk, walk / parts.touched as f64, parts.plain, parts.plain_refused, plain_walk];
+        println!("| {sizes} | {} |", times.map(time).join(" | "));
+    }
+}
+
+/// Nanoseconds in a unit that shows three digits.
+fn time(ns: f64) -> String {
+    let (value, unit) = match ns {
+        _ if ns < 1e3 => (ns, "ns"),
+        _ if ns < 1e6 => (ns / 1e3, "µs"),
+        _ if ns < 1e9 => (ns / 1e6, "ms"),
+        _ => (ns / 1e9, "s"),
+    };
+    let digits = if value < 10.0 { 2 } else { usize::from(value < 100.0) };
+    format!("{value:.digits$} {unit}")
+}
+
+fn ratio(value: f64) -> String {
+    if value < 100.0 {
+        format!("{value:.2}")
+    } else {
+        format!("{value:.0}")
+    }
+}

@@ -1,0 +1,47 @@
+//! The calls of paper 01 and their answers, as every evaluator here gives them; a refusal is its number. These are records and no
+//! code, so that evaluators which answer in them share nothing else.
+
+#[derive(Debug, Clone, Copy, PartialEq, Eq, Default)]
+pub struct Move {
+    pub kind: u32,
+    pub s: u32,
+    pub t: u32,
+    pub p: u32,
+    pub q: u32,
+}
+
+/// Node count and cell total of a text that is read.
+#[derive(Debug, Clone, Copy, PartialEq, Eq)]
+pub struct Read {
+    pub nodes: usize,
+    pub cells: usize,
+}
+
+/// The root's penalty and the cell total.
+#[derive(Debug, Clone, Copy, PartialEq, Eq)]
+pub struct Loaded {
+    pub root: u32,
+    pub cells: usize,
+}
+
+/// Root before, root after, how many cells differ.
+#[derive(Debug, Clone, Copy, PartialEq, Eq)]
+pub struct Numbers {
+    pub before: u32,
+    pub after: u32,
+    pub changed: u32,
+}
+
+/// What improve answers where it is accepted: the move that it made, or "no better move" with the root.
+#[derive(Debug, Clone, Copy, PartialEq, Eq)]
+pub enum Improved {
+    Made(Move, Numbers),
+    NoBetter(u32),
+}
+
+/// The calls over tables that a list is made of.
+pub trait Calls {
+    fn make_move(&self, table: &[u8], masks: &mut [u64], cells: &mut [u32], m: &Move) -> Result<Numbers, u32>;
+    fn trial(&self, table: &[u8], masks: &[u64], cells: &[u32], scratch: &mut [u32], m: &Move) -> Result<Numbers, u32>;
+    fn improve(&self, table: &[u8], masks: &mut [u64], cells: &mut [u32], scratch: &mut [u32], kinds: u32) -> Result<Improved, u32>;
+}

@@ -1,0 +1,282 @@
+//! Compares the engine with the second evaluator on random texts, tables and cells: every answer, every byte and cell, and what
+//! stands past a plan's own.
+use vuyekhang::raw::{self, Part};
+
+use crate::archive::{load, load_fields, read, read_fields};
+use crate::calls::{Loaded, Read};
+use crate::counts::Counts;
+use crate::lent::{same, Compared, Lent};
+use crate::random::{any_text, damage_plan, damage_table, masks, Random};
+use crate::second::formula::RELATIONS;
+use crate::second::moves::tables;
+use crate::second::penalty::{cells as cells_of, text_true};
+use crate::second::plan::{Plan, COMPARE, SIZE};
+use crate::second::table::{decode, encode, judge, RULES};
+use crate::second::text::{read as second_read, Accepted};
+
+/// What the damaging mode changes after a call.
+#[derive(PartialEq)]
+pub enum Target {
+    Nothing,
+    Bytes,
+    Cells,
+}
+
+/// Changes one bit of the target's tables after each call, anywhere in them, and counts how often.
+pub struct Damage {
+    pub target: Target,
+    pub done: u64,
+}
+
+impl Damage {
+    pub fn to(target: Target) -> Self {
+        Damage { target, done: 0 }
+    }
+
+    fn bytes(&mut self, table: &mut [u8], r: &mut Random) {
+        if self.target == Target::Bytes && !table.is_empty() {
+            table[r.below(table.len())] ^= 1 << r.below(8);
+            self.done += 1;
+        }
+    }
+
+    pub fn cells(&mut self, cells: &mut [u32], r: &mut Random) {
+        if self.target == Target::Cells && !cells.is_empty() {
+            cells[r.below(cells.len())] ^= 1 << r.below(32);
+            self.done += 1;
+        }
+    }
+}
+
+/// Reads a random text with both and compares the answer and every byte of the output table.
+pub fn one_text(r: &mut Random, counts: &mut Counts, damage: &mut Damage) -> Compared<Option<Accepted>> {
+    let (u, text) = any_text(r);
+    let roomy = second_read(u, &text, usize::MAX);
+    let need = roomy.as_ref().map_or(64, |a| a.plan.bytes());
+    let room = match r.below(10) {
+        0 => r.below(need),
+        1 => need,
+        _ => need + r.below(40),
+    };
+    let before: Vec<u8> = (0..room).map(|_| r.word() as u8).collect();
+    let mut table = Lent::of(&before, r.word() as u8);
+    let fields = raw::read(u, &text, &mut before.clone());
+    let answer = read(u, &text, table.part());
+    damage.bytes(table.part(), r);
+    let expected = second_read(u, &text, room);
+    let told = |e: String| format!("{e}\n  u {u}, room {room}, text {:?}", String::from_utf8_lossy(&text));
+    compare_read(answer, fields, &expected, &table).map_err(told)?;
+    counts.met("texts");
+    match expected {
+        Ok(accepted) => {
+            count_accepted(&accepted, counts);
+            Ok(Some(accepted))
+        }
+        Err(number) => {
+            counts.met(format!("read {number:02}"));
+            Ok(None)
+        }
+    }
+}
+
+/// The answer by the binding, every field of the raw one, and the table.
+fn compare_read(answer: Result<Read, u32>, fields: raw::ReadAnswer, expected: &Result<Accepted, u32>, table: &Lent<u8>) -> Compared<()> {
+    let numbers = expected.as_ref().map(|a| Read { nodes: a.plan.nodes.len(), cells: a.cells }).map_err(|number| *number);
+    same("read's answer", &answer, &numbers)?;
+    same("read's fields", &fields, &read_fields(numbers))?;
+    let own = expected.as_ref().map_or(Vec::new(), |a| encode(&a.plan));
+    table.holds("plan table", &own)
+}
+
+fn count_accepted(accepted: &Accepted, counts: &mut Counts) {
+    let plan = &accepted.plan;
+    counts.met("read accepted");
+    counts.met(format!("depth {}", plan.deepest()));
+    counts.met(format!("sets {:02}", plan.n));
+    counts.met(format!("ports {:02}", plan.u));
+    for node in &plan.nodes {
+        if node.kind >= COMPARE {
+            let what = if node.kind == SIZE { "size" } else { "ports compared by" };
+            counts.met(format!("{what} {}", RELATIONS[usize::from(node.relation)]));
+        }
+    }
+}
+
+/// The tables of one load: a plan table, masks and a cell table that holds anything.
+struct Tables {
+    table: Vec<u8>,
+    masks: Vec<u64>,
+    cells: Vec<u32>,
+}
+
+/// Masks and cells for a plan, at times too short or with a port of u or more; words past the plan's own hold anything.
+fn tables_for(plan: &Plan, table: Vec<u8>, r: &mut Random) -> Tables {
+    let mut own = masks(r, plan.u, plan.n);
+    if plan.u < 64 && r.chance(8) {
+        let set = r.below(plan.n);
+        own[set] |= 1 << (plan.u + r.below(64 - plan.u));
+    }
+    // Past the plan's own masks even a port of u or more plays no part.
+    own.extend((0..r.below(3)).map(|_| r.word()));
+    if r.chance(4) {
+        own.truncate(r.below(plan.n));
+    }
+    let total = plan.cells();
+    let length = if r.chance(4) { r.below(total) } else { total + r.below(4) };
+    Tables { table, masks: own, cells: (0..length).map(|_| r.word() as u32).collect() }
+}
+
+/// Loads with both and compares the answer and every cell; then the cells of some nodes.
+fn one_load(t: &Tables, r: &mut Random, counts: &mut Counts, damage: &mut Damage) -> Compared<()> {
+    let mut cells = Lent::of(&t.cells, r.word() as u32);
+    let (mut table, mut masks) = (Lent::of(&t.table, 0xA5), Lent::of(&t.masks, u64::MAX));
+    let fields = raw::load(&t.table, &t.masks, &mut t.cells.clone());
+    let answer = load(table.part(), masks.part(), cells.part());
+    damage.cells(cells.part(), r);
+    let expected = tables(&t.table, &t.masks, &[t.cells.len()]).map(|plan| cells_of(&plan, &t.masks));
+    let numbers = expected.as_ref().map(|own| Loaded { root: own[0], cells: own.len() }).map_err(|number| *number);
+    same("load's answer", &answer, &numbers)?;
+    same("load's fields", &fields, &load_fields(numbers))?;
+    let own = expected.as_deref().unwrap_or(&[]);
+    cells.holds("cells", own)?;
+    table.holds("plan table after a load", &[])?;
+    masks.holds("masks after a load", &[])?;
+    counts.met("loads");
+    if own.len() > OFTEN {
+        counts.met("loads of many cells");
+    }
+    counts.met(expected.as_ref().map_or_else(|n| format!("load {n}"), |_| "load accepted".to_string()));
+    (0..3).try_for_each(|_| one_part(&t.table, cells.part(), r, counts))
+}
+
+/// Asks both for a node's part of a cell table, here with whatever the table holds.
+fn one_part(table: &[u8], cells: &[u32], r: &mut Random, counts: &mut Counts) -> Compared<()> {
+    let plan = decode(table);
+    let count = plan.as_ref().map_or(8, |p| p.nodes.len());
+    let node = if r.chance(5) { r.word() as usize } else { r.below(count + 2) };
+    let length = if r.chance(10) { r.below(cells.len() + 1) } else { cells.len() };
+    let cells = &cells[..length];
+    let answer = raw::node_cells(table, cells, node);
+    let (class, expected) = match &plan {
+        None => ("broken table", Part { first: 0, count: 0 }),
+        Some(p) if length < p.cells() => ("short cells", Part { first: 0, count: 0 }),
+        Some(p) if node >= p.nodes.len() => ("no such node", Part { first: 0, count: 0 }),
+        Some(p) => ("a part", Part { first: p.firsts()[node], count: p.width(node) }),
+    };
+    same("node's part", &answer, &expected)?;
+    let lent = vuyekhang::node_cells(table, cells, node);
+    let part = &cells[expected.first..expected.first + expected.count];
+    same("where a node's cells stand", &lent.as_ptr_range(), &part.as_ptr_range())?;
+    counts.met(format!("node cells: {class}"));
+    Ok(())
+}
+
+/// The largest plan whose cells are all recomputed at every load; larger ones only now and then.
+const OFTEN: usize = 3_000;
+const SOMETIMES: usize = 100_000;
+
+/// One text, and where it is accepted its loads: the plan's own table, the same damaged, and truth beside the root.
+pub fn one_round(r: &mut Random, counts: &mut Counts, damage: &mut Damage) -> Compared<()> {
+    let Some(accepted) = one_text(r, counts, damage)? else {
+        return Ok(());
+    };
+    let plan = &accepted.plan;
+    if accepted.cells > OFTEN && !(accepted.cells < SOMETIMES && r.chance(5)) {
+        return Ok(());
+    }
+    let mut bytes = encode(plan);
+    bytes.extend((0..r.below(5)).map(|_| r.word() as u8));
+    let t = tables_for(plan, bytes.clone(), r);
+    let told = |e: String| format!("{e}\n  masks {:?}, table {bytes:?}", t.masks);
+    one_load(&t, r, counts, damage).map_err(told)?;
+    if tables(&t.table, &t.masks, &[t.cells.len()]).is_ok() {
+        one_truth(&accepted, &t.masks, counts)?;
+    }
+    (0..2).try_for_each(|_| one_damaged_table(plan, r, counts, damage))
+}
+
+/// The engine's root is 0 exactly when the text's own tree, arrows and negations included, is true.
+fn one_truth(accepted: &Accepted, masks: &[u64], counts: &mut Counts) -> Compared<()> {
+    let plan = &accepted.plan;
+    let mut cells = vec![0; accepted.cells];
+    let root = load(&encode(plan), masks, &mut cells).map_err(|number| format!("a sound plan is refused by {number}"))?.root;
+    let holds = text_true(&accepted.tree, plan.u, &accepted.sets, masks, &mut Vec::new());
+    same("whether the root is 0", &(root == 0), &holds)?;
+    counts.met(if holds { "true" } else { "false" });
+    Ok(())
+}
+
+/// Half of the damage is to bytes, half to the plan's tree: the first finds what holds the table together, the second the rules
+/// behind that.
+fn damaged(plan: &Plan, r: &mut Random) -> Vec<u8> {
+    if r.chance(50) {
+        return encode(&damage_plan(plan, r));
+    }
+    let mut bytes = encode(plan);
+    for _ in 0..1 + r.below(2) {
+        damage_table(&mut bytes, r);
+    }
+    bytes
+}
+
+fn one_damaged_table(plan: &Plan, r: &mut Random, counts: &mut Counts, damage: &mut Damage) -> Compared<()> {
+    let bytes = damaged(plan, r);
+    counts.met("damaged tables");
+    // Damage may leave a sound table of many more cells; its own masks and cells are then made for it.
+    let now = judge(&bytes);
+    counts.met(now.as_ref().map_or_else(|rule| format!("broken: {rule}"), |_| "damaged and sound".to_string()));
+    let fits = now.as_ref().unwrap_or(plan);
+    if fits.cells() > SOMETIMES {
+        return Ok(());
+    }
+    let t = tables_for(fits, bytes, r);
+    one_load(&t, r, counts, damage).map_err(|e| format!("{e}\n  masks {:?}, cells {}, damaged table {:?}", t.masks, t.cells.len(), t.table))
+}
+
+/// Tokens of every kind, and parts of tokens, for texts that are tried one and all.
+const TOKENS: [&str; 22] =
+    ["@", "?", "~", "(", ")", "&", "|", "->", "<-", "<->", ":", "/", "#", "<", "!=", "-", "x", "y", "S", "T", "0", "65"];
+
+/// What stands before them: the beginnings of a text from which every part of the grammar is a few tokens away.
+const BEGINNINGS: [&str; 14] =
+    ["", "[", "[S", "[S]", "[S]~", "[S]#S", "[S]#S<0", "[S]#S<0->", "[S]@x", "[S]@x x", "[S]@x x:S", "[S]@x x:S&", "[S]@x@y", "[S]@x(x:S|"];
+
+/// Reads every beginning and so many tokens behind it with both, with no blanks or one between two tokens.
+pub fn short_texts(tokens: usize, counts: &mut Counts) -> Compared<()> {
+    let most = TOKENS.len().pow(tokens as u32);
+    (0..most).try_for_each(|which| {
+        let chosen: Vec<&str> = (0..tokens).map(|i| TOKENS[which / TOKENS.len().pow(i as u32) % TOKENS.len()]).collect();
+        let behind = ["", " "].map(|blank| chosen.join(blank));
+        BEGINNINGS.iter().try_for_each(|start| behind.iter().try_for_each(|end| short_text(&format!("{start}{end}"), counts)))
+    })
+}
+
+fn short_text(text: &str, counts: &mut Counts) -> Compared<()> {
+    let mut table = Lent::of(&[0; 64], 0xA5);
+    let fields = raw::read(2, text.as_bytes(), &mut [0; 64]);
+    let answer = read(2, text.as_bytes(), table.part());
+    let expected = second_read(2, text.as_bytes(), 64);
+    compare_read(answer, fields, &expected, &table).map_err(|e| format!("{e}\n  u 2, room 64, text {text:?}"))?;
+    counts.met(expected.map_or_else(|n| format!("read {n:02}"), |_| "read accepted".to_string()));
+    Ok(())
+}
+
+/// Classes of the calls that exist today and how often each must be met.
+pub fn missed(counts: &Counts) -> Vec<String> {
+    let mut wanted: Vec<(String, u64)> = vec![("read accepted".into(), counts.of("texts") * 30 / 100)];
+    wanted.extend((1..=10).chain([12]).map(|n| (format!("read {n:02}"), 100)));
+    wanted.extend((11..=13).map(|n| (format!("load {n}"), 100)));
+    wanted.extend(RULES.map(|rule| (format!("broken: {rule}"), 20)));
+    wanted.extend((0..=3).map(|d| (format!("depth {d}"), 100)));
+    wanted.extend((1..=16).map(|n| (format!("sets {n:02}"), 20)));
+    wanted.extend((1..=64).map(|u| (format!("ports {u:02}"), 10)));
+    wanted.extend(RELATIONS.iter().flat_map(|r| [format!("size {r}"), format!("ports compared by {r}")]).map(|c| (c, 100)));
+    wanted.extend(["load accepted", "true", "false", "damaged and sound"].map(|c| (c.to_string(), 100)));
+    wanted.push(("loads of many cells".to_string(), 20));
+    wanted.extend(["broken table", "short cells", "no such node", "a part"].map(|c| (format!("node cells: {c}"), 100)));
+    wanted
+        .into_iter()
+        .filter(|(class, least)| counts.of(class) < *least)
+        .map(|(class, least)| format!("{class}: met {} times, not {least}", counts.of(&class)))
+        .collect()
+}

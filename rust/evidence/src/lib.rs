@@ -1,0 +1,23 @@
+//! What the proved archive is held against: a second evaluator, and a plain engine for times.
+//!
+//! `second` and `plain` do not use the binding and share no code; `calls` has the records in which all three answer. `compare` and
+//! `lists` compare the archive with `second`, call by call and in lists of calls. `bench` measures it beside `plain`.
+pub mod archive;
+pub mod bench;
+pub mod calls;
+pub mod compare;
+pub mod counts;
+pub mod lent;
+pub mod lists;
+pub mod plain;
+pub mod random;
+pub mod second;
+
+/// Runs on a thread with stack enough for the deepest text, by any of the evaluators, and hands back what it answers.
+pub fn with_stack<T: Send + 'static>(run: impl FnOnce() -> T + Send + 'static) -> T {
+    let thread = std::thread::Builder::new().stack_size(256 << 20).spawn(run).expect("a thread can be started");
+    match thread.join() {
+        Ok(answer) => answer,
+        Err(panic) => std::panic::resume_unwind(panic),
+    }
+}

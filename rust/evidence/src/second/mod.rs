@@ -1,0 +1,9 @@
+//! A second evaluator, written from paper 01 alone. It shares no code and no table with the engine, and takes the plainest way
+//! everywhere: it is slow, and easy to hold against the paper.
+mod core;
+pub mod formula;
+pub mod moves;
+pub mod penalty;
+pub mod plan;
+pub mod table;
+pub mod text;

@@ -1,0 +1,143 @@
+//! The binding's own part: each ground by its name, moves and kinds with any fields, and answers that no version gives today.
+use vuyekhang::raw::{ImproveAnswer, LoadAnswer, MoveAnswer, ReadAnswer};
+use vuyekhang::{improve, load, make_move, read, trial, Improved, Kinds, Loaded, Move, Moved, Read, Refusal, MOST_TABLE, READ_STACK};
+
+const PLAN_A: &[u8] = b"[STI] @x (x:I <-> x:S & x:T) & #I <= 1";
+const CELLS: usize = 34;
+
+fn plan_a() -> [u8; MOST_TABLE] {
+    let mut table = [0; MOST_TABLE];
+    let answer = read(3, PLAN_A, &mut table);
+    assert_eq!(answer, Ok(Read { nodes: 14, cells: CELLS }));
+    table
+}
+
+fn refused(u: u64, text: &str) -> Refusal {
+    read(u, text.as_bytes(), &mut [0; MOST_TABLE]).expect_err(text)
+}
+
+#[test]
+fn grounds_of_the_plans_writer() {
+    let nested = format!("[S]{}#S<1{}", "(".repeat(65), ")".repeat(65));
+    let grounds = [
+        (Refusal::TextTooLong, " ".repeat(4097)),
+        (Refusal::UnknownByte, "$".to_string()),
+        (Refusal::OutsideGrammar, "[S]".to_string()),
+        (Refusal::NestedTooDeep, nested),
+        (Refusal::WrongName, "[S] #T < 1".to_string()),
+        (Refusal::ConstantTooLarge, "[S] #S < 65".to_string()),
+        (Refusal::FourthQuantifier, "[S] @a @b @c @d d:S".to_string()),
+        (Refusal::TooManyNodes, format!("[S]{}", ["#S<1"; 511].join("&"))),
+        (Refusal::TooManyCells, "[S] @x @y @z (x:S & y:S & z:S)".to_string()),
+    ];
+    for (number, (refusal, text)) in (1..).zip(grounds) {
+        assert_eq!(refused(64, &text), refusal);
+        assert_eq!(refusal.number(), number);
+    }
+}
+
+#[test]
+fn grounds_of_the_host() {
+    assert_eq!(refused(65, "[S] #S < 1"), Refusal::WrongPortCount);
+    assert_eq!(read(3, PLAN_A, &mut [0; 120]), Err(Refusal::TooShort));
+    let table = plan_a();
+    assert_eq!(load(&table[1..], &[3, 7, 1], &mut [0; CELLS]), Err(Refusal::BrokenTable));
+    assert_eq!(load(&table, &[3, 7, 1], &mut [0; CELLS - 1]), Err(Refusal::TooShort));
+    assert_eq!(load(&table, &[3, 7], &mut [0; CELLS]), Err(Refusal::TooShort));
+    assert_eq!(load(&table, &[3, 8, 1], &mut [0; CELLS]), Err(Refusal::PortOutsidePlan));
+    let host = [Refusal::WrongPortCount, Refusal::BrokenTable, Refusal::TooShort, Refusal::PortOutsidePlan];
+    assert_eq!(host.map(|refusal| refusal.number()), [10, 11, 12, 13]);
+}
+
+#[test]
+fn grounds_of_the_operator() {
+    let (table, mut masks, mut cells, mut scratch) = (plan_a(), [3, 7, 1], [0; CELLS], [0; CELLS]);
+    assert_eq!(load(&table, &masks, &mut cells), Ok(Loaded { root: 1, cells: CELLS }));
+    let mut made = |m: Move| make_move(&table, &mut masks, &mut cells, m);
+    for unknown in
+        [Move::default(), Move { kind: 5, ..Move::add(0, 2) }, Move { q: 1, ..Move::add(0, 2) }, Move::add(3, 2), Move::add(0, 3)]
+    {
+        assert_eq!(made(unknown), Err(Refusal::UnknownMove), "{unknown:?}");
+    }
+    for illegal in [Move::add(0, 0), Move::drop(0, 2), Move::transfer(1, 0, 0), Move::transfer(1, 1, 0), Move::swap(0, 2, 0)] {
+        assert_eq!(made(illegal), Err(Refusal::IllegalMove), "{illegal:?}");
+    }
+    for kinds in [Kinds(0), Kinds(16), Kinds(u32::MAX)] {
+        assert_eq!(improve(&table, &mut masks, &mut cells, &mut scratch, kinds), Err(Refusal::UnknownMove));
+    }
+    assert_eq!([Refusal::UnknownMove, Refusal::IllegalMove].map(|refusal| refusal.number()), [14, 15]);
+}
+
+#[test]
+fn a_move_of_each_kind() {
+    let (table, mut scratch) = (plan_a(), [0; CELLS]);
+    for (m, after) in [
+        (Move::add(2, 2), [3, 7, 5]),
+        (Move::drop(1, 1), [3, 5, 1]),
+        (Move::transfer(1, 2, 1), [3, 5, 3]),
+        (Move::swap(0, 1, 2), [5, 7, 1]),
+    ] {
+        let (mut masks, mut cells) = ([3, 7, 1], [0; CELLS]);
+        load(&table, &masks, &mut cells).expect("plan A is sound");
+        let tried = trial(&table, &masks, &cells, &mut scratch, m);
+        assert_eq!(make_move(&table, &mut masks, &mut cells, m), tried);
+        let moved = tried.expect("the move is legal");
+        let loaded = load(&table, &masks, &mut cells).expect("plan A is sound");
+        assert_eq!((masks, moved.before, moved.after), (after, 1, loaded.root), "{m:?}");
+    }
+}
+
+#[test]
+fn sums_of_kinds() {
+    let table = plan_a();
+    let improved = |kinds: Kinds| {
+        let (mut masks, mut cells, mut scratch) = ([3, 7, 1], [0; CELLS], [0; CELLS]);
+        load(&table, &masks, &mut cells).expect("plan A is sound");
+        improve(&table, &mut masks, &mut cells, &mut scratch, kinds).expect("the kinds are known")
+    };
+    for kinds in [Kinds::DROP, Kinds::ADD | Kinds::DROP, Kinds::ALL] {
+        assert!(matches!(improved(kinds), Improved::Made { moved: Moved { before: 1, after: 0, .. }, .. }), "{kinds:?}");
+    }
+    assert!(matches!(improved(Kinds::DROP), Improved::Made { chosen: Move { kind: Move::DROP, t: 0, q: 0, .. }, .. }));
+    assert_eq!(Kinds::ADD | Kinds::DROP | Kinds::TRANSFER | Kinds::SWAP, Kinds::ALL);
+}
+
+/// Each number says its own meaning, and one that is not known today is handed on as it is.
+#[test]
+fn numbers_and_meanings() {
+    let refusal = |number: u32| ReadAnswer { number, nodes: 0, cells: 0 }.typed().expect_err("a number other than 0");
+    let meanings: std::collections::BTreeSet<String> = (1..=15).map(|n| refusal(n).to_string()).collect();
+    assert_eq!(meanings.len(), 15);
+    for number in (1..40).chain([u32::MAX]) {
+        assert_eq!(refusal(number).number(), number);
+        assert!(refusal(number).to_string().starts_with(&format!("refused ({number}): ")));
+        assert_eq!(matches!(refusal(number), Refusal::Other { .. }), number > 15);
+    }
+    assert_eq!(refusal(16).to_string(), "refused (16): a ground that this version does not name");
+    assert_eq!(LoadAnswer { number: 16, root: 0, cells: 0 }.typed(), Err(refusal(16)));
+    assert_eq!(MoveAnswer { number: 16, before: 0, after: 0, changed: 0 }.typed(), Err(refusal(16)));
+    let chosen = Move::default();
+    assert_eq!(ImproveAnswer { number: 16, found: 0, chosen, before: 0, after: 0, changed: 0 }.typed(), Err(refusal(16)));
+}
+
+#[test]
+fn a_table_may_be_cut_to_its_length() {
+    let mut table = [0; MOST_TABLE];
+    let plan = read(3, PLAN_A, &mut table).expect("plan A is read");
+    assert_eq!(plan.table_len(), 121);
+    assert!(load(&table[..121], &[3, 7, 1], &mut [0; CELLS]).is_ok());
+    assert_eq!(load(&table[..120], &[3, 7, 1], &mut [0; CELLS]), Err(Refusal::BrokenTable));
+}
+
+/// The deepest texts of each sign, on a thread that has only the stack that `read` asks for.
+#[test]
+fn stack_for_any_text() {
+    let closed = |open: &str, n: usize, close: &str| format!("[S]{}#S<1{}", open.repeat(n), close.repeat(n));
+    let open = |sign: &str| format!("[S]{}", sign.repeat(4093 / sign.len()));
+    let texts = [closed("(", 2044, ")"), closed("~", 4089, ""), closed("@x", 2044, ""), open("("), open("~"), open("@x"), open("~(")];
+    let reading = move || texts.map(|text| refused(3, &text));
+    let thread = std::thread::Builder::new().stack_size(READ_STACK).spawn(reading).expect("a thread can be started");
+    let answers = thread.join().expect("the stack is enough");
+    assert_eq!(answers[..3], [Refusal::NestedTooDeep; 3]);
+    assert_eq!(answers[3..], [Refusal::OutsideGrammar; 4]);
+}

@@ -1,0 +1,146 @@
+//! The known plans of paper 01, through the second evaluator alone and through the archive.
+use evidence::archive::{load, read, Archive};
+use evidence::calls::{Calls, Improved, Loaded, Move, Numbers, Read};
+use evidence::second::moves::{make_move, pairs, touched};
+use evidence::second::penalty::{cells, text_true, tuples};
+use evidence::second::table::{decode, encode};
+use evidence::second::text::{read as second_read, Accepted};
+use vuyekhang::node_cells;
+
+const PLAN_A: &str = "[STI] @x (x:I <-> x:S & x:T) & #I <= 1";
+
+fn accepted(u: u64, text: &str) -> Accepted {
+    second_read(u, text.as_bytes(), usize::MAX).unwrap_or_else(|n| panic!("{text} is refused: {n}"))
+}
+
+/// Both evaluators read the text to the same table; the root's penalty and the cell total by both.
+fn root(u: u64, text: &str, masks: &[u64]) -> (u32, usize) {
+    let second = accepted(u, text);
+    let mut table = vec![0; second.plan.bytes()];
+    let answer = read(u, text.as_bytes(), &mut table);
+    assert_eq!(answer, Ok(Read { nodes: second.plan.nodes.len(), cells: second.cells }));
+    assert_eq!(table, encode(&second.plan));
+    assert_eq!(decode(&table).as_ref(), Some(&second.plan));
+    let own = cells(&second.plan, masks);
+    assert_eq!(own.len(), second.cells);
+    let mut filled = vec![7; own.len()];
+    assert_eq!(load(&table, masks, &mut filled), Ok(Loaded { root: own[0], cells: own.len() }));
+    assert_eq!(filled, own);
+    let holds = text_true(&second.tree, u as usize, &second.sets, masks, &mut Vec::new());
+    assert_eq!(own[0] == 0, holds);
+    (own[0], own.len())
+}
+
+fn number(u: u64, text: &str) -> u32 {
+    let mut table = vec![0; 5000];
+    let answer = read(u, text.as_bytes(), &mut table).map_or_else(|n| n, |_| 0);
+    assert_eq!(answer, second_read(u, text.as_bytes(), table.len()).map_or_else(|n| n, |_| 0), "{text}");
+    answer
+}
+
+#[test]
+fn plan_a() {
+    assert_eq!(root(3, PLAN_A, &[3, 7, 1]), (1, 34));
+    let plan = accepted(3, PLAN_A).plan;
+    assert_eq!(plan.nodes.len(), 14);
+    let own = cells(&plan, &[3, 7, 1]);
+    assert_eq!(own[3..6], [0, 1, 0]);
+    assert_eq!(own[30..34], [1, 1, 1, 0]);
+    assert_eq!(node_cells(&encode(&plan), &own, 10), [0, 1, 1]);
+    assert!(node_cells(&encode(&plan), &own, 14).is_empty());
+}
+
+#[test]
+fn plan_b() {
+    let plan = accepted(3, PLAN_A).plan;
+    let mut masks = [3, 7, 1];
+    let mut own = cells(&plan, &masks);
+    let drop = Move { kind: 2, s: 1, t: 0, p: 1, q: 0 };
+    let is_touched = |node: usize, t: &Vec<usize>| pairs(&drop).iter().any(|pair| touched(&plan, node, t, *pair));
+    let count: usize = (0..14).map(|node| tuples(3, plan.depth(node)).iter().filter(|t| is_touched(node, t)).count()).sum();
+    assert_eq!(count, 9);
+    let answer = make_move(&encode(&plan), &mut masks, &mut own, &drop);
+    assert_eq!(answer, Ok(Numbers { before: 1, after: 0, changed: 8 }));
+    assert_eq!(masks, [3, 5, 1]);
+    assert_eq!(own, cells(&plan, &masks));
+}
+
+#[test]
+fn plan_b_by_the_archive() {
+    let plan = accepted(3, PLAN_A).plan;
+    let table = encode(&plan);
+    let mut masks = [3, 7, 1];
+    let mut own = cells(&plan, &masks);
+    let mut scratch = vec![9; own.len()];
+    let drop = Move { kind: 2, s: 1, t: 0, p: 1, q: 0 };
+    let numbers = Numbers { before: 1, after: 0, changed: 8 };
+    assert_eq!(Archive.trial(&table, &masks, &own, &mut scratch, &drop), Ok(numbers));
+    assert_eq!(Archive.trial(&table, &masks, &own, &mut scratch[1..], &drop), Err(12));
+    assert_eq!(Archive.make_move(&table, &mut masks, &mut own, &drop), Ok(numbers));
+    assert_eq!((masks, &own), ([3, 5, 1], &cells(&plan, &masks)));
+    assert_eq!(Archive.make_move(&table, &mut masks, &mut own, &drop), Err(15));
+    assert_eq!(Archive.improve(&table, &mut masks, &mut own, &mut scratch, 15), Ok(Improved::NoBetter(0)));
+    assert_eq!(Archive.improve(&table, &mut masks, &mut own, &mut scratch, 16), Err(14));
+}
+
+/// Kinds, sets and ports that would be known if they were cut to a byte or to 16 bits.
+#[test]
+fn wide_fields_are_not_cut() {
+    let plan = accepted(3, PLAN_A).plan;
+    let table = encode(&plan);
+    let mut masks = [3, 7, 1];
+    let mut own = cells(&plan, &masks);
+    let drop = Move { kind: 2, s: 1, t: 0, p: 1, q: 0 };
+    for more in [1 << 8, 1 << 16, 1 << 31] {
+        for wide in [
+            Move { kind: drop.kind + more, ..drop },
+            Move { s: drop.s + more, ..drop },
+            Move { t: more, ..drop },
+            Move { p: drop.p + more, ..drop },
+            Move { q: more, ..drop },
+        ] {
+            assert_eq!(Archive.make_move(&table, &mut masks, &mut own, &wide), Err(14));
+        }
+        assert_eq!(Archive.improve(&table, &mut masks, &mut own.clone(), &mut own, more + 2), Err(14));
+    }
+}
+
+#[test]
+fn plans_c_to_i() {
+    assert_eq!(root(2, "[ST] @x (x/S | x:T) & ?x (x:T & x/S)", &[1, 1]).0, 1);
+    assert_eq!(root(1, "[S] ?x x:S", &[0]).0, 1);
+    assert_eq!(root(1, "[S] ?x x:S", &[1]).0, 0);
+    assert_eq!(root(64, "[S] #S < 0", &[0]).0, 1);
+    assert_eq!(root(64, "[S] #S > 64", &[u64::MAX]).0, 1);
+    assert_eq!(root(64, "[S] #S = 2", &[0]).0, 2);
+    assert_eq!(root(64, "[S] #S = 2", &[15]).0, 2);
+    assert_eq!(root(64, "[S] #S != 2", &[3]).0, 1);
+}
+
+#[test]
+fn large_plans() {
+    let sixteen = format!("[S] @x @y ({})", ["x:S"; 16].join(" & "));
+    assert_eq!(root(64, &sixteen, &[0]).0, 65_536);
+    assert_eq!(root(64, "[S] @x @y @z (x:S & z:S)", &[1]).1, 790_594);
+    assert_eq!(number(64, "[S] @x @y @z (x:S & y:S & z:S)"), 9);
+}
+
+#[test]
+fn refusals() {
+    assert_eq!(number(64, "[S] #S <= 64"), 0);
+    assert_eq!(number(64, "[S] #S <= 65"), 6);
+    assert_eq!(number(64, "[S] #S <= 064"), 3);
+    assert_eq!(number(64, "[S] #S<1->#S<2->#S<3"), 3);
+    assert_eq!(number(64, "[S] @x @x x:S"), 5);
+    assert_eq!(number(64, "[S] #S < 1 - $"), 2);
+    assert_eq!(number(0, "$"), 10);
+}
+
+/// A tuple read with the innermost variable first would change these cells.
+#[test]
+fn outermost_counts_most() {
+    let plan = accepted(3, "[S] @x @y (x < y | x:S)").plan;
+    let own = cells(&plan, &[0]);
+    let compare = plan.nodes.iter().position(|n| n.kind == 7).expect("it compares ports");
+    assert_eq!(node_cells(&encode(&plan), &own, compare), [1, 0, 0, 1, 1, 0, 1, 1, 1]);
+}

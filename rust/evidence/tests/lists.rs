@@ -1,0 +1,76 @@
+//! The driver of lists of calls: no difference where the second evaluator stands on both sides, and a difference for each mistake
+//! that paper 01 says must be shut out.
+use evidence::calls::{Calls, Improved, Move, Numbers};
+use evidence::counts::Counts;
+use evidence::lists::{run, Second};
+
+const CALLS: u64 = 1_000;
+
+#[derive(Clone, Copy, PartialEq)]
+enum Mistake {
+    None,
+    MendsRootOnly,
+    WritesNothing,
+    InventedCount,
+    OnlyTheFirst,
+    NoBetterAtOnce,
+    ScratchPastTheEnd,
+}
+
+struct Wrong {
+    mistake: Mistake,
+    moves: std::cell::Cell<u32>,
+}
+
+impl Calls for Wrong {
+    fn make_move(&self, table: &[u8], masks: &mut [u64], cells: &mut [u32], m: &Move) -> Result<Numbers, u32> {
+        let before = cells.to_vec();
+        let mut answer = Second.make_move(table, masks, cells, m)?;
+        self.moves.set(self.moves.get() + 1);
+        let undone = match self.mistake {
+            Mistake::MendsRootOnly => 1..cells.len(),
+            Mistake::WritesNothing => 0..cells.len(),
+            Mistake::OnlyTheFirst if self.moves.get() > 1 => 0..cells.len(),
+            _ => 0..0,
+        };
+        cells[undone.clone()].copy_from_slice(&before[undone]);
+        answer.changed += u32::from(self.mistake == Mistake::InventedCount);
+        Ok(answer)
+    }
+
+    fn trial(&self, table: &[u8], masks: &[u64], cells: &[u32], scratch: &mut [u32], m: &Move) -> Result<Numbers, u32> {
+        let answer = Second.trial(table, masks, cells, scratch, m);
+        if self.mistake == Mistake::ScratchPastTheEnd {
+            scratch.iter_mut().for_each(|c| *c = c.wrapping_add(1));
+        }
+        answer
+    }
+
+    fn improve(&self, table: &[u8], masks: &mut [u64], cells: &mut [u32], scratch: &mut [u32], kinds: u32) -> Result<Improved, u32> {
+        if self.mistake == Mistake::NoBetterAtOnce {
+            Second.improve(table, &mut masks.to_vec(), &mut cells.to_vec(), scratch, kinds)?;
+            return Ok(Improved::NoBetter(cells[0]));
+        }
+        Second.improve(table, masks, cells, scratch, kinds)
+    }
+}
+
+fn reported(mistake: Mistake) -> bool {
+    let wrong = Wrong { mistake, moves: std::cell::Cell::new(0) };
+    run(&wrong, CALLS, 1, &mut Counts::default()).is_err()
+}
+
+#[test]
+fn no_mistake_is_not_reported() {
+    assert!(!reported(Mistake::None));
+}
+
+#[test]
+fn each_mistake_is_reported() {
+    assert!(reported(Mistake::MendsRootOnly));
+    assert!(reported(Mistake::WritesNothing));
+    assert!(reported(Mistake::InventedCount));
+    assert!(reported(Mistake::OnlyTheFirst));
+    assert!(reported(Mistake::NoBetterAtOnce));
+    assert!(reported(Mistake::ScratchPastTheEnd));
+}

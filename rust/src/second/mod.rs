@@ -1,6 +1,0 @@
-//! A second evaluator, written from paper 01 alone. It shares no code and no table with the engine, and takes the plainest way
-//! everywhere: it is slow, and easy to hold against the paper.
-pub mod moves;
-pub mod penalty;
-pub mod table;
-pub mod text;

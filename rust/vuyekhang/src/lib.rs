@@ -1,0 +1,142 @@
+//! A planning engine for the ports of a cabinet, proved in Rattle, behind safe functions.
+//!
+//! A plan is a formula over sets of ports. [`read`] writes its plan table from a text, [`load`] fills a penalty for every node
+//! and every tuple of ports (a cell), and the root's penalty is 0 exactly when the formula is true. [`make_move`] changes the
+//! sets and the cells that this touches, [`trial`] says what a move would do, [`improve`] makes the best move.
+//!
+//! The caller owns every table and lends it for one call; the engine keeps nothing between two calls. A refused call writes
+//! nothing, and nothing past a plan's own bytes, masks or cells is read or written.
+//!
+//! ```
+//! use vuyekhang::{load, make_move, read, Move, MOST_TABLE};
+//!
+//! // I holds exactly the ports that are in both S and T, and at most one port.
+//! let text = b"[STI] @x (x:I <-> x:S & x:T) & #I <= 1";
+//! let mut table = [0; MOST_TABLE];
+//! let plan = read(3, text, &mut table)?;
+//!
+//! // S has ports 0 and 1, T has 0 to 2, I has 0: port 1 is missing in I.
+//! let mut masks = [3, 7, 1];
+//! let mut cells = vec![0; plan.cells];
+//! let loaded = load(&table, &masks, &mut cells)?;
+//! assert_eq!((loaded.root, loaded.cells), (1, 34));
+//!
+//! // Without port 1 in T the plan is true.
+//! let moved = make_move(&table, &mut masks, &mut cells, Move::drop(1, 1))?;
+//! assert_eq!((moved.before, moved.after, moved.changed), (1, 0, 8));
+//! assert_eq!(masks, [3, 5, 1]);
+//! # Ok::<(), vuyekhang::Refusal>(())
+//! ```
+//!
+//! Any value of any argument is answered, by numbers or by a [`Refusal`]. What the C functions ask of their caller, that lengths
+//! are true and that a table which is written is lent once, Rust's references give. All that is left to see to is the stack that
+//! [`read`] may need.
+//!
+//! To link, the archive `target/staticlib/libvuyekhang.a` must be there: `rt staticlib vuyekhang` proves and writes it.
+#![deny(missing_docs)]
+
+mod answers;
+mod moves;
+pub mod raw;
+mod refusal;
+
+pub use answers::{Improved, Loaded, Moved, Read};
+pub use moves::{Kinds, Move};
+pub use refusal::Refusal;
+
+/// Every plan table fits this many bytes: 9, and 8 for each of at most 512 nodes.
+pub const MOST_TABLE: usize = 9 + 8 * 512;
+
+/// No plan has more cells than this.
+pub const MOST_CELLS: usize = 1_048_576;
+
+/// The stack of a thread on which [`read`] may be called with any text.
+pub const READ_STACK: usize = 8 << 20;
+
+/// Reads a plan text over `u` ports and writes its plan table, [`Read::table_len`] bytes.
+///
+/// Tries ground 10, then 1 to 9, each over the whole text, then 12: `table` is shorter than the plan's.
+///
+/// # Stack
+///
+/// A text of 4,096 bytes may nest so deep that reading it takes 4 MB of stack; where there is less, the program is aborted. A
+/// thread that Rust starts has 2 MB. One on which texts of any origin are read is given [`READ_STACK`]:
+///
+/// ```
+/// use vuyekhang::{read, Refusal, MOST_TABLE, READ_STACK};
+///
+/// let text = format!("[S]{}", "(".repeat(4093));
+/// let reading = move || read(3, text.as_bytes(), &mut [0; MOST_TABLE]);
+/// let thread = std::thread::Builder::new().stack_size(READ_STACK).spawn(reading).unwrap();
+/// assert_eq!(thread.join().unwrap(), Err(Refusal::OutsideGrammar));
+/// ```
+pub fn read(u: u64, text: &[u8], table: &mut [u8]) -> Result<Read, Refusal> {
+    raw::read(u, text, table).typed()
+}
+
+/// Checks a plan table and the masks, and writes every cell of the plan: its penalty.
+///
+/// Bit p of mask s says whether port p is in set s. Tries 11, then 12 (fewer masks than sets, or fewer cells than the plan's
+/// total), then 13.
+pub fn load(table: &[u8], masks: &[u64], cells: &mut [u32]) -> Result<Loaded, Refusal> {
+    raw::load(table, masks, cells).typed()
+}
+
+/// A node's cells as a part of the caller's cell table, in rising order of their tuples, the outermost variable counting most.
+///
+/// It is never refused: the part is empty where the plan table is broken (11), the cell table is shorter than the plan's total
+/// (12), or there is no such node.
+///
+/// ```
+/// # use vuyekhang::{load, node_cells, read, MOST_TABLE};
+/// let mut table = [0; MOST_TABLE];
+/// let plan = read(3, b"[S] @x x:S", &mut table)?;
+/// let mut cells = vec![0; plan.cells];
+/// load(&table, &[0b101], &mut cells)?;
+/// // Node 0 is the root, 1 "for all x", 2 "x in S".
+/// assert_eq!(node_cells(&table, &cells, 2), [0, 1, 0]);
+/// assert!(node_cells(&table, &cells, 3).is_empty());
+/// # Ok::<(), vuyekhang::Refusal>(())
+/// ```
+pub fn node_cells<'a>(table: &[u8], cells: &'a [u32], node: usize) -> &'a [u32] {
+    let part = raw::node_cells(table, cells, node);
+    &cells[part.first..part.first + part.count]
+}
+
+/// Makes a move: writes its masks and the touched cells in place.
+///
+/// Tries 11, then 12 (fewer masks than sets, or fewer cells than the plan's total), then 13, 14 and 15. The cells are taken as
+/// they are: after a [`load`] and nothing but these calls each is its penalty.
+pub fn make_move(table: &[u8], masks: &mut [u64], cells: &mut [u32], m: Move) -> Result<Moved, Refusal> {
+    raw::make_move(table, masks, cells, m).typed()
+}
+
+/// What [`make_move`] would answer, with masks and cells kept.
+///
+/// Scratch has as many cells as the plan or more (else 12); what an accepted call leaves in so many of them is not said.
+pub fn trial(table: &[u8], masks: &[u64], cells: &[u32], scratch: &mut [u32], m: Move) -> Result<Moved, Refusal> {
+    raw::trial(table, masks, cells, scratch, m).typed()
+}
+
+/// Makes a legal move of some kinds that leaves the least root, if that is smaller than now; which of equally good ones is not
+/// said.
+///
+/// Tries 11 to 13 as [`trial`] does, then 14: kinds is 0 or above 15. Scratch as for [`trial`].
+///
+/// ```
+/// # use vuyekhang::{improve, load, read, Improved, Kinds, Move, Moved, MOST_TABLE};
+/// # let mut table = [0; MOST_TABLE];
+/// # let plan = read(3, b"[S] #S = 2 & @x (x/S | ?y (y:S & x != y))", &mut table)?;
+/// # let (mut masks, mut cells, mut scratch) = ([0b111], vec![0; plan.cells], vec![0; plan.cells]);
+/// # load(&table, &masks, &mut cells)?;
+/// let answer = improve(&table, &mut masks, &mut cells, &mut scratch, Kinds::ADD | Kinds::DROP)?;
+/// match answer {
+///     Improved::Made { chosen, moved } => println!("{chosen:?}: root {} to {}", moved.before, moved.after),
+///     Improved::NoBetter { root } => println!("no better move, root {root}"),
+/// }
+/// # assert!(matches!(answer, Improved::Made { chosen: Move { kind: Move::DROP, .. }, moved: Moved { before: 1, after: 0, .. } }));
+/// # Ok::<(), vuyekhang::Refusal>(())
+/// ```
+pub fn improve(table: &[u8], masks: &mut [u64], cells: &mut [u32], scratch: &mut [u32], kinds: Kinds) -> Result<Improved, Refusal> {
+    raw::improve(table, masks, cells, scratch, kinds.0).typed()
+}
