@@ -1,8 +1,9 @@
-// Texts of paper 01 through read and load, each ground at its boundary: what it prints is held to the file stdout.
+// Texts of paper 01 through read and load, each ground at its boundary.
+use crate::print::say_loaded;
+use crate::print::say_read;
+use crate::print::show_bytes;
 use call_load::load;
 use call_read::read;
-use contracts::Answer;
-use contracts::Loaded;
 ghost use Prim.Native.Nat.{_≤_, _<_};
 
 // j, or 0 behind the last of n places.
@@ -34,37 +35,6 @@ fn lay(out: &mut [u8], from: usize, to: usize, piece: &[u8]) {
     }
 }
 
-fn accepted(nodes: u32, cells: u32) {
-    io::write_all(1, b"nodes ");
-    io::print_decimal(1, nodes as u64);
-    io::write_all(1, b" cells ");
-    io::print_decimal(1, cells as u64);
-    io::write_all(1, b"\n");
-}
-
-fn loaded(root: u32, cells: u32) {
-    io::write_all(1, b"penalty ");
-    io::print_decimal(1, root as u64);
-    io::write_all(1, b" cells ");
-    io::print_decimal(1, cells as u64);
-    io::write_all(1, b"\n");
-}
-
-fn refused(number: u8) {
-    io::write_all(1, b"refused ");
-    io::print_decimal(1, number as u64);
-    io::write_all(1, b"\n");
-}
-
-// Reads a text into a table and prints the answer: `nodes N cells C` or `refused N`.
-fn say_read(u: u64, text: &[u8], table: &mut [u8]) {
-    let answer = read(u, text, table);
-    match answer {
-        Answer::Accepted { nodes, cells } => accepted(nodes, cells),
-        Answer::Refused(n) => refused(n),
-    }
-}
-
 // Room for the largest table.
 fn blank_table() -> [u8; 4105] {
     [0; 4105]
@@ -77,18 +47,14 @@ fn spaces() -> [u8; 8192] {
 // Reads a text and prints the answer.
 fn say(u: u64, text: &[u8]) {
     let mut table = blank_table();
-    say_read(u, text, &mut table);
+    say_read(read(u, text, &mut table));
 }
 
 // Reads a text, loads its table and prints load's answer: `penalty P cells C` or `refused N`.
 fn run(u: u64, text: &[u8], masks: &[u64], cells: &mut [u32]) {
     let mut table = blank_table();
-    say_read(u, text, &mut table);
-    let answer = load(&table, masks, cells);
-    match answer {
-        Loaded::Accepted { root, cells } => loaded(root, cells),
-        Loaded::Refused(n) => refused(n),
-    }
+    say_read(read(u, text, &mut table));
+    say_loaded(load(&table, masks, cells));
 }
 
 // A text of four parts, the second and the fourth of so many bytes, laid from pieces; read over one port.
@@ -227,52 +193,32 @@ fn many_nodes() {
 fn tables() {
     let mut table = [7u8; 36];
     say_short(b"[S] ?x x:S", &mut table, 32);
-    show(&table);
+    show_bytes(&table);
     say_short(b"[S] ?x x:S", &mut table, 33);
-    show(&table);
+    show_bytes(&table);
 }
 
 fn say_short(text: &[u8], table: &mut [u8], length: usize) {
     if table.len() < length {
         return;
     }
-    say_read(1, text, &mut table[0..length]);
-}
-
-fn wide(b: u8) -> u64 {
-    b as u64
-}
-
-fn show(bytes: &[u8]) {
-    let mut i = 0;
-    while i < bytes.len() {
-        io::print_decimal(1, wide(bytes[i]));
-        io::write_all(1, b" ");
-        i += 1;
-    }
-    io::write_all(1, b"\n");
-}
-
-// Room for the largest plans.
-fn room() -> [u32; 800000] {
-    [0u32; 800000]
+    say_read(read(1, text, &mut table[0..length]));
 }
 
 // 65,536 conjuncts are false: 16 bits would have stored 0. Then 790,594 cells.
-fn large_plans() {
-    let mut cells = room();
+fn large_plans(cells: &mut [u32]) {
     let none = [0u64];
     run(
         64,
         b"[S] @x @y (x:S&x:S&x:S&x:S&x:S&x:S&x:S&x:S&x:S&x:S&x:S&x:S&x:S&x:S&x:S&x:S)",
         &none,
-        &mut cells,
+        cells,
     );
-    run(64, b"[S] @x @y @z (x:S & y:S)", &none, &mut cells);
-    run(64, b"[S] @x @y @z (x:S & y:S & z:S)", &none, &mut cells);
+    run(64, b"[S] @x @y @z (x:S & y:S)", &none, cells);
+    run(64, b"[S] @x @y @z (x:S & y:S & z:S)", &none, cells);
 }
 
-fn main() {
+pub fn all(cells: &mut [u32]) {
     starred();
     ports();
     bytes_and_grammar();
@@ -283,5 +229,5 @@ fn main() {
     nestings();
     many_nodes();
     tables();
-    large_plans();
+    large_plans(cells);
 }

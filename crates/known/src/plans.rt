@@ -1,51 +1,21 @@
-// Known plans of paper 01 through load, and a node's cells: what it prints is held to the file stdout.
+// Tables of known plans of paper 01 through load, and a node's cells.
+use crate::print::say_loaded;
+use crate::print::show;
 use call_load::load;
 use call_node::node_cells;
-use contracts::Loaded;
 
-fn wide(x: u32) -> u64 {
-    x as u64
-}
-
-// The numbers of a part, a space behind each.
-fn show(cells: &[u32]) {
-    let mut i = 0;
-    while i < cells.len() {
-        io::print_decimal(1, wide(cells[i]));
-        io::write_all(1, b" ");
-        i += 1;
-    }
-    io::write_all(1, b"\n");
-}
-
+// Prints the cells of a node.
 fn show_node(table: &[u8], cells: &[u32], node: usize) {
     let part = node_cells(table, cells, node);
     show(part);
 }
 
-fn accepted(root: u32, cells: u32) {
-    io::write_all(1, b"penalty ");
-    io::print_decimal(1, wide(root));
-    io::write_all(1, b" cells ");
-    io::print_decimal(1, wide(cells));
-    io::write_all(1, b"\n");
-}
-
-fn refused(number: u8) {
-    io::write_all(1, b"refused ");
-    io::print_decimal(1, number as u64);
-    io::write_all(1, b"\n");
-}
-
 // Loads a plan and prints its answer: `penalty P cells C` or `refused N`.
 fn say(table: &[u8], masks: &[u64], cells: &mut [u32]) {
-    let answer = load(table, masks, cells);
-    match answer {
-        Loaded::Accepted { root, cells } => accepted(root, cells),
-        Loaded::Refused(n) => refused(n),
-    }
+    say_loaded(load(table, masks, cells));
 }
 
+// Plan A.
 fn table_a() -> [u8; 121] {
     [
         80,
@@ -172,10 +142,6 @@ fn table_a() -> [u8; 121] {
     ]
 }
 
-fn room() -> [u32; 800000] {
-    [0; 800000]
-}
-
 // Plan A: its 34 cells and two past them, then the cells of some nodes.
 fn plan_a() {
     let table = table_a();
@@ -226,29 +192,28 @@ fn small_plans() {
 
 // 65,536 conjuncts are false: 16 bits would have stored 0. Then 790,594 cells,
 // and one conjunct more: over the limit.
-fn large_plans() {
-    let mut cells = room();
+fn large_plans(cells: &mut [u32]) {
     let empty = [0u64];
     say(
         b"\x50\x4c\x4e\x01\x00\x40\x01\x14\x00\x00\x00\x00\x00\xff\xff\x14\x00\x01\x00\x00\x00\x00\x00\x14\x00\x01\x00\x00\x00\x01\x00\x14\x00\x03\x00\x00\x00\x02\x00\x14\x00\x05\x00\x00\x00\x03\x00\x05\x00\x05\x00\x00\x00\x03\x00\x06\x00\x05\x00\x00\x00\x03\x00\x07\x00\x05\x00\x00\x00\x03\x00\x08\x00\x05\x00\x00\x00\x03\x00\x09\x00\x05\x00\x00\x00\x03\x00\x0a\x00\x05\x00\x00\x00\x03\x00\x0b\x00\x05\x00\x00\x00\x03\x00\x0c\x00\x05\x00\x00\x00\x03\x00\x0d\x00\x05\x00\x00\x00\x03\x00\x0e\x00\x05\x00\x00\x00\x03\x00\x0f\x00\x05\x00\x00\x00\x03\x00\x10\x00\x05\x00\x00\x00\x03\x00\x11\x00\x05\x00\x00\x00\x03\x00\x12\x00\x05\x00\x00\x00\x03\x00\x13\x00\x05\x00\x00\x00\x03\x00\x14\x00",
         &empty,
-        &mut cells,
+        cells,
     );
     say(
         b"\x50\x4c\x4e\x01\x00\x40\x01\x07\x00\x00\x00\x00\x00\xff\xff\x07\x00\x01\x00\x00\x00\x00\x00\x07\x00\x01\x00\x00\x00\x01\x00\x07\x00\x01\x00\x00\x00\x02\x00\x07\x00\x03\x00\x00\x00\x03\x00\x07\x00\x05\x00\x00\x00\x04\x00\x06\x00\x05\x00\x01\x00\x04\x00\x07\x00",
         &empty,
-        &mut cells,
+        cells,
     );
     say(
         b"\x50\x4c\x4e\x01\x00\x40\x01\x08\x00\x00\x00\x00\x00\xff\xff\x08\x00\x01\x00\x00\x00\x00\x00\x08\x00\x01\x00\x00\x00\x01\x00\x08\x00\x01\x00\x00\x00\x02\x00\x08\x00\x03\x00\x00\x00\x03\x00\x08\x00\x05\x00\x00\x00\x04\x00\x06\x00\x05\x00\x01\x00\x04\x00\x07\x00\x05\x00\x02\x00\x04\x00\x08\x00",
         &empty,
-        &mut cells,
+        cells,
     );
 }
 
-fn main() {
+pub fn all(cells: &mut [u32]) {
     plan_a();
     refusals();
     small_plans();
-    large_plans();
+    large_plans(cells);
 }

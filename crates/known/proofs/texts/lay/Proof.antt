@@ -3,8 +3,8 @@ use Prim.Native.Nat.{_-_}
 use native.Mathlib.Omega.{arith}
 use lib.ListN.{length, length-set}
 use borrow.Author.Needs.{needs}
-use Rattle.known_texts.proofs.lay.Statement.{statement}
-use Rattle.known_texts.proofs.lay.Tie as tie
+use Rattle.known.proofs.texts.lay.Statement.{statement}
+use Rattle.known.proofs.texts.lay.Tie as tie
 
 abbrev Inv-loop : tie.InvT-loop
 Inv-loop out₀ from to piece i₀ j₀ out i j = length out ≡ length out₀

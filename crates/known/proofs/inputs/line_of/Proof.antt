@@ -3,8 +3,8 @@ use borrow.Author.Needs.{needs}
 use Rattle.table_format.specs.Bytes.{headerLength}
 use Rattle.planroot_line.specs.inner.Pieces.{started, stepped}
 use Rattle.planroot_line.proofs.Pieces.{passed-scanned}
-use Rattle.known_inputs.proofs.line_of.Statement.{statement}
-use Rattle.known_inputs.proofs.line_of.Tie as tie
+use Rattle.known.proofs.inputs.line_of.Statement.{statement}
+use Rattle.known.proofs.inputs.line_of.Tie as tie
 
 least-requires : tie.Need-least-requires
 least-requires c κs = search needs

@@ -1,0 +1,109 @@
+// Inputs of planroot, whole and cut in two, and the lines for them.
+use crate::print::say_line;
+use planroot_input::start;
+use planroot_input::step;
+use planroot_line::Line;
+use planroot_line::finish;
+ghost use mathlib.Core.Path.{_≡_};
+ghost use Prim.Native.Nat.{min};
+
+// "It holds 16,384 cells."
+fn room() -> [u32; 16384] {
+    [0; 16384]
+}
+
+fn least(a: usize, b: usize) -> usize
+    ensures { λ r. ⌜ r ≡ min a b ⌝ }
+{
+    if a < b {
+        return a;
+    }
+    b
+}
+
+// The line for an input that comes in two pieces, the first of at most `cut` bytes.
+fn line_of(input: &[u8], cut: usize) -> Line {
+    let mut masks = [0u64; 16];
+    let mut text = [0u8; 4097];
+    let k = least(cut, input.len());
+    let a = step(start(), &input[0..k], &mut masks, &mut text);
+    let b = step(a, &input[k..], &mut masks, &mut text);
+    let mut table = [0u8; 4105];
+    let mut cells = room();
+    finish(b, &mut masks, &text, &mut table, &mut cells)
+}
+
+// An input whole.
+fn whole(input: &[u8]) {
+    say_line(line_of(input, 0));
+}
+
+// An input whole and cut at some places: the same line each time.
+fn cut(input: &[u8]) {
+    say_line(line_of(input, 0));
+    say_line(line_of(input, 1));
+    say_line(line_of(input, 2));
+    say_line(line_of(input, 3));
+    say_line(line_of(input, 7));
+    say_line(line_of(input, 20));
+}
+
+// The first two lines: no line end, line 2 ended by the input, words that are no digit runs.
+fn lines() {
+    whole(b"");
+    whole(b"3");
+    whole(b"3\n");
+    whole(b"3\n1");
+    whole(b"3\n1\n");
+    whole(b"65\n1");
+    whole(b"\n1\n[S] ?x x:S");
+    whole(b"01\n1\n[S] ?x x:S");
+    whole(b"1 \n1\n[S] ?x x:S");
+    whole(b"+1\n1\n[S] ?x x:S");
+    whole(b"1\r\n1\n[S] ?x x:S");
+    whole(b"1\n 1\n[S] ?x x:S");
+    whole(b"1\n1 \n[S] ?x x:S");
+    whole(b"1\n1  1\n[ST] ?x x:S");
+    whole(b"1\n\n[S] ?x x:S");
+    whole(b"x\n1\n$");
+}
+
+// u at its boundaries.
+fn ports() {
+    whole(b"0\n1\n[S] ?x x:S");
+    whole(b"1\n1\n[S] ?x x:S");
+    whole(b"64\n1\n[S] ?x x:S");
+    whole(b"65\n1\n[S] ?x x:S");
+    whole(b"257\n1\n[S] ?x x:S");
+    whole(b"18446744073709551615\n1\n[S] ?x x:S");
+    whole(b"18446744073709551616\n1\n[S] ?x x:S");
+}
+
+// Masks: a port of u or more, the largest, one too many and too few, 16 and 17.
+fn masks() {
+    whole(b"1\n0\n[S] ?x x:S");
+    whole(b"1\n2\n[S] ?x x:S");
+    whole(b"64\n18446744073709551615\n[S] #S > 64");
+    whole(b"64\n18446744073709551616\n[S] #S > 64");
+    whole(b"1\n1 1\n[S] ?x x:S");
+    whole(b"1\n1\n[ST] ?x x:S");
+    whole(b"1\n1 1\n[S] ?x");
+    whole(b"1\n1 1 1 1 1 1 1 1 1 1 1 1 1 1 1 1\n[ABCDEFGHIJKLMNOP] #P = 1");
+    whole(b"1\n1 1 1 1 1 1 1 1 1 1 1 1 1 1 1 1 1\n[ABCDEFGHIJKLMNOP] #P = 1");
+}
+
+// 16,384 cells, and one more.
+fn cells() {
+    whole(b"25\n0\n[S] @x(@y@z x<z & x:S & x:S & x:S) & #S<1 & #S<1 & #S<1 & #S<1 & #S<1 & #S<1");
+    whole(
+        b"25\n0\n[S] @x(@y@z x<z & x:S & x:S & x:S) & #S<1 & #S<1 & #S<1 & #S<1 & #S<1 & #S<1 & #S<1",
+    );
+}
+
+pub fn all() {
+    cut(b"3\n3 7 1\n[STI] @x (x:I <-> x:S & x:T) & #I <= 1");
+    lines();
+    ports();
+    masks();
+    cells();
+}
