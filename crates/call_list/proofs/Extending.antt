@@ -9,7 +9,7 @@ use native.Mathlib.Omega.{arith}
 use lib.ListN.{length, take, drop, length-append, length-drop}
 use lib.Seq.{take-all, length-take-le, drop-drop}
 use Rattle.logic.proofs.Lent.{lent, back, lent-is, back-is}
-use Rattle.contracts.specs.Lists.{Call, Answer, moveAnswered, trialAnswered, improveAnswered, State, Step, Run, ended, called}
+use Rattle.contracts.specs.Lists.{Exchange, moveCall, trialCall, improveCall, State, Step, Run, ended, called}
 use Rattle.table_format.specs.Decode.{decode}
 use Rattle.call_list.specs.Scratch.{ScratchRun, kept}
 use Rattle.call_list.proofs.Scratch.{scratch-snoc, scratch-length}
@@ -18,45 +18,40 @@ use Rattle.call_list.specs.Working.{Worked, Stopped, atEnd, notWhole, un
 use Rattle.call_list.specs.inner.Steps.{OneWorked, NoneWorked, OneAfter, NextFits}
 
 -- a run and a step after it
-run-snoc : (bytes : List ℕ) (s s′ s″ : State) (calls : List Call) (answers : List Answer) (call : Call) (answer : Answer)
-    → Run bytes s calls answers s′ → Step bytes s′ call answer s″ → Run bytes s (calls ++ call ∷ []) (answers ++ answer ∷ []) s″
-run-snoc bytes s s′ s″ calls answers call answer ended x = called x ended
-run-snoc bytes s s′ s″ calls answers call answer (called {s′ = t} {calls = rest} {answers = others} y r) x =
-    called y (run-snoc bytes t s′ s″ rest others call answer r x)
-
-run-lengths : (bytes : List ℕ) (s s′ : State) (calls : List Call) (answers : List Answer) → Run bytes s calls answers s′ → length answers ≡ length calls
-run-lengths bytes s s′ calls answers ended = refl
-run-lengths bytes s s′ calls answers (called {s′ = t} {calls = rest} {answers = others} y r) = ap suc (run-lengths bytes t s′ rest others r)
+run-snoc : (bytes : List ℕ) (s s′ s″ : State) (xs : List Exchange) (x : Exchange)
+    → Run bytes s xs s′ → Step bytes s′ x s″ → Run bytes s (xs ++ x ∷ []) s″
+run-snoc bytes s s′ s″ xs x ended y = called y ended
+run-snoc bytes s s′ s″ xs x (called {s′ = t} {xs = rest} z r) y = called z (run-snoc bytes t s′ s″ rest x r y)
 
 -- a call said behind others
-say-snoc : (n : ℕ) (xs : List ℕ) (calls : List Call) (call : Call) → SayAll n xs calls → Says n (drop (7 * length calls) xs) call
-    → SayAll n xs (calls ++ call ∷ [])
+say-snoc : (n : ℕ) (numbers : List ℕ) (xs : List Exchange) (x : Exchange) → SayAll n numbers xs → Says n (drop (7 * length xs) numbers) x
+    → SayAll n numbers (xs ++ x ∷ [])
 unfolding SayAll
-say-snoc n xs [] call h k = (k, tt)
-say-snoc n xs (first ∷ calls) call h k =
-    let more : 7 * suc (length calls) ≡ 7 + 7 * length calls = omega arith in
-    let e : drop (7 * suc (length calls)) xs ≡ drop (7 * length calls) (drop 7 xs) =
-    ap (λ (j : ℕ). drop j xs) more ∙ sym (drop-drop (7 * length calls) 7 xs) in
-    (h .0, say-snoc n (drop 7 xs) calls call (h .1) (subst (λ (ys : List ℕ). Says n ys call) e k))
+say-snoc n numbers [] x h k = (k, tt)
+say-snoc n numbers (first ∷ xs) x h k =
+    let more : 7 * suc (length xs) ≡ 7 + 7 * length xs = omega arith in
+    let e : drop (7 * suc (length xs)) numbers ≡ drop (7 * length xs) (drop 7 numbers) =
+    ap (λ (j : ℕ). drop j numbers) more ∙ sym (drop-drop (7 * length xs) 7 numbers) in
+    (h .0, say-snoc n (drop 7 numbers) xs x (h .1) (subst (λ (ys : List ℕ). Says n ys x) e k))
 
-length-numbers : (answer : Answer) → length (answerNumbers answer) ≡ 10
+length-numbers : (x : Exchange) → length (answerNumbers x) ≡ 10
 unfolding answerNumbers movedNumbers improvedNumbers tenNumbers
-length-numbers (moveAnswered r) = refl
-length-numbers (trialAnswered r) = refl
-length-numbers (improveAnswered r) = refl
+length-numbers (moveCall m r) = refl
+length-numbers (trialCall m scratch r) = refl
+length-numbers (improveCall kinds scratch r) = refl
 
-length-all : (answers : List Answer) → length (allNumbers answers) ≡ 10 * length answers
+length-all : (xs : List Exchange) → length (allNumbers xs) ≡ 10 * length xs
 unfolding allNumbers
 length-all [] = refl
-length-all (answer ∷ answers) =
-    length-append (answerNumbers answer) (allNumbers answers) ∙ ap₂ _+_ (length-numbers answer) (length-all answers) ∙ omega arith
+length-all (x ∷ xs) =
+    length-append (answerNumbers x) (allNumbers xs) ∙ ap₂ _+_ (length-numbers x) (length-all xs) ∙ omega arith
 
-all-snoc : (answers : List Answer) (answer : Answer) → allNumbers (answers ++ answer ∷ []) ≡ allNumbers answers ++ answerNumbers answer
+all-snoc : (xs : List Exchange) (x : Exchange) → allNumbers (xs ++ x ∷ []) ≡ allNumbers xs ++ answerNumbers x
 unfolding allNumbers
-all-snoc [] answer = append-nil (answerNumbers answer)
-all-snoc (first ∷ answers) answer =
-    ap (λ (xs : List ℕ). answerNumbers first ++ xs) (all-snoc answers answer)
-    ∙ sym (append-assoc (answerNumbers first) (allNumbers answers) (answerNumbers answer))
+all-snoc [] x = append-nil (answerNumbers x)
+all-snoc (first ∷ xs) x =
+    ap (λ (ys : List ℕ). answerNumbers first ++ ys) (all-snoc xs x)
+    ∙ sym (append-assoc (answerNumbers first) (allNumbers xs) (answerNumbers x))
 
 -- a part lent up to the end
 lent-all : (at : ℕ) (xs : List ℕ) → lent at xs ≡ drop at xs
@@ -67,8 +62,7 @@ pub none-yet : (bytes calls masks cells scratch answers : List ℕ)
     → Worked bytes calls masks cells scratch answers 0 masks cells scratch answers
 unfolding SayAll allNumbers
 none-yet bytes calls masks cells scratch answers = record {
-  said = [];
-  answered = [];
+  exchanges = [];
   whole = omega arith;
   room = omega arith;
   worked = refl;
@@ -80,26 +74,26 @@ none-yet bytes calls masks cells scratch answers = record {
 
 module _ (bytes calls masks cells scratch answers : List ℕ) (count : ℕ) (masks′ cells′ scratch′ answers′ : List ℕ)
     (w : Worked bytes calls masks cells scratch answers count masks′ cells′ scratch′ answers′) where
-  told-length : length (allNumbers (w .answered)) ≡ 10 * count
+  told-length : length (allNumbers (w .exchanges)) ≡ 10 * count
   told-length =
-      length-all (w .answered) ∙ ap (λ (j : ℕ). 10 * j) (run-lengths bytes _ _ (w .said) (w .answered) (w .run) ∙ w .worked)
+      length-all (w .exchanges) ∙ ap (λ (j : ℕ). 10 * j) (w .worked)
 
   pub answers-length : length answers′ ≡ length answers
   answers-length =
-      ap length (w .answers-are) ∙ length-append (allNumbers (w .answered)) (drop (10 * count) answers)
+      ap length (w .answers-are) ∙ length-append (allNumbers (w .exchanges)) (drop (10 * count) answers)
       ∙ omega (arith, told-length, length-drop (10 * count) answers, w .room)
 
   pub as-long : length scratch′ ≡ length scratch
-  as-long = scratch-length (decode bytes) scratch scratch′ (w .said) (w .answered) (w .scratch-run)
+  as-long = scratch-length (decode bytes) scratch scratch′ (w .exchanges) (w .scratch-run)
 
   -- the part of the answers that is lent, and the answers when it is given back
   part-is : lent (10 * count) answers′ ≡ drop (10 * count) answers
-  part-is = ap (lent (10 * count)) (w .answers-are) ∙ lent-is (10 * count) (allNumbers (w .answered)) (drop (10 * count) answers) told-length
+  part-is = ap (lent (10 * count)) (w .answers-are) ∙ lent-is (10 * count) (allNumbers (w .exchanges)) (drop (10 * count) answers) told-length
 
-  given-back : (ys : List ℕ) → back (10 * count) answers′ ys ≡ allNumbers (w .answered) ++ ys
+  given-back : (ys : List ℕ) → back (10 * count) answers′ ys ≡ allNumbers (w .exchanges) ++ ys
   given-back ys =
       ap (λ (xs : List ℕ). back (10 * count) xs ys) (w .answers-are)
-      ∙ back-is (10 * count) (allNumbers (w .answered)) (drop (10 * count) answers) ys told-length
+      ∙ back-is (10 * count) (allNumbers (w .exchanges)) (drop (10 * count) answers) ys told-length
 
   module _ (masks″ cells″ scratch″ part : List ℕ) where
     pub one-more : OneWorked bytes (lent (7 * count) calls) masks′ cells′ scratch′ (lent (10 * count) answers′) masks″ cells″ scratch″ part
@@ -108,42 +102,40 @@ module _ (bytes calls masks cells scratch answers : List ℕ) (count : ℕ) (mas
     one-more o whole room =
         let next : 10 * count + 10 ≡ 10 * (count + 1) = omega arith in
         record {
-          said = w .said ++ o .said ∷ [];
-          answered = w .answered ++ o .answered ∷ [];
+          exchanges = w .exchanges ++ o .exchange ∷ [];
           whole = omega arith;
           room = omega arith;
-          worked = length-append (w .said) (o .said ∷ []) ∙ ap (λ (j : ℕ). j + 1) (w .worked);
-          says = say-snoc (length scratch) calls (w .said) (o .said) (w .says)
-              (subst (λ (ys : List ℕ). Says (length scratch) ys (o .said))
+          worked = length-append (w .exchanges) (o .exchange ∷ []) ∙ ap (λ (j : ℕ). j + 1) (w .worked);
+          says = say-snoc (length scratch) calls (w .exchanges) (o .exchange) (w .says)
+              (subst (λ (ys : List ℕ). Says (length scratch) ys (o .exchange))
               (lent-all (7 * count) calls ∙ ap (λ (j : ℕ). drop (7 * j) calls) (sym (w .worked)))
-              (subst (λ (n : ℕ). Says n (lent (7 * count) calls) (o .said)) as-long (o .says)));
-          run = run-snoc bytes _ _ _ (w .said) (w .answered) (o .said) (o .answered) (w .run) (o .step);
+              (subst (λ (n : ℕ). Says n (lent (7 * count) calls) (o .exchange)) as-long (o .says)));
+          run = run-snoc bytes _ _ _ (w .exchanges) (o .exchange) (w .run) (o .step);
           scratch-run =
-              scratch-snoc (decode bytes) scratch scratch′ scratch″ (w .said) (w .answered) (o .said) (o .answered) (w .scratch-run) (o .scratch-step);
+              scratch-snoc (decode bytes) scratch scratch′ scratch″ (w .exchanges) (o .exchange) (w .scratch-run) (o .scratch-step);
           answers-are =
               given-back part
-              ∙ ap (λ (ys : List ℕ). allNumbers (w .answered) ++ ys)
-              (o .answer-is ∙ ap (λ (ys : List ℕ). answerNumbers (o .answered) ++ drop 10 ys) part-is
-              ∙ ap (λ (ys : List ℕ). answerNumbers (o .answered) ++ ys) (drop-drop 10 (10 * count) answers ∙ ap (λ (j : ℕ). drop j answers) next))
-              ∙ sym (append-assoc (allNumbers (w .answered)) (answerNumbers (o .answered)) (drop (10 * (count + 1)) answers))
-              ∙ ap (λ (ys : List ℕ). ys ++ drop (10 * (count + 1)) answers) (sym (all-snoc (w .answered) (o .answered)));
+              ∙ ap (λ (ys : List ℕ). allNumbers (w .exchanges) ++ ys)
+              (o .answer-is ∙ ap (λ (ys : List ℕ). answerNumbers (o .exchange) ++ drop 10 ys) part-is
+              ∙ ap (λ (ys : List ℕ). answerNumbers (o .exchange) ++ ys) (drop-drop 10 (10 * count) answers ∙ ap (λ (j : ℕ). drop j answers) next))
+              ∙ sym (append-assoc (allNumbers (w .exchanges)) (answerNumbers (o .exchange)) (drop (10 * (count + 1)) answers))
+              ∙ ap (λ (ys : List ℕ). ys ++ drop (10 * (count + 1)) answers) (sym (all-snoc (w .exchanges) (o .exchange)));
         }
 
     module _ (o : NoneWorked (lent (7 * count) calls) masks′ cells′ scratch′ (lent (10 * count) answers′) masks″ cells″ scratch″ part) where
       pub none-more : Worked bytes calls masks cells scratch answers count masks″ cells″ scratch″ (back (10 * count) answers′ part)
       none-more = record {
-        said = w .said;
-        answered = w .answered;
+        exchanges = w .exchanges;
         whole = w .whole;
         room = w .room;
         worked = w .worked;
         says = w .says;
-        run = subst (λ (x : List ℕ). Run bytes record { masks = masks; cells = cells } (w .said) (w .answered) record { masks = masks″; cells = x })
+        run = subst (λ (x : List ℕ). Run bytes record { masks = masks; cells = cells } (w .exchanges) record { masks = masks″; cells = x })
             (sym (o .cells-kept))
-            (subst (λ (x : List ℕ). Run bytes record { masks = masks; cells = cells } (w .said) (w .answered) record { masks = x; cells = cells′ })
+            (subst (λ (x : List ℕ). Run bytes record { masks = masks; cells = cells } (w .exchanges) record { masks = x; cells = cells′ })
             (sym (o .masks-kept)) (w .run));
-        scratch-run = subst (ScratchRun (decode bytes) scratch (w .said) (w .answered)) (sym (o .scratch-kept)) (w .scratch-run);
-        answers-are = given-back part ∙ ap (λ (ys : List ℕ). allNumbers (w .answered) ++ ys) (o .answer-kept ∙ part-is);
+        scratch-run = subst (ScratchRun (decode bytes) scratch (w .exchanges)) (sym (o .scratch-kept)) (w .scratch-run);
+        answers-are = given-back part ∙ ap (λ (ys : List ℕ). allNumbers (w .exchanges) ++ ys) (o .answer-kept ∙ part-is);
       }
 
       pub stopped-there : 7 * count + 7 ≤ length calls → 10 * count + 10 ≤ length answers → Stopped calls (length answers) count

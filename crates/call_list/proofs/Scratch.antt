@@ -8,19 +8,18 @@ use lib.Seq.{take-append-seam, drop-append-seam, take-at, drop-at}
 use Rattle.logic.specs.declared.Move.{Move}
 use Rattle.table_format.specs.Decode.{Decoded}
 use Rattle.contracts.specs.TrialCall.{scratchOwn, ScratchAfter}
-use Rattle.contracts.specs.Lists.{Call, moveCall, Answer, moveAnswered}
+use Rattle.contracts.specs.Lists.{Exchange, moveCall}
 use Rattle.contracts.specs.declared.Moved.{Moved}
 use Rattle.call_list.specs.Scratch.{lentTo, answerNumber, ScratchOne, ScratchRun, kept, passed}
 
 -- a call more at the end
-pub scratch-snoc : (d : Decoded) (s s′ s″ : List ℕ) (calls : List Call) (answers : List Answer) (call : Call) (answer : Answer)
-    → ScratchRun d s calls answers s′ → ScratchOne d call answer s′ s″ → ScratchRun d s (calls ++ call ∷ []) (answers ++ answer ∷ []) s″
-scratch-snoc d s s′ s″ calls answers call answer kept x = passed x kept
-scratch-snoc d s s′ s″ calls answers call answer (passed {s′ = t} {calls = rest} {answers = others} y r) x =
-    passed y (scratch-snoc d t s′ s″ rest others call answer r x)
+pub scratch-snoc : (d : Decoded) (s s′ s″ : List ℕ) (xs : List Exchange) (x : Exchange)
+    → ScratchRun d s xs s′ → ScratchOne d x s′ s″ → ScratchRun d s (xs ++ x ∷ []) s″
+scratch-snoc d s s′ s″ xs x kept o = passed o kept
+scratch-snoc d s s′ s″ xs x (passed {s′ = t} {xs = rest} y r) o = passed y (scratch-snoc d t s′ s″ rest x r o)
 
 -- a move is lent none and writes none
-pub none-lent : (d : Decoded) (m : Move) (r : Moved) (s : List ℕ) → ScratchOne d (moveCall m) (moveAnswered r) s s
+pub none-lent : (d : Decoded) (m : Move) (r : Moved) (s : List ℕ) → ScratchOne d (moveCall m r) s s
 unfolding lentTo
 none-lent d m r s = record {
   front = refl;
@@ -29,23 +28,23 @@ none-lent d m r s = record {
 }
 
 -- a call that is lent the first l cells, and gives them back
-module _ (d : Decoded) (s part : List ℕ) (l : ℕ) (call : Call) (answer : Answer) (e : lentTo call ≡ take l s)
-    (h : ScratchAfter d (answerNumber answer) (take l s) part) where
+module _ (d : Decoded) (s part : List ℕ) (l : ℕ) (x : Exchange) (e : lentTo x ≡ take l s)
+    (h : ScratchAfter d (answerNumber x) (take l s) part) where
   whole : take l s ++ drop l s ≡ s
   whole = take-append-drop l s
 
-  same : length part ≡ length (lentTo call)
+  same : length part ≡ length (lentTo x)
   same = h .same-length ∙ ap length (sym e)
 
-  pub front-lent : ScratchOne d call answer s (part ++ drop l s)
+  pub front-lent : ScratchOne d x s (part ++ drop l s)
   front-lent = record {
     front =
         ap₂ take (ap length e) (sym whole) ∙ take-append-seam (take l s) (drop l s) ∙ sym e;
     written =
-        subst (λ (x : List ℕ). ScratchAfter d (answerNumber answer) (lentTo call) x) (sym (take-at part (drop l s) (length (lentTo call)) same))
-        (subst (λ (x : List ℕ). ScratchAfter d (answerNumber answer) x part) (sym e) h);
+        subst (λ (ys : List ℕ). ScratchAfter d (answerNumber x) (lentTo x) ys) (sym (take-at part (drop l s) (length (lentTo x)) same))
+        (subst (λ (ys : List ℕ). ScratchAfter d (answerNumber x) ys part) (sym e) h);
     behind =
-        drop-at part (drop l s) (length (lentTo call)) same
+        drop-at part (drop l s) (length (lentTo x)) same
         ∙ sym (ap₂ drop (ap length e) (sym whole) ∙ drop-append-seam (take l s) (drop l s));
   }
 
@@ -57,11 +56,11 @@ same-drop (suc j) [] (y ∷ b) c l e = absurd (omega (arith, l))
 same-drop (suc j) (x ∷ a) [] c l e = absurd (omega (arith, l))
 same-drop (suc j) (x ∷ a) (y ∷ b) c l e = same-drop j a b c (omega (arith, l)) e
 
-module _ (d : Decoded) (call : Call) (answer : Answer) (s s′ : List ℕ) (o : ScratchOne d call answer s s′) where
+module _ (d : Decoded) (x : Exchange) (s s′ : List ℕ) (o : ScratchOne d x s s′) where
   abbrev k : ℕ
-  k = length (lentTo call)
+  k = length (lentTo x)
 
-  before-is : s ≡ lentTo call ++ drop k s
+  before-is : s ≡ lentTo x ++ drop k s
   before-is = sym (take-append-drop k s) ∙ ap (λ (x : List ℕ). x ++ drop k s) (o .front)
 
   after-is : s′ ≡ take k s′ ++ drop k s
@@ -70,23 +69,23 @@ module _ (d : Decoded) (call : Call) (answer : Answer) (s s′ : List ℕ) (o : 
   one-length : length s′ ≡ length s
   one-length =
       ap length after-is ∙ length-append (take k s′) (drop k s) ∙ ap (λ (n : ℕ). n + length (drop k s)) (o .written .same-length)
-      ∙ sym (ap length before-is ∙ length-append (lentTo call) (drop k s))
+      ∙ sym (ap length before-is ∙ length-append (lentTo x) (drop k s))
 
   one-past : drop (scratchOwn d) s′ ≡ drop (scratchOwn d) s
   one-past =
       ap (drop (scratchOwn d)) after-is
-      ∙ same-drop (scratchOwn d) (take k s′) (lentTo call) (drop k s) (o .written .same-length) (o .written .past)
+      ∙ same-drop (scratchOwn d) (take k s′) (lentTo x) (drop k s) (o .written .same-length) (o .written .past)
       ∙ sym (ap (drop (scratchOwn d)) before-is)
 
 -- a list leaves scratch as long as it was, and as it was past the plan's own cells
-pub scratch-length : (d : Decoded) (s s′ : List ℕ) (calls : List Call) (answers : List Answer) → ScratchRun d s calls answers s′
+pub scratch-length : (d : Decoded) (s s′ : List ℕ) (xs : List Exchange) → ScratchRun d s xs s′
     → length s′ ≡ length s
-scratch-length d s s′ calls answers kept = refl
-scratch-length d s s′ calls answers (passed {s′ = t} {call = call} {answer = answer} {calls = rest} {answers = others} o r) =
-    scratch-length d t s′ rest others r ∙ one-length d call answer s t o
+scratch-length d s s′ xs kept = refl
+scratch-length d s s′ xs (passed {s′ = t} {x = x} {xs = rest} o r) =
+    scratch-length d t s′ rest r ∙ one-length d x s t o
 
-pub scratch-past : (d : Decoded) (s s′ : List ℕ) (calls : List Call) (answers : List Answer) → ScratchRun d s calls answers s′
+pub scratch-past : (d : Decoded) (s s′ : List ℕ) (xs : List Exchange) → ScratchRun d s xs s′
     → drop (scratchOwn d) s′ ≡ drop (scratchOwn d) s
-scratch-past d s s′ calls answers kept = refl
-scratch-past d s s′ calls answers (passed {s′ = t} {call = call} {answer = answer} {calls = rest} {answers = others} o r) =
-    scratch-past d t s′ rest others r ∙ one-past d call answer s t o
+scratch-past d s s′ xs kept = refl
+scratch-past d s s′ xs (passed {s′ = t} {x = x} {xs = rest} o r) =
+    scratch-past d t s′ rest r ∙ one-past d x s t o

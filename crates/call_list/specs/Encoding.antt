@@ -9,7 +9,7 @@ use Rattle.contracts.specs.declared.Moved.{Moved}
 use Rattle.contracts.specs.declared.Improved.{Improved}
 use Rattle.contracts.specs.MoveCall.{movedNumber, movedBefore, movedAfter, movedChanged}
 use Rattle.contracts.specs.ImproveCall.{noMove, improvedNumber, improvedFound, improvedMove, improvedBefore, improvedAfter, improvedChanged}
-use Rattle.contracts.specs.Lists.{Call, moveCall, trialCall, improveCall, Answer, moveAnswered, trialAnswered, improveAnswered}
+use Rattle.contracts.specs.Lists.{Exchange, moveCall, trialCall, improveCall}
 
 -- "a tag, five fields, and how much of the lent scratch this call gets"
 unfoldable pub tag : List ℕ → ℕ
@@ -27,12 +27,12 @@ kindsOf call = getD call 1 0
 unfoldable pub cellsLent : List ℕ → ℕ → ℕ
 cellsLent call scratch-length = min (getD call 6 0) scratch-length
 
--- What seven numbers say: 1 a move, 2 a trial, 3 improve. "Scratch may be another table at every call, hold anything or be too
+-- The call that seven numbers say, whatever it answers: 1 a move, 2 a trial, 3 improve. "Scratch may be another table at every call, hold anything or be too
 -- short": only its length is said, and a move is lent none.
-unfoldable pub Says : ℕ → List ℕ → Call → Type 0
-Says scratch-length call (moveCall m) = (tag call ≡ 1) × (m ≡ moveOf call)
-Says scratch-length call (trialCall m scratch) = (tag call ≡ 2) × (m ≡ moveOf call) × (length scratch ≡ cellsLent call scratch-length)
-Says scratch-length call (improveCall kinds scratch) = (tag call ≡ 3) × (kinds ≡ kindsOf call) × (length scratch ≡ cellsLent call scratch-length)
+unfoldable pub Says : ℕ → List ℕ → Exchange → Type 0
+Says scratch-length call (moveCall m r) = (tag call ≡ 1) × (m ≡ moveOf call)
+Says scratch-length call (trialCall m scratch r) = (tag call ≡ 2) × (m ≡ moveOf call) × (length scratch ≡ cellsLent call scratch-length)
+Says scratch-length call (improveCall kinds scratch r) = (tag call ≡ 3) × (kinds ≡ kindsOf call) × (length scratch ≡ cellsLent call scratch-length)
 
 -- A tag that says none of the three.
 pub record Unknown (call : List ℕ) : Type 0 where
@@ -41,9 +41,9 @@ pub record Unknown (call : List ℕ) : Type 0 where
   pub no-improve : tag call ≢ 3
 
 -- Call after call, seven numbers each.
-unfoldable pub SayAll : ℕ → List ℕ → List Call → Type 0
+unfoldable pub SayAll : ℕ → List ℕ → List Exchange → Type 0
 SayAll scratch-length numbers [] = Unit {0}
-SayAll scratch-length numbers (call ∷ calls) = Says scratch-length numbers call × SayAll scratch-length (drop 7 numbers) calls
+SayAll scratch-length numbers (x ∷ xs) = Says scratch-length numbers x × SayAll scratch-length (drop 7 numbers) xs
 
 -- The ten numbers of an answer: number, found, the move's kind, s, t, p, q, before, after, changed.
 unfoldable pub tenNumbers : ℕ → ℕ → Move → ℕ → ℕ → ℕ → List ℕ
@@ -57,12 +57,12 @@ movedNumbers r = tenNumbers (movedNumber r) 0 noMove (movedBefore r) (movedAfter
 unfoldable pub improvedNumbers : Improved → List ℕ
 improvedNumbers r = tenNumbers (improvedNumber r) (improvedFound r) (improvedMove r) (improvedBefore r) (improvedAfter r) (improvedChanged r)
 
-unfoldable pub answerNumbers : Answer → List ℕ
-answerNumbers (moveAnswered r) = movedNumbers r
-answerNumbers (trialAnswered r) = movedNumbers r
-answerNumbers (improveAnswered r) = improvedNumbers r
+unfoldable pub answerNumbers : Exchange → List ℕ
+answerNumbers (moveCall m r) = movedNumbers r
+answerNumbers (trialCall m scratch r) = movedNumbers r
+answerNumbers (improveCall kinds scratch r) = improvedNumbers r
 
 -- Answer after answer, ten numbers each.
-unfoldable pub allNumbers : List Answer → List ℕ
+unfoldable pub allNumbers : List Exchange → List ℕ
 allNumbers [] = []
-allNumbers (answer ∷ answers) = answerNumbers answer ++ allNumbers answers
+allNumbers (x ∷ xs) = answerNumbers x ++ allNumbers xs

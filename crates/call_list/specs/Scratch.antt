@@ -7,30 +7,29 @@ use Rattle.table_format.specs.Decode.{Decoded}
 use Rattle.contracts.specs.MoveCall.{movedNumber}
 use Rattle.contracts.specs.TrialCall.{ScratchAfter}
 use Rattle.contracts.specs.ImproveCall.{improvedNumber}
-use Rattle.contracts.specs.Lists.{Call, moveCall, trialCall, improveCall, Answer, moveAnswered, trialAnswered, improveAnswered}
+use Rattle.contracts.specs.Lists.{Exchange, moveCall, trialCall, improveCall}
 
 -- What a call is lent of scratch: a move none of it.
-unfoldable pub lentTo : Call → List ℕ
-lentTo (moveCall m) = []
-lentTo (trialCall m scratch) = scratch
-lentTo (improveCall kinds scratch) = scratch
+unfoldable pub lentTo : Exchange → List ℕ
+lentTo (moveCall m r) = []
+lentTo (trialCall m scratch r) = scratch
+lentTo (improveCall kinds scratch r) = scratch
 
 -- The paper's number of an answer.
-unfoldable pub answerNumber : Answer → ℕ
-answerNumber (moveAnswered r) = movedNumber r
-answerNumber (trialAnswered r) = movedNumber r
-answerNumber (improveAnswered r) = improvedNumber r
+unfoldable pub answerNumber : Exchange → ℕ
+answerNumber (moveCall m r) = movedNumber r
+answerNumber (trialCall m scratch r) = movedNumber r
+answerNumber (improveCall kinds scratch r) = improvedNumber r
 
 -- "Trial returns the same three numbers and writes only a scratch table of at least as many cells" (paper 01, section One move);
 -- improve likewise. One call: it is lent the front of scratch as the last call left it, writes of that what `ScratchAfter` allows,
 -- and nothing behind it.
-pub record ScratchOne (d : Decoded) (call : Call) (answer : Answer) (before after : List ℕ) : Type 0 where
-  pub front : take (length (lentTo call)) before ≡ lentTo call
-  pub written : ScratchAfter d (answerNumber answer) (lentTo call) (take (length (lentTo call)) after)
-  pub behind : drop (length (lentTo call)) after ≡ drop (length (lentTo call)) before
+pub record ScratchOne (d : Decoded) (x : Exchange) (before after : List ℕ) : Type 0 where
+  pub front : take (length (lentTo x)) before ≡ lentTo x
+  pub written : ScratchAfter d (answerNumber x) (lentTo x) (take (length (lentTo x)) after)
+  pub behind : drop (length (lentTo x)) after ≡ drop (length (lentTo x)) before
 
 -- Call after call.
-pub data ScratchRun (d : Decoded) : List ℕ → List Call → List Answer → List ℕ → Type 0 where
-  kept : {s : List ℕ} → ScratchRun d s [] [] s
-  passed : {s s′ s″ : List ℕ} {call : Call} {answer : Answer} {calls : List Call} {answers : List Answer}
-      → ScratchOne d call answer s s′ → ScratchRun d s′ calls answers s″ → ScratchRun d s (call ∷ calls) (answer ∷ answers) s″
+pub data ScratchRun (d : Decoded) : List ℕ → List Exchange → List ℕ → Type 0 where
+  kept : {s : List ℕ} → ScratchRun d s [] s
+  passed : {s s′ s″ : List ℕ} {x : Exchange} {xs : List Exchange} → ScratchOne d x s s′ → ScratchRun d s′ xs s″ → ScratchRun d s (x ∷ xs) s″

@@ -19,7 +19,7 @@ use Rattle.contracts.specs.declared.Loaded.the-variants.{Accepted, Refus
 use Rattle.contracts.specs.Load.{loadNumber, loadGrounds, loadOr, loadPlan, loads}
 use Rattle.contracts.proofs.LoadAnswers.{load-cells}
 use Rattle.contracts.specs.Book.{bookStep}
-use Rattle.contracts.specs.Lists.{Call, Answer, State, Run, ended, called, feed, bookAfter, bookCells, AllRight}
+use Rattle.contracts.specs.Lists.{Exchange, State, Run, ended, called, feed, bookAfter, bookCells, AllRight}
 use Rattle.contracts.proofs.Steps.{either-ground, Holds, own-holds, step-right}
 
 -- an accepted load's answer is no refusal
@@ -73,11 +73,11 @@ module _ (P : Plan) (masks before cells : List ℕ) (root total : ℕ) (h : load
 
 -- A list of calls from any tables that hold what they must.
 pub run-right : (bytes : List ℕ) (P : Plan) → decode bytes ≡ sound P → (k : Sets) (tail-masks tail-cells : List ℕ)
-    → (s : State) (calls : List Call) (answers : List Answer) (s″ : State) → Holds P k tail-masks tail-cells s → Run bytes s calls answers s″
-    → AllRight P k calls answers × Holds P (bookAfter P k calls answers) tail-masks tail-cells s″
+    → (s : State) (xs : List Exchange) (s″ : State) → Holds P k tail-masks tail-cells s → Run bytes s xs s″
+    → AllRight P k xs × Holds P (bookAfter P k xs) tail-masks tail-cells s″
 unfolding AllRight bookAfter
-run-right bytes P d k tm tc s calls answers s″ h ended = (tt, h)
-run-right bytes P d k tm tc s calls answers s″ h (called {s′ = s′} {call = call} {answer = answer} {calls = rest} {answers = others} x r) =
-    let q = step-right bytes P d k tm tc s s′ h call answer x in
-    let w = run-right bytes P d (bookStep P k (feed call answer)) tm tc s′ rest others s″ (q .1) r in
+run-right bytes P d k tm tc s xs s″ h ended = (tt, h)
+run-right bytes P d k tm tc s xs s″ h (called {s′ = s′} {x = x} {xs = rest} y r) =
+    let q = step-right bytes P d k tm tc s s′ h x y in
+    let w = run-right bytes P d (bookStep P k (feed x)) tm tc s′ rest s″ (q .1) r in
     ((q .0, w .0), w .1)

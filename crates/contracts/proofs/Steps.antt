@@ -27,7 +27,7 @@ use Rattle.contracts.specs.MoveCall.{tableGrounds, moveCallGrounds, cell
 use Rattle.contracts.specs.TrialCall.{trialOr, trialPlan, trials}
 use Rattle.contracts.specs.ImproveCall.{improveGrounds, rootNow, rootAfter, MadeBest, NoneBetter, Chosen, ImprovesOr, ImprovesPlan, Improves}
 use Rattle.contracts.specs.Book.{fedMove, chosenStep, bookStep}
-use Rattle.contracts.specs.Lists.{Call, moveCall, trialCall, improveCall, Answer, moveAnswered, trialAnswered, improveAnswered, State, Step, feed, bookRoot, bookCells, bookMade, NumbersRight, MovedRight, scratchGround, BestMade, NoneLowers, ImprovedRight, Right, Kept}
+use Rattle.contracts.specs.Lists.{Exchange, moveCall, trialCall, improveCall, State, Step, feed, bookRoot, bookCells, bookMade, NumbersRight, MovedRight, scratchGround, BestMade, NoneLowers, ImprovedRight, Right, Kept}
 use Rattle.contracts.proofs.Within.{move-within, move-length}
 use Rattle.logic.proofs.Changed as changed
 use Rattle.contracts.specs.declared.Improved.the-variants as improved
@@ -309,27 +309,20 @@ module _ (P : Plan) (facts : PlanFacts P) (k : Sets) (tail-masks tail-cells : Li
       let e : s ≡ s′ = λ i. record { masks = sym a i; cells = sym b i } in
       subst (Holds P k tail-masks tail-cells) e h
 
-  -- a call of each kind with an answer of each kind
-  step-at : (bytes : List ℕ) → decode bytes ≡ sound P → (call : Call) (answer : Answer) → Step bytes s call answer s′
-      → Right P k call answer × Holds P (bookStep P k (feed call answer)) tail-masks tail-cells s′
+  -- a call of each kind
+  step-at : (bytes : List ℕ) → decode bytes ≡ sound P → (x : Exchange) → Step bytes s x s′
+      → Right P k x × Holds P (bookStep P k (feed x)) tail-masks tail-cells s′
   unfolding Step Right feed bookStep
-  step-at bytes d (moveCall m) (moveAnswered r) e =
-      move-step m r (e ∙ ap (λ (x : Decoded). moves x m (s .masks) (s .cells)) d)
-  step-at bytes d (moveCall m) (trialAnswered r) e = absurd e
-  step-at bytes d (moveCall m) (improveAnswered r) e = absurd e
-  step-at bytes d (trialCall m scratch) (moveAnswered r) e = absurd e
-  step-at bytes d (trialCall m scratch) (trialAnswered r) e =
-      (trial-step m scratch r (e .0 ∙ ap (λ (x : Decoded). trials x m (s .masks) (s .cells) (length scratch)) d), same-holds (e .1) (e .2))
-  step-at bytes d (trialCall m scratch) (improveAnswered r) e = absurd e
-  step-at bytes d (improveCall kinds scratch) (moveAnswered r) e = absurd e
-  step-at bytes d (improveCall kinds scratch) (trialAnswered r) e = absurd e
-  step-at bytes d (improveCall kinds scratch) (improveAnswered r) e =
+  step-at bytes d (moveCall m r) e = move-step m r (e ∙ ap (λ (y : Decoded). moves y m (s .masks) (s .cells)) d)
+  step-at bytes d (trialCall m scratch r) e =
+      (trial-step m scratch r (e .0 ∙ ap (λ (y : Decoded). trials y m (s .masks) (s .cells) (length scratch)) d), same-holds (e .1) (e .2))
+  step-at bytes d (improveCall kinds scratch r) e =
       improve-step kinds scratch r
-      (subst (λ (x : Decoded). Improves x kinds (s .masks) (s .cells) (length scratch) r (s′ .masks) (s′ .cells)) d e)
+      (subst (λ (y : Decoded). Improves y kinds (s .masks) (s .cells) (length scratch) r (s′ .masks) (s′ .cells)) d e)
 
 -- One call: its answer is right under the book's sets before it, and afterwards masks and cells are those of the book's next sets.
 pub step-right : (bytes : List ℕ) (P : Plan) → decode bytes ≡ sound P → (k : Sets) (tail-masks tail-cells : List ℕ) (s s′ : State)
-    → Holds P k tail-masks tail-cells s → (call : Call) (answer : Answer) → Step bytes s call answer s′
-    → Right P k call answer × Holds P (bookStep P k (feed call answer)) tail-masks tail-cells s′
+    → Holds P k tail-masks tail-cells s → (x : Exchange) → Step bytes s x s′
+    → Right P k x × Holds P (bookStep P k (feed x)) tail-masks tail-cells s′
 step-right bytes P d k tail-masks tail-cells s s′ h =
     step-at P (plan-facts P (decode-sound bytes P d .rules)) k tail-masks tail-cells s s′ h bytes d

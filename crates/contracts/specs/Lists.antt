@@ -21,17 +21,12 @@ use Rattle.contracts.specs.Book.{Fed, fedMove, fedTrial, fedImprove, boo
 use Rattle.contracts.specs.declared.Improved.the-variants as improved
 use Rattle.contracts.specs.declared.Moved.the-variants as moved
 
--- One call of a list: its kind, its arguments and the scratch that it is lent. "Scratch may be another table at every call, hold
--- anything or be too short."
-pub data Call : Type 0 where
-  moveCall : Move → Call
-  trialCall : Move → List ℕ → Call
-  improveCall : ℕ → List ℕ → Call
-
-pub data Answer : Type 0 where
-  moveAnswered : Moved → Answer
-  trialAnswered : Moved → Answer
-  improveAnswered : Improved → Answer
+-- One call of a list with its answer: its kind, its arguments, the scratch that it is lent, and what it answered. "Scratch may be
+-- another table at every call, hold anything or be too short."
+pub data Exchange : Type 0 where
+  moveCall : Move → Moved → Exchange
+  trialCall : Move → List ℕ → Moved → Exchange
+  improveCall : ℕ → List ℕ → Improved → Exchange
 
 -- "Each call is lent these tables as the last call left them, and nobody else writes them until the list ends."
 pub record State : Type 0 where
@@ -39,37 +34,28 @@ pub record State : Type 0 where
   pub cells : List ℕ
 
 -- One call, by the very definitions that the calls' contracts cite; s is the state before it and s′ the state after it.
-unfoldable pub Step : List ℕ → State → Call → Answer → State → Type 0
-Step bytes s (moveCall m) (moveAnswered r) s′ = (r, s′ .masks, s′ .cells) ≡ moves (decode bytes) m (s .masks) (s .cells)
-Step bytes s (moveCall m) (trialAnswered r) s′ = ⊥
-Step bytes s (moveCall m) (improveAnswered r) s′ = ⊥
-Step bytes s (trialCall m scratch) (moveAnswered r) s′ = ⊥
-Step bytes s (trialCall m scratch) (trialAnswered r) s′ =
+unfoldable pub Step : List ℕ → State → Exchange → State → Type 0
+Step bytes s (moveCall m r) s′ = (r, s′ .masks, s′ .cells) ≡ moves (decode bytes) m (s .masks) (s .cells)
+Step bytes s (trialCall m scratch r) s′ =
     (r ≡ trials (decode bytes) m (s .masks) (s .cells) (length scratch)) × (s′ .masks ≡ s .masks) × (s′ .cells ≡ s .cells)
-Step bytes s (trialCall m scratch) (improveAnswered r) s′ = ⊥
-Step bytes s (improveCall kinds scratch) (moveAnswered r) s′ = ⊥
-Step bytes s (improveCall kinds scratch) (trialAnswered r) s′ = ⊥
-Step bytes s (improveCall kinds scratch) (improveAnswered r) s′ =
+Step bytes s (improveCall kinds scratch r) s′ =
     Improves (decode bytes) kinds (s .masks) (s .cells) (length scratch) r (s′ .masks) (s′ .cells)
 
-pub data Run (bytes : List ℕ) : State → List Call → List Answer → State → Type 0 where
-  ended : {s : State} → Run bytes s [] [] s
-  called : {s s′ s″ : State} {call : Call} {answer : Answer} {calls : List Call} {answers : List Answer}
-      → Step bytes s call answer s′ → Run bytes s′ calls answers s″ → Run bytes s (call ∷ calls) (answer ∷ answers) s″
+-- Call after call, each with an answer that its definition allows.
+pub data Run (bytes : List ℕ) : State → List Exchange → State → Type 0 where
+  ended : {s : State} → Run bytes s [] s
+  called : {s s′ s″ : State} {x : Exchange} {xs : List Exchange} → Step bytes s x s′ → Run bytes s′ xs s″ → Run bytes s (x ∷ xs) s″
 
 -- What the book is fed of a call and its answer: improve's answer alone.
-unfoldable pub feed : Call → Answer → Fed
-feed (moveCall m) answer = fedMove m
-feed (trialCall m scratch) answer = fedTrial m
-feed (improveCall kinds scratch) (moveAnswered r) = fedImprove kinds (improved.Refused 0)
-feed (improveCall kinds scratch) (trialAnswered r) = fedImprove kinds (improved.Refused 0)
-feed (improveCall kinds scratch) (improveAnswered r) = fedImprove kinds r
+unfoldable pub feed : Exchange → Fed
+feed (moveCall m r) = fedMove m
+feed (trialCall m scratch r) = fedTrial m
+feed (improveCall kinds scratch r) = fedImprove kinds r
 
 -- The book's sets after a list.
-unfoldable pub bookAfter : Plan → Sets → List Call → List Answer → Sets
-bookAfter P k [] answers = k
-bookAfter P k (call ∷ calls) [] = k
-bookAfter P k (call ∷ calls) (answer ∷ answers) = bookAfter P (bookStep P k (feed call answer)) calls answers
+unfoldable pub bookAfter : Plan → Sets → List Exchange → Sets
+bookAfter P k [] = k
+bookAfter P k (x ∷ xs) = bookAfter P (bookStep P k (feed x)) xs
 
 -- "Its roots are the root's penalties under the book's sets", and its cells the penalties of Definition 5.
 unfoldable pub bookRoot : Plan → Sets → ℕ
@@ -120,23 +106,14 @@ ImprovedRight zero P k kinds (improved.Refused number) = ⊥
 ImprovedRight (suc g) P k kinds r = r ≡ improved.Refused (suc g)
 
 -- An answer is right under the book's sets before its call.
-unfoldable pub Right : Plan → Sets → Call → Answer → Type 0
-Right P k (moveCall m) (moveAnswered r) = MovedRight (refusal (moveGrounds P k m)) P k m r
-Right P k (moveCall m) (trialAnswered r) = ⊥
-Right P k (moveCall m) (improveAnswered r) = ⊥
-Right P k (trialCall m scratch) (moveAnswered r) = ⊥
-Right P k (trialCall m scratch) (trialAnswered r) = MovedRight (refusal (scratchGround P scratch ∷ moveGrounds P k m)) P k m r
-Right P k (trialCall m scratch) (improveAnswered r) = ⊥
-Right P k (improveCall kinds scratch) (moveAnswered r) = ⊥
-Right P k (improveCall kinds scratch) (trialAnswered r) = ⊥
-Right P k (improveCall kinds scratch) (improveAnswered r) =
-    ImprovedRight (refusal (scratchGround P scratch ∷ (14, not (kindsKnown kinds)) ∷ [])) P k kinds r
+unfoldable pub Right : Plan → Sets → Exchange → Type 0
+Right P k (moveCall m r) = MovedRight (refusal (moveGrounds P k m)) P k m r
+Right P k (trialCall m scratch r) = MovedRight (refusal (scratchGround P scratch ∷ moveGrounds P k m)) P k m r
+Right P k (improveCall kinds scratch r) = ImprovedRight (refusal (scratchGround P scratch ∷ (14, not (kindsKnown kinds)) ∷ [])) P k kinds r
 
-unfoldable pub AllRight : Plan → Sets → List Call → List Answer → Type 0
-AllRight P k [] [] = Unit {0}
-AllRight P k [] (answer ∷ answers) = ⊥
-AllRight P k (call ∷ calls) [] = ⊥
-AllRight P k (call ∷ calls) (answer ∷ answers) = Right P k call answer × AllRight P (bookStep P k (feed call answer)) calls answers
+unfoldable pub AllRight : Plan → Sets → List Exchange → Type 0
+AllRight P k [] = Unit {0}
+AllRight P k (x ∷ xs) = Right P k x × AllRight P (bookStep P k (feed x)) xs
 
 -- "The masks of demand 3 are the book's sets", the tail as it was; every cell is the penalty under them, the tail as it was.
 pub record Kept (P : Plan) (k : Sets) (tail-masks tail-cells : List ℕ) (s : State) : Type 0 where

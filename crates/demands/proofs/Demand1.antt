@@ -116,6 +116,6 @@ pub work-past : (bytes calls masks cells scratch answers : List ℕ) (count : �
     → Worked bytes calls masks cells scratch answers count masks′ cells′ scratch′ answers′
     → (length scratch′ ≡ length scratch) × (drop (scratchOwn (decode bytes)) scratch′ ≡ drop (scratchOwn (decode bytes)) scratch)
 work-past bytes calls masks cells scratch answers count masks′ cells′ scratch′ answers′ w = (
-  scratch-length (decode bytes) scratch scratch′ (w .said) (w .answered) (w .scratch-run),
-  scratch-past (decode bytes) scratch scratch′ (w .said) (w .answered) (w .scratch-run),
+  scratch-length (decode bytes) scratch scratch′ (w .exchanges) (w .scratch-run),
+  scratch-past (decode bytes) scratch scratch′ (w .exchanges) (w .scratch-run),
 )

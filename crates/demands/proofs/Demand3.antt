@@ -14,10 +14,10 @@ use Rattle.logic.specs.Cells.{ownCells}
 use Rattle.logic.specs.Moves.{legal, ofKinds}
 use Rattle.call_list.specs.Working.{Worked}
 use Rattle.table_format.specs.Decode.{Decoded, sound, decode}
-use Rattle.contracts.specs.declared.Loaded.the-variants.{Accepted, Refused}
+use Rattle.contracts.specs.declared.Loaded.the-variants.{Accepted}
 use Rattle.contracts.specs.Load.{loads}
 use Rattle.contracts.specs.declared.Improved.{Improved}
-use Rattle.contracts.specs.Lists.{Call, Answer, State, Run, bookAfter, bookRoot, bookMade, ImprovedRight, AllRight, Kept}
+use Rattle.contracts.specs.Lists.{Exchange, State, Run, bookAfter, bookRoot, bookMade, ImprovedRight, AllRight, Kept}
 use Rattle.contracts.proofs.Lists.{load-holds, run-right}
 use Rattle.contracts.specs.declared.Improved.the-variants as improved
 
@@ -25,14 +25,14 @@ use Rattle.contracts.specs.declared.Improved.the-variants as improved
 -- allow: each answer is right under the book's sets before its call; afterwards the masks are the book's sets, each cell is
 -- Definition 5's penalty under them, and what is past the plan's own is as it was.
 pub lists-right : (bytes masks before cells : List ℕ) (root total : ℕ) → loads (decode bytes) masks before ≡ (Accepted root total, cells)
-    → (P : Plan) → decode bytes ≡ sound P → (calls : List Call) (answers : List Answer) (s : State)
-    → Run bytes record { masks = masks; cells = cells } calls answers s
-    → AllRight P (inMasks (take (ownMasks P) masks)) calls answers
-    × Kept P (bookAfter P (inMasks (take (ownMasks P) masks)) calls answers) (drop (ownMasks P) masks) (drop (ownCells P) before) s
-lists-right bytes masks before cells root total h P d calls answers s r =
+    → (P : Plan) → decode bytes ≡ sound P → (xs : List Exchange) (s : State)
+    → Run bytes record { masks = masks; cells = cells } xs s
+    → AllRight P (inMasks (take (ownMasks P) masks)) xs
+    × Kept P (bookAfter P (inMasks (take (ownMasks P) masks)) xs) (drop (ownMasks P) masks) (drop (ownCells P) before) s
+lists-right bytes masks before cells root total h P d xs s r =
     let l = sym (ap (λ (x : Decoded). loads x masks before) d) ∙ h in
     let q = run-right bytes P d (inMasks (take (ownMasks P) masks)) (drop (ownMasks P) masks) (drop (ownCells P) before)
-    record { masks = masks; cells = cells } calls answers s (load-holds P masks before cells root total l) r in
+    record { masks = masks; cells = cells } xs s (load-holds P masks before cells root total l) r in
     (q .0, q .1 .kept)
 
 isNoBetter : Improved → Type 0
@@ -57,8 +57,8 @@ pub work-right : (bytes masks before cells : List ℕ) (root total : ℕ) → lo
     → (P : Plan) → decode bytes ≡ sound P
     → (calls scratch answers : List ℕ) (count : ℕ) (masks′ cells′ scratch′ answers′ : List ℕ)
     → (w : Worked bytes calls masks cells scratch answers count masks′ cells′ scratch′ answers′)
-    → AllRight P (inMasks (take (ownMasks P) masks)) (w .said) (w .answered)
-    × Kept P (bookAfter P (inMasks (take (ownMasks P) masks)) (w .said) (w .answered)) (drop (ownMasks P) masks) (drop (ownCells P) before)
+    → AllRight P (inMasks (take (ownMasks P) masks)) (w .exchanges)
+    × Kept P (bookAfter P (inMasks (take (ownMasks P) masks)) (w .exchanges)) (drop (ownMasks P) masks) (drop (ownCells P) before)
     record { masks = masks′; cells = cells′ }
 work-right bytes masks before cells root total h P d calls scratch answers count masks′ cells′ scratch′ answers′ w =
-    lists-right bytes masks before cells root total h P d (w .said) (w .answered) record { masks = masks′; cells = cells′ } (w .run)
+    lists-right bytes masks before cells root total h P d (w .exchanges) record { masks = masks′; cells = cells′ } (w .run)

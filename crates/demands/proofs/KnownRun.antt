@@ -25,7 +25,7 @@ use Rattle.contracts.specs.declared.Improved.{Improved}
 use Rattle.contracts.specs.MoveCall.{tableGrounds, moveCallGrounds, cellsAfter, moveAnswer, moveOr, movePlan, moves}
 use Rattle.contracts.specs.TrialCall.{trialOr, trialPlan, trials}
 use Rattle.contracts.specs.ImproveCall.{improveGrounds, rootNow, rootAfter, Chosen, ImprovesOr, ImprovesPlan, Improves}
-use Rattle.contracts.specs.Lists.{Call, moveCall, trialCall, improveCall, Answer, moveAnswered, trialAnswered, improveAnswered, State, Step, Run, ended, called, bookAfter, AllRight, Kept}
+use Rattle.contracts.specs.Lists.{Exchange, moveCall, trialCall, improveCall, State, Step, Run, ended, called, bookAfter, AllRight, Kept}
 use Rattle.demands.proofs.Demand3.{lists-right}
 use Rattle.contracts.specs.declared.Moved.the-variants as moved
 use Rattle.contracts.specs.declared.Loaded.the-variants as loaded
@@ -208,32 +208,29 @@ stateDrop = state (masksWith 3 5 1) cellsDrop
 
 -- one call of a list over plan A's table
 move-called : (m : Move) (r : Moved) (s s′ : State) → (r, s′ .masks, s′ .cells) ≡ moves (sound planA) m (s .masks) (s .cells)
-    → Step bytesA s (moveCall m) (moveAnswered r) s′
+    → Step bytesA s (moveCall m r) s′
 unfolding Step
 move-called m r s s′ e = e ∙ ap (λ (d : Decoded). moves d m (s .masks) (s .cells)) (sym decode-A)
 
 trial-called : (m : Move) (lent-scratch : List ℕ) (r : Moved) (s : State)
-    → r ≡ trials (sound planA) m (s .masks) (s .cells) (length lent-scratch) → Step bytesA s (trialCall m lent-scratch) (trialAnswered r) s
+    → r ≡ trials (sound planA) m (s .masks) (s .cells) (length lent-scratch) → Step bytesA s (trialCall m lent-scratch r) s
 unfolding Step
 trial-called m lent-scratch r s e =
     (e ∙ ap (λ (d : Decoded). trials d m (s .masks) (s .cells) (length lent-scratch)) (sym decode-A), refl, refl)
 
 improve-called : (kinds : ℕ) (lent-scratch : List ℕ) (r : Improved) (s s′ : State)
     → Improves (sound planA) kinds (s .masks) (s .cells) (length lent-scratch) r (s′ .masks) (s′ .cells)
-    → Step bytesA s (improveCall kinds lent-scratch) (improveAnswered r) s′
+    → Step bytesA s (improveCall kinds lent-scratch r) s′
 unfolding Step
 improve-called kinds lent-scratch r s s′ x =
     subst (λ (d : Decoded). Improves d kinds (s .masks) (s .cells) (length lent-scratch) r (s′ .masks) (s′ .cells)) (sym decode-A) x
 
 -- A list from the tables as the load leaves them: B's drop (1 before, 0 after, 8 changed), an add that is refused, and "no better
 -- move" of any kind.
-abbrev pub knownCalls : List Call
-knownCalls = moveCall (move 2 1 0 1 0) ∷ moveCall (move 1 0 0 0 0) ∷ improveCall 15 scratch ∷ []
+abbrev pub knownExchanges : List Exchange
+knownExchanges = moveCall (move 2 1 0 1 0) (moved.Accepted 1 0 8) ∷ moveCall (move 1 0 0 0 0) (moved.Refused 15) ∷ improveCall 15 scratch (improved.NoBetter 0) ∷ []
 
-abbrev pub knownAnswers : List Answer
-knownAnswers = moveAnswered (moved.Accepted 1 0 8) ∷ moveAnswered (moved.Refused 15) ∷ improveAnswered (improved.NoBetter 0) ∷ []
-
-pub known-run : Run bytesA stateA knownCalls knownAnswers stateDrop
+pub known-run : Run bytesA stateA knownExchanges stateDrop
 unfolding computing
 known-run =
     called (move-called (move 2 1 0 1 0) (moved.Accepted 1 0 8) stateA stateDrop refl)
@@ -242,11 +239,10 @@ known-run =
 
 -- Another: improve with each of its answers, and trials.
 pub known-run-improve : Run bytesA stateA
-    (improveCall 15 short ∷ improveCall 0 scratch ∷ trialCall (move 2 1 0 1 0) scratch ∷ trialCall (move 2 1 0 1 0) short
-    ∷ trialCall (move 1 0 0 0 0) scratch ∷ improveCall 15 scratch ∷ improveCall 15 scratch ∷ [])
-    (improveAnswered (improved.Refused 12) ∷ improveAnswered (improved.Refused 14) ∷ trialAnswered (moved.Accepted 1 0 8)
-    ∷ trialAnswered (moved.Refused 12) ∷ trialAnswered (moved.Refused 15) ∷ improveAnswered (improved.Made (move 2 1 0 1 0) 1 0 8)
-    ∷ improveAnswered (improved.NoBetter 0) ∷ [])
+    (improveCall 15 short (improved.Refused 12) ∷ improveCall 0 scratch (improved.Refused 14)
+    ∷ trialCall (move 2 1 0 1 0) scratch (moved.Accepted 1 0 8) ∷ trialCall (move 2 1 0 1 0) short (moved.Refused 12)
+    ∷ trialCall (move 1 0 0 0 0) scratch (moved.Refused 15) ∷ improveCall 15 scratch (improved.Made (move 2 1 0 1 0) 1 0 8)
+    ∷ improveCall 15 scratch (improved.NoBetter 0) ∷ [])
     stateDrop
 unfolding computing
 known-run-improve =
@@ -259,9 +255,9 @@ known-run-improve =
     (called (improve-called 15 scratch (improved.NoBetter 0) stateDrop stateDrop none-better) ended))))))
 
 -- Demand 3's theorem at the first list: what it promises of a list that there is.
-pub known-list-right : AllRight planA (inMasks (3 ∷ 7 ∷ 1 ∷ [])) knownCalls knownAnswers
-    × Kept planA (bookAfter planA (inMasks (3 ∷ 7 ∷ 1 ∷ [])) knownCalls knownAnswers) (255 ∷ []) (77 ∷ []) stateDrop
+pub known-list-right : AllRight planA (inMasks (3 ∷ 7 ∷ 1 ∷ [])) knownExchanges
+    × Kept planA (bookAfter planA (inMasks (3 ∷ 7 ∷ 1 ∷ [])) knownExchanges) (255 ∷ []) (77 ∷ []) stateDrop
 unfolding ownMasks ownCells cellCount childDepth planA plan over literal
 known-list-right =
     lists-right bytesA (masksWith 3 7 1) (lent (replicate 34 4294967295)) (lent cellsA) 1 34 known-load planA decode-A
-    knownCalls knownAnswers stateDrop known-run
+    knownExchanges stateDrop known-run

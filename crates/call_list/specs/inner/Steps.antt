@@ -5,19 +5,18 @@ use mathlib.Core.List.{List, _++_}
 use Prim.Native.Nat.{ℕ, _+_, _*_, _≤_}
 use lib.ListN.{length, drop}
 use Rattle.table_format.specs.Decode.{decode}
-use Rattle.contracts.specs.Lists.{Call, Answer, Step}
+use Rattle.contracts.specs.Lists.{Exchange, Step}
 use Rattle.call_list.specs.Scratch.{ScratchOne}
 use Rattle.call_list.specs.Encoding.{Says, Unknown, answerNumbers}
 use Rattle.call_list.specs.Working.{Stopped}
 
 -- One call was worked: the numbers say a call, which answered what the ten numbers say and left the tables as its contract allows.
 pub record OneWorked (bytes call masks cells scratch answer masks′ cells′ scratch′ answer′ : List ℕ) : Type 0 where
-  pub said : Call
-  pub answered : Answer
-  pub says : Says (length scratch) call said
-  pub step : Step bytes record { masks = masks; cells = cells } said answered record { masks = masks′; cells = cells′ }
-  pub scratch-step : ScratchOne (decode bytes) said answered scratch scratch′
-  pub answer-is : answer′ ≡ answerNumbers answered ++ drop 10 answer
+  pub exchange : Exchange
+  pub says : Says (length scratch) call exchange
+  pub step : Step bytes record { masks = masks; cells = cells } exchange record { masks = masks′; cells = cells′ }
+  pub scratch-step : ScratchOne (decode bytes) exchange scratch scratch′
+  pub answer-is : answer′ ≡ answerNumbers exchange ++ drop 10 answer
 
 -- Nothing was written.
 pub record NoneWorked (call masks cells scratch answer masks′ cells′ scratch′ answer′ : List ℕ) : Type 0 where
