@@ -12,7 +12,7 @@ use lib.Seq.{drop-at, length-take-le, ext-getD, drop-append-add}
 use borrow.Author.Tests.{leb-true}
 use Rattle.logic.specs.Formula.{isin, notin, port, size, Node, root, all, any, and, or, lit, Forest, none, tree, kindNumber, nodeCount, childDepth}
 use Rattle.logic.specs.inner.Literals.{Every, OfLiteral, ConstantLow, ConstantsLow}
-use Rattle.logic.specs.Configuration.{Configuration, configuration, inMasks}
+use Rattle.logic.specs.Configuration.{Configuration, configured, inMasks}
 use Rattle.logic.specs.Truth.{Tuple}
 use Rattle.logic.specs.Penalty.{sum, below, penalties, penalty}
 use Rattle.logic.specs.Cells.{cellCount, tupleAt, tabulate, layout}
@@ -52,9 +52,9 @@ one-forest l f g i p q a b =
     ∙ forest-of-records (nodeCount f + nodeCount g) g i q (omega arith)
 
 -- no records: nothing is written
-pub fill-none : (l : List ℕ) (i above ports depth over at : ℕ) (masks cells : List ℕ) → length l < recordLength → Fills l i above ports depth over at masks cells cells at
+pub fill-none : (l : List ℕ) (i above ports sets depth over at : ℕ) (masks cells : List ℕ) → length l < recordLength → Fills l i above ports sets depth over at masks cells cells at
 unfolding Fills records cellCount treewise joinAll table layout nodeCount
-fill-none l i above ports depth over at masks cells h n outer none up kn dn on is = record {
+fill-none l i above ports sets depth over at masks cells h n outer none up kn dn on is = record {
   ends-at = sym (add-zero at);
   cells-are = λ A G X R e lA lG lX.
       let x : X ≡ [] = no-length X lX in
@@ -64,7 +64,7 @@ fill-none l i above ports depth over at masks cells h n outer none up kn dn on i
     no-length : (X : List ℕ) → length X ≡ 0 → X ≡ []
     no-length [] q = refl
     no-length (x ∷ X) q = absurd (omega arith)
-fill-none l i above ports depth over at masks cells h n outer (tree m c s) up kn dn on is =
+fill-none l i above ports sets depth over at masks cells h n outer (tree m c s) up kn dn on is =
     absurd (omega (arith, some-record recordLength record-pos (length l) (nodeCount c + nodeCount s) (ap length is ∙ length-records (tree m c s) i up ∙ ap (λ (x : ℕ). recordLength * x) (suc-add (nodeCount c) (nodeCount s)))))
 
 -- What a placed part that is not empty begins with.
@@ -140,10 +140,10 @@ few-parts u m c s h l =
 
 -- The sum below a cell of a plan's node stays below 2^32.
 pub low-below : (u sets : ℕ) (masks : List ℕ) (m : Node) (c s : Forest) (depth : ℕ) (e : Tuple) → 1 ≤ u → u ≤ 64 → everyNode (nodeRule sets) c (childDepth m depth) ≡ true
-    → cellCount u (tree m c s) 0 ≤ 1048576 → sum (below u m e (penalties u (config u masks) c)) < 4294967296
-unfolding configuration
+    → cellCount u (tree m c s) 0 ≤ 1048576 → sum (below u m e (penalties u (config u sets masks) c)) < 4294967296
+unfolding configured
 low-below u sets masks m c s depth e u1 u64 rules few =
-    let k = config u masks in
+    let k = config u sets masks in
     let small : (S : ℕ) → k .size S ≤ 64 = λ S. le-trans (ports-in-le u (inMasks masks S)) u64 in
     let b = below-penalties-le u 65 (omega arith) k m c (childDepth m depth) e (literals-low k small c (childDepth m depth) (constants-low sets c (childDepth m depth) rules)) in
     omega (arith, few-parts u m c s u1 few .0, mul-left-comm (spread u m) 65 (subtreeCells u c))
@@ -188,7 +188,7 @@ module _ (l : List ℕ) (i up above ports sets depth width over at outer : ℕ) 
     (kn : kindNumber n ≡ above) (dn : depth ≡ childDepth n outer) (on : over ≡ ports ^ outer) (wn : width ≡ ports ^ depth)
     (below′ nn r : ℕ) (bd : below′ ≡ childDepth m depth) (ys₁ zs₁ xs₃ xs₄ : List ℕ) where
   abbrev K : Configuration
-  K = config ports masks
+  K = config ports sets masks
 
   abbrev xs₁ : List ℕ
   xs₁ = back at xs ys₁
@@ -196,10 +196,10 @@ module _ (l : List ℕ) (i up above ports sets depth width over at outer : ℕ) 
   abbrev xs₂ : List ℕ
   xs₂ = back at xs₁ zs₁
 
-  module _ (st : ys₁ ≡ started (kindField l) (relationField l) (aField l) (bField l) ports depth width masks (lent at xs))
-      (kids : Filled (kindField l) ports below′ width width depth m c masks (lent at xs₁) zs₁ nn)
+  module _ (st : ys₁ ≡ started (kindField l) (relationField l) (aField l) (bField l) sets ports depth width masks (lent at xs))
+      (kids : Filled (kindField l) ports sets below′ width width depth m c masks (lent at xs₁) zs₁ nn)
       (mg : xs₃ ≡ merged (joinOf above) over (spreadOf above ports) at xs₂)
-      (rest : Filled above ports depth over (at + nn) outer n s masks xs₃ xs₄ r) where
+      (rest : Filled above ports sets depth over (at + nn) outer n s masks xs₃ xs₄ r) where
     abbrev cc : ℕ
     cc = cellCount ports c below′
 
@@ -302,7 +302,7 @@ module _ (l : List ℕ) (i up above ports sets depth width over at outer : ℕ) 
           (ap (λ (x : List ℕ). rowOf ports K n m c outer ++ x) (sym (append-assoc T (table ports K s depth) R))
           ∙ sym (append-assoc (rowOf ports K n m c outer) (T ++ table ports K s depth) R) ∙ ap (λ (x : List ℕ). x ++ R) (sym whole-table)))
 
-    pub tree-filled : Filled above ports depth over at outer n (tree m c s) masks xs xs₄ r
+    pub tree-filled : Filled above ports sets depth over at outer n (tree m c s) masks xs xs₄ r
     unfolding cellCount
     tree-filled = record {
       ends-at = omega (arith, rest .ends-at, kids .ends-at, ap (cellCount ports c) bd);
@@ -327,25 +327,25 @@ pub fill-tree : (l : List ℕ) (i above ports sets depth width over at : ℕ) (m
     → (e : ℕ) → e ≡ endField l
     → (kind relation a b : ℕ) → kind ≡ kindField l → relation ≡ relationField l → a ≡ aField l → b ≡ bField l
     → (below′ nn r : ℕ) → below′ ≡ kindDepth kind depth → (ys₁ zs₁ xs₃ xs₄ : List ℕ) → recordLength ≤ length l
-    → ys₁ ≡ started kind relation a b ports depth width masks (lent at xs)
-    → Fills (kidsOf l i e) (i + 1) kind ports below′ width width masks (lent at (back at xs ys₁)) zs₁ nn
+    → ys₁ ≡ started kind relation a b sets ports depth width masks (lent at xs)
+    → Fills (kidsOf l i e) (i + 1) kind ports sets below′ width width masks (lent at (back at xs ys₁)) zs₁ nn
     → xs₃ ≡ merged (joinOf above) over (spreadOf above ports) at (back at (back at xs ys₁) zs₁)
-    → Fills (restOf l i e) e above ports depth over (at + nn) masks xs₃ xs₄ r
-    → Fills l i above ports depth over at masks xs xs₄ r
+    → Fills (restOf l i e) e above ports sets depth over (at + nn) masks xs₃ xs₄ r
+    → Fills l i above ports sets depth over at masks xs xs₄ r
 unfolding Fills
 fill-tree l i above ports sets depth width over at masks xs p e en kind relation a b ki ri ai bi below′ nn r bd ys₁ zs₁ xs₃ xs₄ long st kids mg rest n outer f up kn dn on is =
     go f is (one-forest l (p .forest) f i (p .up) up (p .is) is)
   where
-    go : (f : Forest) → l ≡ records f i up → p .forest ≡ f → Filled above ports depth over at outer n f masks xs xs₄ r
+    go : (f : Forest) → l ≡ records f i up → p .forest ≡ f → Filled above ports sets depth over at outer n f masks xs xs₄ r
     go none q g = absurd (not-none l i up q long)
     go (tree m c s) q g =
         let o = fill-opened l i up depth sets e m c s q (ap (λ (x : Forest). everyNode (nodeRule sets) x depth) (sym g) ∙ p .rules) en in
         let below-is = bd ∙ ap (λ (x : ℕ). kindDepth x depth) ki ∙ sym (o .below) in
-        let started-is = st ∙ (λ j. started (ki j) (ri j) (ai j) (bi j) ports depth width masks (lent at xs)) in
+        let started-is = st ∙ (λ j. started (ki j) (ri j) (ai j) (bi j) sets ports depth width masks (lent at xs)) in
         let filled = kids m depth c i (sym (ki ∙ o .kind)) below-is (p .width-is) (o .kids) in
         tree-filled l i up above ports sets depth width over at outer masks xs n m c s e o (p .ports1) (p .ports64)
         (rw g at (p .few)) kn dn on (p .width-is) below′ nn r below-is ys₁ zs₁ xs₃ xs₄ started-is
-        (subst (λ (x : ℕ). Filled x ports below′ width width depth m c masks (lent at (back at xs ys₁)) zs₁ nn) ki filled) mg
+        (subst (λ (x : ℕ). Filled x ports sets below′ width width depth m c masks (lent at (back at xs ys₁)) zs₁ nn) ki filled) mg
         (rest n outer s up kn dn on (rest-all (recordLength * (e - i)) l ∙ o .rest))
 
 -- What the code needs before each call.

@@ -11,7 +11,7 @@ use borrow.Author.Tests.{eq-eqb}
 use Rattle.logic.specs.Formula.{root, Forest, none, tree, Plan, kindNumber, nodeCount, childDepth}
 use Rattle.logic.specs.Penalty.{penalty}
 use Rattle.logic.specs.Cells.{cellCount, tupleAt, tabulate, layout, ownCells, cells}
-use Rattle.logic.specs.Configuration.{Configuration, ownMasks, spelled, allWithin}
+use Rattle.logic.specs.Configuration.{Configuration, ownMasks, spelled, allWithin, configuration}
 use Rattle.table_format.specs.Bytes.{recordLength}
 use Rattle.table_format.specs.Rules.{treeCount, arityRule}
 use Rattle.table_format.specs.Decode.{sound, decode}
@@ -69,15 +69,15 @@ root-cells u k c =
     ∙ ap₂ (λ (a : ℕ) (b : List ℕ). tabulate a (λ i. penalty u k root c []) ++ b) (pow-zero u) (append-nil (table u k c 0))
 
 root-own : (P : Plan) (own : List ℕ) (c : Forest) → RootedIs (P .ports) (P .sets) c
-    → joinAll (joinOf 0) (unitOf 1) (treewise (P .ports) (config (P .ports) own) root c []) ≡ penalty (P .ports) (config (P .ports) own) root c []
+    → joinAll (joinOf 0) (unitOf 1) (treewise (P .ports) (config (P .ports) (P .sets) own) root c []) ≡ penalty (P .ports) (config (P .ports) (P .sets) own) root c []
 unfolding kindNumber startCell joinOf arityRule childDepth
 root-own P own c f =
-    own-cell (P .ports) (config (P .ports) own) root c [] (f .ports1) (eq-eqb (treeCount c) 1 (f .one))
+    own-cell (P .ports) (config (P .ports) (P .sets) own) root c [] (f .ports1) (eq-eqb (treeCount c) 1 (f .one))
     (low-below (P .ports) (P .sets) own root c none 0 [] (f .ports1) (f .ports64) (f .rules) (omega (arith, rooted-cells (P .ports) (P .sets) c, own-zero (P .ports) (P .sets) c, f .few)))
 
 root-first : (P : Plan) (own : List ℕ) (c : Forest) → RootedIs (P .ports) (P .sets) c
-    → joinAll (joinOf 0) (getD (unitOf 1 ∷ []) 0 0) (treewise (P .ports) (config (P .ports) own) root c (tupleAt (P .ports) 0 0))
-    ≡ penalty (P .ports) (config (P .ports) own) root c []
+    → joinAll (joinOf 0) (getD (unitOf 1 ∷ []) 0 0) (treewise (P .ports) (config (P .ports) (P .sets) own) root c (tupleAt (P .ports) 0 0))
+    ≡ penalty (P .ports) (config (P .ports) (P .sets) own) root c []
 unfolding tupleAt
 root-first P own c f = root-own P own c f
 
@@ -86,15 +86,15 @@ unfolding tabulate
 first-one g = refl
 
 plan-table : (P : Plan) (own : List ℕ) (c : Forest) → P ≡ rooted (P .ports) (P .sets) c
-    → cells P (spelled P own) ≡ penalty (P .ports) (config (P .ports) own) root c [] ∷ table (P .ports) (config (P .ports) own) c 0
-unfolding cells spelled table
+    → cells P (spelled P own) ≡ penalty (P .ports) (config (P .ports) (P .sets) own) root c [] ∷ table (P .ports) (config (P .ports) (P .sets) own) c 0
+unfolding cells spelled configuration table
 plan-table P own c e =
-    ap (λ (Q : Plan). layout (P .ports) (λ n c b d x. penalty (P .ports) (config (P .ports) own) n c x) (Q .formula) 0 0) e
-    ∙ root-cells (P .ports) (config (P .ports) own) c
+    ap (λ (Q : Plan). layout (P .ports) (λ n c b d x. penalty (P .ports) (config (P .ports) (P .sets) own) n c x) (Q .formula) 0 0) e
+    ∙ root-cells (P .ports) (config (P .ports) (P .sets) own) c
 
 pub plan-filled : (bytes : List ℕ) (P : Plan) (nodes r : ℕ) (masks xs ys zs : List ℕ) → decode bytes ≡ sound P → Ready bytes P nodes → ownCells P ≤ length xs
     → ys ≡ tabulate 1 (λ _. unitOf 1) ++ drop 1 xs
-    → Fills (belowRoot bytes nodes) 1 0 (P .ports) 0 1 1 (take (P .sets) masks) ys zs r
+    → Fills (belowRoot bytes nodes) 1 0 (P .ports) (P .sets) 0 1 1 (take (P .sets) masks) ys zs r
     → FillsPlan bytes masks xs zs
 unfolding Fills FillsPlan ownMasks kindNumber childDepth
 plan-filled bytes P nodes r masks xs ys zs d rd l ye fl Q dq = subst (λ (R : Plan). zs ≡ cells R (spelled R (take (R .sets) masks)) ++ drop (ownCells R) xs) one whole
@@ -117,7 +117,7 @@ plan-filled bytes P nodes r masks xs ys zs d rd l ye fl Q dq = subst (λ (R : Pl
     X : List ℕ
     X = take m (drop 1 xs)
 
-    got : zs ≡ tabulate 1 (λ t. joinAll (joinOf 0) (getD (unitOf 1 ∷ []) t 0) (treewise u (config u own) root c (tupleAt u 0 t))) ++ ([] ++ (table u (config u own) c 0 ++ drop (1 + m) xs))
+    got : zs ≡ tabulate 1 (λ t. joinAll (joinOf 0) (getD (unitOf 1 ∷ []) t 0) (treewise u (config u (P .sets) own) root c (tupleAt u 0 t))) ++ ([] ++ (table u (config u (P .sets) own) c 0 ++ drop (1 + m) xs))
     got =
         fl root 0 c 0 refl refl (sym (pow-zero u)) (rd .part) .cells-are (unitOf 1 ∷ []) [] X (drop (1 + m) xs)
         (ye ∙ ap₂ (λ (a b : List ℕ). a ++ b) (first-one (λ _. unitOf 1)) (sym (take-append-drop m (drop 1 xs)) ∙ ap (λ (b : List ℕ). X ++ b) (drop-drop m 1 xs)))
@@ -126,8 +126,8 @@ plan-filled bytes P nodes r masks xs ys zs d rd l ye fl Q dq = subst (λ (R : Pl
     whole : zs ≡ cells P (spelled P own) ++ drop (ownCells P) xs
     whole =
         got
-        ∙ ap₂ (λ (a : List ℕ) (b : ℕ). a ++ (table u (config u own) c 0 ++ drop b xs))
-        (first-one (λ t. joinAll (joinOf 0) (getD (unitOf 1 ∷ []) t 0) (treewise u (config u own) root c (tupleAt u 0 t)))
+        ∙ ap₂ (λ (a : List ℕ) (b : ℕ). a ++ (table u (config u (P .sets) own) c 0 ++ drop b xs))
+        (first-one (λ t. joinAll (joinOf 0) (getD (unitOf 1 ∷ []) t 0) (treewise u (config u (P .sets) own) root c (tupleAt u 0 t)))
         ∙ ap (λ (x : ℕ). x ∷ []) (root-first P own c (rd .facts)))
         (let e : 1 + m ≡ ownCells P = omega (arith, rd .total) in e)
         ∙ ap (λ (a : List ℕ). a ++ drop (ownCells P) xs) (sym (plan-table P own c (rd .is-root)))

@@ -30,7 +30,7 @@ fn start_cells(
     cells: &mut [u32],
 )
     requires { ⌜ StartPlaced kind relation a b sets ports depth width (now masks) (now cells) ⌝ }
-    ensures { λ _. ⌜ now (cells .exit) ≡ started kind relation a b ports depth width (now (masks .entry)) (now (cells .entry)) ⌝ }
+    ensures { λ _. ⌜ now (cells .exit) ≡ started kind relation a b sets ports depth width (now (masks .entry)) (now (cells .entry)) ⌝ }
 {
     if 5 <= kind {
         put_literal(
@@ -66,7 +66,7 @@ fn fill_forest(
     cells: &mut [u32],
 ) -> usize
     requires { ⌜ FillPlaced (now part) i above ports sets depth width over at (now masks) (now cells) ⌝ }
-    ensures { λ r. ⌜ Fills (now (part .entry)) i above ports depth over at (now (masks .entry)) (now (cells .entry)) (now (cells .exit)) r ⌝ }
+    ensures { λ r. ⌜ Fills (now (part .entry)) i above ports sets depth over at (now (masks .entry)) (now (cells .entry)) (now (cells .exit)) r ⌝ }
 {
     if part.len() < RECORD {
         return at;

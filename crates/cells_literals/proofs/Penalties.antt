@@ -9,7 +9,7 @@ use lib.Dec.{eqb, leb, ltb}
 use lib.ListN.{getD, drop}
 use borrow.Author.Tests.{eq-eqb, ne-eqb, le-leb, lt-leb, leb-true, ltb-true}
 use Rattle.logic.specs.Formula.{lit, relationOf}
-use Rattle.logic.specs.Configuration.{indicator, portsIn, inMask, configuration, inMasks}
+use Rattle.logic.specs.Configuration.{indicator, portsIn, inMask, configured, inMasks}
 use Rattle.logic.specs.Truth.{portOf}
 use Rattle.logic.specs.Penalty.{compare, sizePenalty, literalPenalty}
 use Rattle.logic.specs.Cells.{tupleAt, tabulate}
@@ -43,7 +43,7 @@ last-two x y z h = (and-right x y (and-left (x && y) z h), and-right (x && y) z 
 module _ {sets kind r a b ports depth width : ℕ} {masks cells : List ℕ} (p : LiteralPlaced sets kind r a b ports depth width masks cells) where
   -- The literal's penalty at the t-th tuple.
   abbrev penaltyAt : ℕ → ℕ
-  penaltyAt t = literalPenalty (configuration ports (inMasks masks)) (literalOf kind r a b) (tupleAt ports depth t)
+  penaltyAt t = literalPenalty (configured ports sets (inMasks masks)) (literalOf kind r a b) (tupleAt ports depth t)
 
   -- what a record's fields are, by its kind
   pub member-fields : kind ≤ 6 → (a < depth) × (b < sets)
@@ -95,7 +95,7 @@ module _ {sets kind r a b ports depth width : ℕ} {masks cells : List ℕ} (p :
   member-at : kind ≤ 6 → (t : ℕ)
       → memberPenalty kind (inMask (getD masks b 0) (digitAt ports (blockOf ports depth a) t))
       ≡ penaltyAt t
-  unfolding memberPenalty literalOf literalPenalty configuration inMasks
+  unfolding memberPenalty literalOf literalPenalty configured inMasks
   member-at h t = rw (← port-digit ports depth a t (member-fields h .0)) (go (decLe kind 5))
     where
       go : Dec (kind ≤ 5)
@@ -114,7 +114,7 @@ module _ {sets kind r a b ports depth width : ℕ} {masks cells : List ℕ} (p :
   size-at : kind ≡ 8 → (t : ℕ)
       → sizePenalty (relationOf r) (portsIn 64 (inMask (getD masks a 0))) b
       ≡ penaltyAt t
-  unfolding literalOf literalPenalty configuration inMasks
+  unfolding literalOf literalPenalty configured inMasks
   size-at h t =
       rw (ne-eqb kind 5 (λ e. omega arith), ne-eqb kind 6 (λ e. omega arith), ne-eqb kind 7 (λ e. omega arith))
       (ap (λ (s : ℕ). sizePenalty (relationOf r) s b) (ports-within ports 64 (getD masks a 0) (p .ports64) (p .within a (size-fields h .0))))

@@ -11,7 +11,7 @@ ghost use mathlib.Core.List.{_++_};
 ghost use Prim.Native.Nat.{_≤_, _<_};
 ghost use lib.ListN.{length, getD, drop};
 ghost use Rattle.logic.specs.Formula.{relationOf};
-ghost use Rattle.logic.specs.Configuration.{portsIn, inMask, configuration, inMasks};
+ghost use Rattle.logic.specs.Configuration.{portsIn, inMask, configured, inMasks};
 ghost use Rattle.logic.specs.Penalty.{sizePenalty, literalPenalty};
 ghost use Rattle.logic.specs.Cells.{tupleAt, tabulate};
 ghost use Rattle.cells_literals.specs.inner.Literal.{literalOf, LiteralPlaced};
@@ -46,7 +46,7 @@ pub fn put_literal(
     cells: &mut [u32],
 )
     requires { ⌜ LiteralPlaced sets kind relation a b ports depth width (now masks) (now cells) ⌝ }
-    ensures { λ _. ⌜ now (cells .exit) ≡ tabulate width (λ t. literalPenalty (configuration ports (inMasks (now (masks .entry)))) (literalOf kind relation a b) (tupleAt ports depth t)) ++ drop width (now (cells .entry)) ⌝ }
+    ensures { λ _. ⌜ now (cells .exit) ≡ tabulate width (λ t. literalPenalty (configured ports sets (inMasks (now (masks .entry)))) (literalOf kind relation a b) (tupleAt ports depth t)) ++ drop width (now (cells .entry)) ⌝ }
 {
     let count = ports as u32;
     if kind <= 6 {

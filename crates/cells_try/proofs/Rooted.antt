@@ -3,7 +3,7 @@ use mathlib.Core.Path.{_≡_, subst}
 use mathlib.Core.List.{List, []}
 use Prim.Native.Nat.{ℕ}
 use Rattle.logic.specs.Formula.{root, none, tree, Plan}
-use Rattle.logic.specs.Configuration.{spelled}
+use Rattle.logic.specs.Configuration.{spelled, configuration}
 use Rattle.logic.specs.Change.{Change}
 use Rattle.table_format.proofs.Encoding.{decode-sound, one-plan}
 use Rattle.cells_touch.specs.declared.Changed.{Changed}
@@ -36,9 +36,9 @@ module _ (u sets : ℕ) (c : Changed) (bytes firsts ends uses masks cells : List
   }
 
   pub root-gives : (word : ℕ) (x : After) → word ≡ firstWord c → CellGives u sets c bytes firsts ends uses masks cells 0 0 0 0 word x → RootGives u c bytes masks cells x
-  unfolding RootGives CellGives spelled
+  unfolding RootGives CellGives spelled configuration
   root-gives word x h gives P ch d says =
       let one : r .plan ≡ P = one-plan bytes (r .plan) P (decode-sound bytes (r .plan) (r .decodes)) (decode-sound bytes P d) in
       subst (λ (Q : Plan). RootAfter Q ch masks cells x) one
       (root-after (r .plan) bytes (r .decodes) ch masks cells x (r .own-cells)
-      (rw (r .ports-are) at (gives ch root (below-root (r .plan) bytes (r .decodes)) none 0 [] (ready-for ch says) (rw h (visit-for ch says)))))
+      (rw (r .sets-are) at (rw (r .ports-are) at (gives ch root (below-root (r .plan) bytes (r .decodes)) none 0 [] (ready-for ch says) (rw h (visit-for ch says))))))

@@ -12,7 +12,7 @@ use lib.ListN.{length, getD}
 use borrow.Author.Tests.{eqb-true}
 use Rattle.logic.specs.Formula.{Literal, isin, notin, port, size, Node, all, lit, Forest, none, tree, kindNumber, nodeCount, childDepth}
 use Rattle.logic.specs.inner.Literals.{Every, OfLiteral}
-use Rattle.logic.specs.Configuration.{Configuration, indicator, configuration, inMasks}
+use Rattle.logic.specs.Configuration.{Configuration, indicator, configured, inMasks}
 use Rattle.logic.specs.Truth.{Tuple}
 use Rattle.logic.specs.Penalty.{eachPort, below, sum}
 use Rattle.logic.specs.Cells.{placeOf, siblingFirst}
@@ -78,7 +78,7 @@ first-tree (tree n c s) d sets h v = v .0 .depth3
 
 module _ (u sets : ℕ) (c : Changed) (bytes firsts ends uses masks cells : List ℕ) where
   abbrev after : Configuration
-  after = configuration u (inMasks masks)
+  after = configured u sets (inMasks masks)
 
   abbrev Standing : Change → ℕ → Forest → ℕ → ℕ → Tuple → ℕ → ℕ → ℕ → Type 0
   Standing ch i f b d e place digits word = Visit u sets ch bytes firsts ends uses cells i f b d e place digits word
@@ -106,7 +106,7 @@ module _ (u sets : ℕ) (c : Changed) (bytes firsts ends uses masks cells : List
           touched-here u sets ch bytes firsts ends uses cells i n f s b d e place digits word v (ready .masks-settled .sets16) ∙ ap (λ (y : ℕ). meets y word) (sym h) ∙ m
 
       literals : LiteralsAtMost 65 after f (childDepth n d)
-      unfolding Fitting Every configuration
+      unfolding Fitting Every configured
       literals = literals-low after (λ S. le-trans (ports-in-le u (inMasks masks S)) (ready .masks-settled .ports64)) f (childDepth n d) (all-constants sets f (childDepth n d) (v .fitting .1))
 
       place-fits : place < 262144

@@ -13,7 +13,7 @@ use lib.Seq.{take-all}
 use lib.Pow.{pow-add}
 use borrow.Author.Tests.{eq-eqb, ne-eqb}
 use Rattle.logic.specs.Formula.{Literal, isin, notin, port, size, kindNumber, relationOf}
-use Rattle.logic.specs.Configuration.{indicator, portsIn, configuration, inMask, inMasks}
+use Rattle.logic.specs.Configuration.{indicator, portsIn, configured, inMask, inMasks}
 use Rattle.logic.specs.Truth.{Tuple, portOf}
 use Rattle.logic.specs.Penalty.{compare, sizePenalty, literalPenalty}
 use Rattle.logic.proofs.Lists.{TupleOf, empty, more}
@@ -109,8 +109,8 @@ module _ (u sets d kind relation a b : ℕ) (masks : List ℕ) (digits : ℕ) (r
     port-here v h = ap (λ (x : ℕ). x / 256 ^ v % 256) (at .digits-are) ∙ port-packed v (omega (arith, ready .ports64)) (at .tuple) h
 
   pub afresh-in : (r : ℕ) → kind ≡ 5 → r ≡ indicator (not (inMask (getD masks b 0) (portHere a)))
-      → (l : Literal) (e : Tuple) → LiteralAt u sets d kind relation a b masks digits l e → r ≡ literalPenalty (configuration u (inMasks masks)) l e
-  unfolding literalPenalty kindNumber aByte bByte LiteralFits inMasks configuration
+      → (l : Literal) (e : Tuple) → LiteralAt u sets d kind relation a b masks digits l e → r ≡ literalPenalty (configured u sets (inMasks masks)) l e
+  unfolding literalPenalty kindNumber aByte bByte LiteralFits inMasks configured
   afresh-in r k q (isin v S) e at =
       q ∙ ap₂ (λ (x y : ℕ). indicator (not (inMask (getD masks x 0) y))) (at .b-is) (ap portHere (at .a-is) ∙ port-here (isin v S) e at v (at .fits .0))
   afresh-in r k q (notin v S) e at = absurd (omega (arith, at .kind-is))
@@ -118,8 +118,8 @@ module _ (u sets d kind relation a b : ℕ) (masks : List ℕ) (digits : ℕ) (r
   afresh-in r k q (size w S c) e at = absurd (omega (arith, at .kind-is))
 
   pub afresh-out : (r : ℕ) → kind ≡ 6 → r ≡ indicator (not (not (inMask (getD masks b 0) (portHere a))))
-      → (l : Literal) (e : Tuple) → LiteralAt u sets d kind relation a b masks digits l e → r ≡ literalPenalty (configuration u (inMasks masks)) l e
-  unfolding literalPenalty kindNumber aByte bByte LiteralFits inMasks configuration
+      → (l : Literal) (e : Tuple) → LiteralAt u sets d kind relation a b masks digits l e → r ≡ literalPenalty (configured u sets (inMasks masks)) l e
+  unfolding literalPenalty kindNumber aByte bByte LiteralFits inMasks configured
   afresh-out r k q (isin v S) e at = absurd (omega (arith, at .kind-is))
   afresh-out r k q (notin v S) e at =
       q ∙ ap₂ (λ (x y : ℕ). indicator (not (not (inMask (getD masks x 0) y)))) (at .b-is) (ap portHere (at .a-is) ∙ port-here (notin v S) e at v (at .fits .0))
@@ -132,7 +132,7 @@ module _ (u sets d kind relation a b : ℕ) (masks : List ℕ) (digits : ℕ) (r
   afresh-out r k q (size w S c) e at = absurd (omega (arith, at .kind-is))
 
   pub afresh-port : (r : ℕ) → kind ≡ 7 → r ≡ indicator (not (compare (relationOf relation) (portHere a) (portHere b)))
-      → (l : Literal) (e : Tuple) → LiteralAt u sets d kind relation a b masks digits l e → r ≡ literalPenalty (configuration u (inMasks masks)) l e
+      → (l : Literal) (e : Tuple) → LiteralAt u sets d kind relation a b masks digits l e → r ≡ literalPenalty (configured u sets (inMasks masks)) l e
   unfolding literalPenalty kindNumber relationByte aByte bByte LiteralFits
   afresh-port r k q (isin v S) e at = absurd (omega (arith, at .kind-is))
   afresh-port r k q (notin v S) e at = absurd (omega (arith, at .kind-is))
@@ -142,8 +142,8 @@ module _ (u sets d kind relation a b : ℕ) (masks : List ℕ) (digits : ℕ) (r
   afresh-port r k q (size w S c) e at = absurd (omega (arith, at .kind-is))
 
   pub afresh-size : (r : ℕ) → kind ≢ 5 → kind ≢ 6 → kind ≢ 7 → r ≡ sizePenalty (relationOf relation) (portsIn 64 (inMask (getD masks a 0))) b
-      → (l : Literal) (e : Tuple) → LiteralAt u sets d kind relation a b masks digits l e → r ≡ literalPenalty (configuration u (inMasks masks)) l e
-  unfolding literalPenalty kindNumber relationByte aByte bByte LiteralFits configuration inMasks
+      → (l : Literal) (e : Tuple) → LiteralAt u sets d kind relation a b masks digits l e → r ≡ literalPenalty (configured u sets (inMasks masks)) l e
+  unfolding literalPenalty kindNumber relationByte aByte bByte LiteralFits configured inMasks
   afresh-size r k k′ k″ q (isin v S) e at = absurd (k (at .kind-is))
   afresh-size r k k′ k″ q (notin v S) e at = absurd (k′ (at .kind-is))
   afresh-size r k k′ k″ q (port w v x) e at = absurd (k″ (at .kind-is))

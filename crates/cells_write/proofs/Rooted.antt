@@ -4,7 +4,7 @@ use mathlib.Core.List.{List, [], _++_}
 use Prim.Native.Nat.{ℕ}
 use lib.ListN.{take, drop}
 use Rattle.logic.specs.Formula.{root, Forest, none, tree, Plan}
-use Rattle.logic.specs.Configuration.{spelled}
+use Rattle.logic.specs.Configuration.{spelled, configuration}
 use Rattle.logic.specs.Cells.{ownCells}
 use Rattle.logic.specs.Change.{cellOf, newCells}
 use Rattle.table_format.proofs.Encoding.{decode-sound, one-plan}
@@ -22,14 +22,14 @@ use Rattle.cells_write.specs.inner.Writing.{CellWrites, RootWrites}
 module _ (u sets : ℕ) (c : Changed) (bytes firsts ends uses masks cells : List ℕ) (r : RootReady u sets c bytes firsts ends uses masks cells) where
   root-writes : (word : ℕ) (new : List ℕ) → word ≡ firstWord c → CellWrites u sets c bytes firsts ends uses masks cells 0 0 0 0 word new
       → RootWrites u c bytes masks cells new
-  unfolding RootWrites CellWrites spelled
+  unfolding RootWrites CellWrites spelled configuration
   root-writes word new h writes P ch d says =
       let Q = r .plan in
       let one : Q ≡ P = one-plan bytes Q P (decode-sound bytes Q (r .decodes)) (decode-sound bytes P d) in
       let f = below-root Q bytes (r .decodes) in
       let at = root-visit Q bytes (r .decodes) u (r .ports-are) sets (r .sets-are) c ch says firsts ends uses cells (r .indexed) (r .own-cells) in
       let w : new ≡ written (Q .ports) (spelled Q masks) ch (cellOf (Q .ports) cells) (tree root f none) 0 0 [] cells =
-      rw (r .ports-are) at (writes ch root f none 0 [] record { says = says; masks-settled = r .masks-settled; cells-fit = r .cells-fit; long = r .long } (rw h at)) in
+      rw (r .sets-are) at (rw (r .ports-are) at (writes ch root f none 0 [] record { says = says; masks-settled = r .masks-settled; cells-fit = r .cells-fit; long = r .long } (rw h at))) in
       subst (λ (R : Plan). new ≡ newCells R (spelled R masks) ch (take (ownCells R) cells) ++ drop (ownCells R) cells) one
       (w ∙ ap (λ (g : Forest). written (Q .ports) (spelled Q masks) ch (cellOf (Q .ports) cells) g 0 0 [] cells) (sym (formula-is Q bytes (r .decodes)))
       ∙ in-place Q (facts Q bytes (r .decodes) .ports1) (spelled Q masks) ch cells (r .own-cells))

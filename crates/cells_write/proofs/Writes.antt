@@ -10,7 +10,7 @@ use native.Mathlib.Omega.{arith}
 use lib.Dec.{leb, ltb}
 use lib.ListN.{length, getD, set}
 use Rattle.logic.specs.Formula.{Literal, Node, root, all, any, and, or, lit, Forest, none, tree, kindNumber, nodeCount, childDepth}
-use Rattle.logic.specs.Configuration.{Configuration, configuration, inMasks}
+use Rattle.logic.specs.Configuration.{Configuration, configured, inMasks}
 use Rattle.logic.specs.Truth.{Tuple}
 use Rattle.logic.specs.Cells.{placeOf, siblingFirst}
 use Rattle.logic.specs.Change.{Change, nodeHit, forestHit, touched, modulus, OldCells, cellOf, newCell}
@@ -102,7 +102,7 @@ all-fit cells h = h
 
 module _ (u sets : ℕ) (c : Changed) (bytes firsts ends uses masks : List ℕ) where
   abbrev after : Configuration
-  after = configuration u (inMasks masks)
+  after = configured u sets (inMasks masks)
 
   -- What is asked of a table holds of one that is as long and whose numbers fit.
   module _ (old new : List ℕ) (fit : CellsFit new) (long : length new ≡ length old) where

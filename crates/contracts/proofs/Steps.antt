@@ -216,7 +216,7 @@ pub record Holds (P : Plan) (k : Sets) (tail-masks tail-cells : List ℕ) (s : S
 
 length-book : (P : Plan) (k : Sets) → length (bookCells P k) ≡ ownCells P
 unfolding bookCells
-length-book P k = length-cells P (configuration (P .ports) k)
+length-book P k = length-cells P (configuration P k)
 
 long-enough : (own rest : List ℕ) (n : ℕ) → length own ≡ n → n ≤ length (own ++ rest)
 long-enough own rest n l = rw (length-append own rest) (omega arith)

@@ -6,7 +6,7 @@ use mathlib.Core.List.{List, []}
 use Prim.Native.Nat.{ℕ, _≤_}
 use lib.ListN.{length, take}
 use Rattle.logic.specs.Formula.{Plan, nodeCount}
-use Rattle.logic.specs.Configuration.{inMasks, configuration}
+use Rattle.logic.specs.Configuration.{inMasks, configured}
 use Rattle.logic.specs.Cells.{ownCells}
 use Rattle.text_tree.specs.Tree.{Tree, tooDeep}
 use Rattle.text_tokens.specs.Tokens.{knownBytes}
@@ -49,4 +49,4 @@ pub record TextTrue (u : ℕ) (masks s : List ℕ) : Type 0 where
   pub sets : List ℕ
   pub tree : Tree
   pub derived : Text (symbols s) sets tree
-  pub holds : TreeTrue u (configuration u (inMasks (take (length sets) masks))) sets [] tree
+  pub holds : TreeTrue u (configured u (length sets) (inMasks (take (length sets) masks))) sets [] tree

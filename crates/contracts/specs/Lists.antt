@@ -59,10 +59,10 @@ bookAfter P k (x ∷ xs) = bookAfter P (bookStep P k (feed x)) xs
 
 -- "Its roots are the root's penalties under the book's sets", and its cells the penalties of Definition 5.
 unfoldable pub bookRoot : Plan → Sets → ℕ
-bookRoot P k = rootPenalty P (configuration (P .ports) k)
+bookRoot P k = rootPenalty P (configuration P k)
 
 unfoldable pub bookCells : Plan → Sets → List ℕ
-bookCells P k = planCells P (configuration (P .ports) k)
+bookCells P k = planCells P (configuration P k)
 
 -- The sets "after the move as if it were made".
 unfoldable pub bookMade : Move → Sets → Sets

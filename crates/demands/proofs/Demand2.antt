@@ -10,7 +10,7 @@ use native.Mathlib.Omega.{arith}
 use lib.Dec.{ltb}
 use lib.ListN.{length, take}
 use Rattle.logic.specs.Formula.{tree, Plan}
-use Rattle.logic.specs.Configuration.{configuration, inMasks, ownMasks, spelled, allWithin}
+use Rattle.logic.specs.Configuration.{configured, configuration, inMasks, ownMasks, spelled, allWithin}
 use Rattle.logic.specs.Truth.{PlanTrue}
 use Rattle.logic.specs.Cells.{ownCells}
 use Rattle.logic.specs.Moves.{refusal}
@@ -86,16 +86,16 @@ module _ (u : ℕ) (s before : List ℕ) (accepted : readNumber (answer u s befo
 
   -- the plan is true exactly when the text is
   text-true : PlanTrue plan (spelled plan (take (ownMasks plan) masks)) ↔ TextTrue u masks s
-  unfolding plan admittedPlan planOf ownMasks spelled
+  unfolding plan admittedPlan planOf ownMasks spelled configuration
   text-true =
       let A = admitted in
-      let t = plan-true u (configuration u (inMasks (take (length (A .sets)) masks))) (A .sets) (A .tree) (A .names) in (
+      let t = plan-true u (configured u (length (A .sets)) (inMasks (take (length (A .sets)) masks))) (A .sets) (A .tree) (A .names) in (
         (λ h. record { sets = A .sets; tree = A .tree; derived = A .derived; holds = t .0 h }),
         (λ T. t .1 (one T (unambiguous s (T .sets) (A .sets) (T .tree) (A .tree) (T .derived) (A .derived)))),
       )
     where
       one : (T : TextTrue u masks s) → (T .sets ≡ admitted .sets) × (T .tree ≡ admitted .tree)
-          → TreeTrue u (configuration u (inMasks (take (length (admitted .sets)) masks))) (admitted .sets) [] (admitted .tree)
+          → TreeTrue u (configured u (length (admitted .sets)) (inMasks (take (length (admitted .sets)) masks))) (admitted .sets) [] (admitted .tree)
       one T e = rw (← e .0, ← e .1) (T .holds)
 
   nonempty : Nonempty (plan .formula)

@@ -14,7 +14,7 @@ use borrow.Author.Tests.{eqb-false, eq-eqb, ne-eqb, ltb-true, not-true}
 use Rattle.logic.specs.declared.Move.{Move}
 use Rattle.logic.specs.Formula.{Plan}
 use Rattle.logic.specs.inner.Flip.{flipPort}
-use Rattle.logic.specs.Configuration.{Sets, portsIn, configuration, inMask, inMasks, ownMasks, spelled, enter, leave}
+use Rattle.logic.specs.Configuration.{Sets, portsIn, configuration, configured, inMask, inMasks, ownMasks, spelled, enter, leave}
 use Rattle.logic.specs.Moves.{MoveKind, add, drop, transfer, swap, unknown, moveKind, fieldsKnown, fieldsFit, known, fits, legal, kindMasks, moveMasks, Pair, kindPairs, movePairs, flip, flips}
 use Rattle.logic.specs.Change.{someOf, pairsChange}
 use Rattle.logic.specs.inner.Agreement.{listed, AgreeOff}
@@ -135,9 +135,9 @@ move-masks P m ms h l =
     kind-masks (moveKind (m .kind)) P m ms (kind-known (moveKind (m .kind)) P m (and-left _ _ h)) (and-right (known P m) _ h) l
 
 pub move-spells : (P : Plan) (m : Move) (ms : List ℕ) → legal P (inMasks ms) m ≡ true → ownMasks P ≤ length ms
-    → spelled P (moveMasks m ms) ≡ configuration (P .ports) (flips (movePairs m) (inMasks ms))
+    → spelled P (moveMasks m ms) ≡ configuration P (flips (movePairs m) (inMasks ms))
 unfolding spelled
-move-spells P m ms h l = ap (configuration (P .ports)) (move-masks P m ms h l)
+move-spells P m ms h l = ap (configuration P) (move-masks P m ms h l)
 
 -- off its pairs, a flip leaves membership
 flips-off : (qs : List Pair) (k : Sets) (S p : ℕ) → listed qs S p ≡ false → flips qs k S p ≡ k S p
@@ -155,9 +155,9 @@ unnamed (q ∷ qs) S p h =
     or-false _ _ (and-false (eqb S (q .0)) _ (λ e. absurd (true≢false (sym e ∙ or-left (eqb S (q .0)) _ h))))
     (unnamed qs S p (or-right (eqb S (q .0)) _ h))
 
-pub flips-agree : (u : ℕ) (qs : List Pair) (k : Sets) → AgreeOff (pairsChange qs) (configuration u k) (configuration u (flips qs k))
-unfolding pairsChange configuration
-flips-agree u qs k = record {
+pub flips-agree : (P : Plan) (qs : List Pair) (k : Sets) → AgreeOff (pairsChange qs) (configuration P k) (configuration P (flips qs k))
+unfolding pairsChange configuration configured
+flips-agree P qs k = record {
   members = λ S p h. flips-off qs k S p h;
-  sizes = λ S h. ap (portsIn u) (fun-ext (λ p. flips-off qs k S p (unnamed qs S p h)));
+  sizes = λ S h. ap (portsIn (P .ports)) (fun-ext (λ p. flips-off qs k S p (unnamed qs S p h)));
 }

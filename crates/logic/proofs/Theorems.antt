@@ -10,7 +10,7 @@ use lib.ListN.{length, getD}
 use Rattle.logic.specs.declared.Move.{Move}
 use Rattle.logic.specs.Formula.{Forest, none, tree, Plan, childDepth}
 use Rattle.logic.specs.inner.Literals.{Every, ConstantsLow}
-use Rattle.logic.specs.Configuration.{Sets, Configuration, configuration, inMasks, ownMasks, spelled}
+use Rattle.logic.specs.Configuration.{Sets, Configuration, configuration, configured, inMasks, ownMasks, spelled}
 use Rattle.logic.specs.Truth.{first, ForestTrue, PlanTrue}
 use Rattle.logic.specs.Penalty.{penalty}
 use Rattle.logic.specs.Cells.{cellCount, tupleAt, tabulate, siblingFirst, layout, ownCells, cells, rootPenalty}
@@ -82,29 +82,29 @@ cells-at-most P u1 B B1 k low i =
     (rw (subtree-count (P .ports) (P .formula)) (omega arith)) i
 
 -- the sizes of sets over at most 64 ports
-pub literals-65 : (P : Plan) → P .ports ≤ 64 → ConstantsLow (P .formula) 0 → (k : Sets) → LiteralsAtMost 65 (configuration (P .ports) k) (P .formula) 0
-unfolding configuration
+pub literals-65 : (P : Plan) → P .ports ≤ 64 → ConstantsLow (P .formula) 0 → (k : Sets) → LiteralsAtMost 65 (configuration P k) (P .formula) 0
+unfolding configuration configured
 literals-65 P u64 low k =
-    literals-low (configuration (P .ports) k) (λ S. le-trans (ports-in-le (P .ports) (k S)) u64) (P .formula) 0 low
+    literals-low (configuration P k) (λ S. le-trans (ports-in-le (P .ports) (k S)) u64) (P .formula) 0 low
 
 -- With constants at most 64 and u at most 64 no penalty is above 65 × cells.
 pub cells-at-most-65 : (P : Plan) → 1 ≤ P .ports → P .ports ≤ 64 → ConstantsLow (P .formula) 0 → (k : Sets)
-    → (i : ℕ) → getD (cells P (configuration (P .ports) k)) i 0 ≤ 65 * ownCells P
-cells-at-most-65 P u1 u64 low k = cells-at-most P u1 65 (omega arith) (configuration (P .ports) k) (literals-65 P u64 low k)
+    → (i : ℕ) → getD (cells P (configuration P k)) i 0 ≤ 65 * ownCells P
+cells-at-most-65 P u1 u64 low k = cells-at-most P u1 65 (omega arith) (configuration P k) (literals-65 P u64 low k)
 
 -- "No true penalty exceeds 65 × 1,048,576 = 68,157,440."
 pub cells-at-most-total : (P : Plan) → 1 ≤ P .ports → P .ports ≤ 64 → ConstantsLow (P .formula) 0 → ownCells P ≤ 1048576 → (k : Sets)
-    → (i : ℕ) → getD (cells P (configuration (P .ports) k)) i 0 ≤ 68157440
+    → (i : ℕ) → getD (cells P (configuration P k)) i 0 ≤ 68157440
 cells-at-most-total P u1 u64 low few k i = omega (arith, cells-at-most-65 P u1 u64 low k i)
 
 -- True cells stay true under any flipped pairs, and so under every legal move.
 pub flips-true : (P : Plan) → 1 ≤ P .ports → P .ports ≤ 64 → ConstantsLow (P .formula) 0 → ownCells P ≤ 1048576
-    → (k : Sets) (qs : List Pair) (table : List ℕ) → Stands table 0 (cells P (configuration (P .ports) k))
-    → newCells P (configuration (P .ports) (flips qs k)) (pairsChange qs) table ≡ cells P (configuration (P .ports) (flips qs k))
+    → (k : Sets) (qs : List Pair) (table : List ℕ) → Stands table 0 (cells P (configuration P k))
+    → newCells P (configuration P (flips qs k)) (pairsChange qs) table ≡ cells P (configuration P (flips qs k))
 unfolding modulus
 flips-true P u1 u64 low few k qs table h =
-    new-cells-true P u1 65 (omega arith) (pairsChange qs) (configuration (P .ports) k) (configuration (P .ports) (flips qs k))
-    (flips-agree (P .ports) qs k) (literals-65 P u64 low k) (literals-65 P u64 low (flips qs k)) (omega arith) table h
+    new-cells-true P u1 65 (omega arith) (pairsChange qs) (configuration P k) (configuration P (flips qs k))
+    (flips-agree P qs k) (literals-65 P u64 low k) (literals-65 P u64 low (flips qs k)) (omega arith) table h
 
 pub move-true : (P : Plan) → 1 ≤ P .ports → P .ports ≤ 64 → ConstantsLow (P .formula) 0 → ownCells P ≤ 1048576
     → (m : Move) (ms : List ℕ) → legal P (inMasks ms) m ≡ true → ownMasks P ≤ length ms
@@ -112,4 +112,4 @@ pub move-true : (P : Plan) → 1 ≤ P .ports → P .ports ≤ 64 → ConstantsL
 unfolding spelled
 move-true P u1 u64 low few m ms h l =
     rw (move-spells P m ms h l)
-    (flips-true P u1 u64 low few (inMasks ms) (movePairs m) (cells P (configuration (P .ports) (inMasks ms))) (stands-self _))
+    (flips-true P u1 u64 low few (inMasks ms) (movePairs m) (cells P (configuration P (inMasks ms))) (stands-self _))

@@ -24,9 +24,13 @@ unfoldable pub portsIn : ℕ → (ℕ → Bool) → ℕ
 portsIn zero s = 0
 portsIn (suc u) s = portsIn u s + indicator (s u)
 
--- The configuration of sets over the ports below u.
-unfoldable pub configuration : ℕ → Sets → Configuration
-configuration u k = record { member = k; size = λ S. portsIn u (k S) }
+-- The configuration of n sets over the ports below u: what is in a set, and how many ports are.
+unfoldable pub configured : ℕ → ℕ → Sets → Configuration
+configured u n k = record { member = k; size = λ S. portsIn u (k S) }
+
+-- The configuration of a plan's sets.
+unfoldable pub configuration : Plan → Sets → Configuration
+configuration P k = configured (P .ports) (P .sets) k
 
 -- "bit p set means that port p is in the set"
 unfoldable pub inMask : ℕ → ℕ → Bool
@@ -40,7 +44,7 @@ unfoldable pub ownMasks : Plan → ℕ
 ownMasks P = P .sets
 
 unfoldable pub spelled : Plan → List ℕ → Configuration
-spelled P masks = configuration (P .ports) (inMasks masks)
+spelled P masks = configuration P (inMasks masks)
 
 -- Ground 13 is "a mask with a port of u or more"; this is the mask that has none.
 unfoldable pub withinPorts : ℕ → ℕ → Bool

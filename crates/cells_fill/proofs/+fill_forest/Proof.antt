@@ -45,7 +45,7 @@ fill-forest-claims t = (end-of-reads.Asked, end-of-reads.Learnt, kind-of-reads.A
 fill-forest-returns : (t : ℕ) → fill-forest-lts.Need-returns (fill-forest-claims t) (fill-forest-at t) fill-forest.Post
 unfolding recordLength
 fill-forest-returns t c =
-    fill-none (c .before .before .before .before .args .part .now) (c .before .before .before .before .args .i) (c .before .before .before .before .args .above) (c .before .before .before .before .args .ports) (c .before .before .before .before .args .depth) (c .before .before .before .before .args .over) (c .before .before .before .before .args .at) (c .before .before .before .before .args .masks .now) (c .before .before .before .before .args .cells .now) (c .if1 .taken)
+    fill-none (c .before .before .before .before .args .part .now) (c .before .before .before .before .args .i) (c .before .before .before .before .args .above) (c .before .before .before .before .args .ports) (c .before .before .before .before .args .sets) (c .before .before .before .before .args .depth) (c .before .before .before .before .args .over) (c .before .before .before .before .args .at) (c .before .before .before .before .args .masks .now) (c .before .before .before .before .args .cells .now) (c .if1 .taken)
 
 fill-forest-end-of-requires : (t : ℕ) → fill-forest-lts.Need-end-of-requires (fill-forest-claims t) (fill-forest-at t) fill-forest.Post
 unfolding recordLength

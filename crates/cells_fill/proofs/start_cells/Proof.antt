@@ -22,7 +22,7 @@ same-length c = search needs
 returns : tie.Need-returns
 unfolding started
 returns c =
-    c .before .before .put-literal .ensures ∙ ap (λ (x : List ℕ). x ++ drop (c .before .before .before .before .before .before .before .args .width) (c .before .before .before .before .before .before .before .args .cells .now)) (tabulate-cong (c .before .before .before .before .before .before .before .args .width) _ _ (λ t h. start-literal (config (c .before .before .before .before .before .before .before .args .ports) (c .before .before .before .before .before .before .before .args .masks .now)) (c .before .before .before .before .before .before .before .args .kind) (c .before .before .before .before .before .before .before .args .relation) (c .before .before .before .before .before .before .before .args .a) (c .before .before .before .before .before .before .before .args .b) _ (c .before .before .before .before .if1 .taken) (kind-low _ _ _ _ _ _ (c .before .before .before .before .before .before .before .pre .fields))))
+    c .before .before .put-literal .ensures ∙ ap (λ (x : List ℕ). x ++ drop (c .before .before .before .before .before .before .before .args .width) (c .before .before .before .before .before .before .before .args .cells .now)) (tabulate-cong (c .before .before .before .before .before .before .before .args .width) _ _ (λ t h. start-literal (config (c .before .before .before .before .before .before .before .args .ports) (c .before .before .before .before .before .before .before .args .sets) (c .before .before .before .before .before .before .before .args .masks .now)) (c .before .before .before .before .before .before .before .args .kind) (c .before .before .before .before .before .before .before .args .relation) (c .before .before .before .before .before .before .before .args .a) (c .before .before .before .before .before .before .before .args .b) _ (c .before .before .before .before .if1 .taken) (kind-low _ _ _ _ _ _ (c .before .before .before .before .before .before .before .pre .fields))))
 
 join-of-requires : tie.Need-join-of-requires
 join-of-requires c κs = search needs
@@ -37,7 +37,7 @@ same-length-2 c = search needs
 returns-2 : tie.Need-returns-2
 unfolding started
 returns-2 c =
-    c .before .before .put-unit .ensures ∙ ap (λ (x : List ℕ). x ++ drop (c .before .before .before .before .before .before .before .before .args .width) (c .before .before .before .before .before .before .before .before .args .cells .now)) (tabulate-cong (c .before .before .before .before .before .before .before .before .args .width) _ _ (λ t h. ap unitOf (c .before .before .before .before .join-of .ensures) ∙ start-inner (config (c .before .before .before .before .before .before .before .before .args .ports) (c .before .before .before .before .before .before .before .before .args .masks .now)) (c .before .before .before .before .before .before .before .before .args .kind) (c .before .before .before .before .before .before .before .before .args .relation) (c .before .before .before .before .before .before .before .before .args .a) (c .before .before .before .before .before .before .before .before .args .b) _ (omega arith)))
+    c .before .before .put-unit .ensures ∙ ap (λ (x : List ℕ). x ++ drop (c .before .before .before .before .before .before .before .before .args .width) (c .before .before .before .before .before .before .before .before .args .cells .now)) (tabulate-cong (c .before .before .before .before .before .before .before .before .args .width) _ _ (λ t h. ap unitOf (c .before .before .before .before .join-of .ensures) ∙ start-inner (config (c .before .before .before .before .before .before .before .before .args .ports) (c .before .before .before .before .before .before .before .before .args .sets) (c .before .before .before .before .before .before .before .before .args .masks .now)) (c .before .before .before .before .before .before .before .before .args .kind) (c .before .before .before .before .before .before .before .before .args .relation) (c .before .before .before .before .before .before .before .before .args .a) (c .before .before .before .before .before .before .before .before .args .b) _ (omega arith)))
 
 pub start-cells-spec : {M : Type 1} → statement M
 start-cells-spec =

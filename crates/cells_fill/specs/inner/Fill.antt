@@ -5,7 +5,7 @@ use mathlib.Core.List.{List, [], _∷_, _++_}
 use Prim.Native.Nat.{ℕ, _+_, _*_, _^_, _≤_}
 use lib.ListN.{length, getD, take, drop}
 use Rattle.logic.specs.Formula.{Node, root, all, any, and, or, lit, Forest, none, tree, Plan, kindNumber, nodeCount, childDepth}
-use Rattle.logic.specs.Configuration.{Configuration, configuration, inMasks, ownMasks, spelled, allWithin}
+use Rattle.logic.specs.Configuration.{Configuration, configured, inMasks, ownMasks, spelled, allWithin}
 use Rattle.logic.specs.Truth.{Tuple}
 use Rattle.logic.specs.Penalty.{literalPenalty, below, penalty}
 use Rattle.logic.specs.Cells.{cellCount, tupleAt, tabulate, layout, ownCells, cells as planCells}
@@ -29,8 +29,8 @@ unfoldable pub treewise : ℕ → Configuration → Node → Forest → Tuple �
 treewise u k n none e = []
 treewise u k n (tree m c s) e = below u n e (λ x. penalty u k m c x ∷ []) ++ treewise u k n s e
 
-abbrev pub config : ℕ → List ℕ → Configuration
-config u masks = configuration u (inMasks masks)
+abbrev pub config : ℕ → ℕ → List ℕ → Configuration
+config u n masks = configured u n (inMasks masks)
 
 -- The cells of a forest's nodes.
 unfoldable pub table : ℕ → Configuration → Forest → ℕ → List ℕ
@@ -47,9 +47,9 @@ pub record StartPlaced (kind relation a b sets ports depth width : ℕ) (masks c
   pub sets-masks : sets ≤ length masks
   pub within : allWithin ports masks ≡ true
 
-unfoldable pub started : ℕ → ℕ → ℕ → ℕ → ℕ → ℕ → ℕ → List ℕ → List ℕ → List ℕ
-started kind relation a b ports depth width masks cells =
-    tabulate width (λ t. startCell (config ports masks) (nodeOf kind relation a b) (tupleAt ports depth t)) ++ drop width cells
+unfoldable pub started : ℕ → ℕ → ℕ → ℕ → ℕ → ℕ → ℕ → ℕ → List ℕ → List ℕ → List ℕ
+started kind relation a b sets ports depth width masks cells =
+    tabulate width (λ t. startCell (config ports sets masks) (nodeOf kind relation a b) (tupleAt ports depth t)) ++ drop width cells
 
 -- Where the records of some trees stand below a node `parent`, and their cells from place `at` on; the first `over` cells are
 -- the parent's.
@@ -76,16 +76,16 @@ pub record FillPlaced (l : List ℕ) (i above ports sets depth width over at : �
 
 -- The cells afterwards: the parent's joined with those of the trees, what stood between as it was, the trees' own, and the rest
 -- as it was.
-pub record Filled (above ports depth over at outer : ℕ) (n : Node) (f : Forest) (masks before after : List ℕ) (r : ℕ) : Type 0 where
+pub record Filled (above ports sets depth over at outer : ℕ) (n : Node) (f : Forest) (masks before after : List ℕ) (r : ℕ) : Type 0 where
   pub ends-at : r ≡ at + cellCount ports f depth
   pub cells-are : (A G X R : List ℕ) → before ≡ A ++ (G ++ (X ++ R)) → length A ≡ over → length A + length G ≡ at → length X ≡ cellCount ports f depth
-      → after ≡ tabulate over (λ t. joinAll (joinOf above) (getD A t 0) (treewise ports (config ports masks) n f (tupleAt ports outer t)))
-      ++ (G ++ (table ports (config ports masks) f depth ++ R))
+      → after ≡ tabulate over (λ t. joinAll (joinOf above) (getD A t 0) (treewise ports (config ports sets masks) n f (tupleAt ports outer t)))
+      ++ (G ++ (table ports (config ports sets masks) f depth ++ R))
 
-unfoldable pub Fills : List ℕ → ℕ → ℕ → ℕ → ℕ → ℕ → ℕ → List ℕ → List ℕ → List ℕ → ℕ → Type 0
-Fills l i above ports depth over at masks before after r =
+unfoldable pub Fills : List ℕ → ℕ → ℕ → ℕ → ℕ → ℕ → ℕ → ℕ → List ℕ → List ℕ → List ℕ → ℕ → Type 0
+Fills l i above ports sets depth over at masks before after r =
     (n : Node) (outer : ℕ) (f : Forest) (up : ℕ) → kindNumber n ≡ above → depth ≡ childDepth n outer → over ≡ ports ^ outer → l ≡ records f i up
-    → Filled above ports depth over at outer n f masks before after r
+    → Filled above ports sets depth over at outer n f masks before after r
 
 -- A table that passed its check, masks within the ports and room for every cell.
 pub record FillReady (bytes : List ℕ) (ports sets nodes : ℕ) (masks cells : List ℕ) : Type 0 where

@@ -4,7 +4,7 @@ use mathlib.Core.Bool.{Bool}
 use mathlib.Core.List.{List}
 use Prim.Native.Nat.{ℕ, _+_, _<_}
 use Rattle.logic.specs.Formula.{Node, Forest, tree, nodeCount}
-use Rattle.logic.specs.Configuration.{configuration, inMasks}
+use Rattle.logic.specs.Configuration.{configured, inMasks}
 use Rattle.logic.specs.Truth.{Tuple}
 use Rattle.logic.specs.Change.{Change, modulus, cellOf}
 use Rattle.cells_touch.specs.declared.Changed.{Changed}
@@ -35,7 +35,7 @@ unfoldable pub CellGives : ℕ → ℕ → Changed → List ℕ → List ℕ →
 CellGives u sets c bytes firsts ends uses masks cells i d place digits word r =
     (ch : Change) (n : Node) (f s : Forest) (b : ℕ) (e : Tuple) → Ready u sets c firsts ends uses masks cells ch
     → Visit u sets ch bytes firsts ends uses cells i (tree n f s) b d e place digits word
-    → CellAfter u (configuration u (inMasks masks)) ch (cellOf u cells) n f b d e r
+    → CellAfter u (configured u sets (inMasks masks)) ch (cellOf u cells) n f b d e r
 
 -- The walk stands before the trees of a forest, which end at node `until`.
 pub record TreesReady (u sets : ℕ) (c : Changed) (bytes firsts ends uses masks cells : List ℕ) (i until d place digits word : ℕ) (acc : Sum) : Type 0 where
@@ -52,7 +52,7 @@ unfoldable pub TreesGive : ℕ → ℕ → Changed → List ℕ → List ℕ →
 TreesGive u sets c bytes firsts ends uses masks cells i until d place digits word add acc r =
     (ch : Change) (f : Forest) (b : ℕ) (e : Tuple) → Ready u sets c firsts ends uses masks cells ch
     → Visit u sets ch bytes firsts ends uses cells i f b d e place digits word → until ≡ i + nodeCount f
-    → TreesAfter u (configuration u (inMasks masks)) ch (cellOf u cells) add f b d e acc r
+    → TreesAfter u (configured u sets (inMasks masks)) ch (cellOf u cells) add f b d e acc r
 
 -- The walk stands below a quantifier at depth d, before the tree of its one child at each port.
 pub record PortsReady (u sets : ℕ) (c : Changed) (bytes firsts ends uses masks cells : List ℕ) (i d row digits word used : ℕ) (acc : Sum) : Type 0 where
@@ -69,4 +69,4 @@ unfoldable pub PortsSo : ℕ → ℕ → Changed → List ℕ → List ℕ → L
 PortsSo u sets c bytes firsts ends uses masks cells i d row digits word used add m acc r =
     (ch : Change) (f : Forest) (b : ℕ) (e : Tuple) → Ready u sets c firsts ends uses masks cells ch
     → PortsVisit u sets ch bytes firsts ends uses cells i f b d e row digits word used
-    → PortsAfter u (configuration u (inMasks masks)) ch (cellOf u cells) add f b d e m acc r
+    → PortsAfter u (configured u sets (inMasks masks)) ch (cellOf u cells) add f b d e m acc r

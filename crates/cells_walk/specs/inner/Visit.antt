@@ -5,7 +5,7 @@ use mathlib.Core.List.{List, [], _∷_}
 use Prim.Native.Nat.{ℕ, suc, _+_, _*_, _^_, _%_, _≤_, _<_}
 use lib.ListN.{length, getD}
 use Rattle.logic.specs.Formula.{Literal, Node, lit, Forest, tree, none, kindNumber, nodeCount}
-use Rattle.logic.specs.Configuration.{Configuration, configuration, inMasks, withinPorts}
+use Rattle.logic.specs.Configuration.{Configuration, configured, inMasks, withinPorts}
 use Rattle.logic.specs.Truth.{Tuple}
 use Rattle.logic.specs.Penalty.{literalPenalty, eachPort, sum}
 use Rattle.logic.specs.Cells.{placeOf, cellCount}
@@ -79,7 +79,7 @@ pub record LiteralReady (u sets d kind relation a b : ℕ) (masks : List ℕ) (d
 unfoldable pub Afresh : ℕ → ℕ → ℕ → ℕ → ℕ → ℕ → ℕ → List ℕ → ℕ → ℕ → Type 0
 Afresh u sets d kind relation a b masks digits r =
     (l : Literal) (e : Tuple) → LiteralAt u sets d kind relation a b masks digits l e
-    → r ≡ literalPenalty (configuration u (inMasks masks)) l e
+    → r ≡ literalPenalty (configured u sets (inMasks masks)) l e
 
 -- The same of the record of node i.
 pub record RecordReady (u sets d : ℕ) (bytes : List ℕ) (i : ℕ) (masks : List ℕ) (digits : ℕ) : Type 0 where
