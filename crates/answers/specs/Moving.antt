@@ -4,20 +4,14 @@ use mathlib.Core.Path.{_≡_}
 use mathlib.Core.List.{List}
 use Prim.Native.Nat.{ℕ}
 use lib.ListN.{length}
-use Rattle.logic.specs.declared.Move.{Move}
 use Rattle.table_format.specs.Decode.{Decoded}
 use Rattle.contracts.specs.declared.Moved.{Moved}
 use Rattle.contracts.specs.declared.Improved.{Improved}
 use Rattle.contracts.specs.MoveCall.{movedNumber, movedBefore, movedAfter, movedChanged}
 use Rattle.contracts.specs.TrialCall.{ScratchAfter}
 use Rattle.contracts.specs.ImproveCall.{improvedNumber, improvedFound, improvedMove, improvedBefore, improvedAfter, improvedChanged, Improves}
-use Rattle.answers.specs.declared.MoveRecord.{MoveRecord}
 use Rattle.answers.specs.declared.MoveAnswer.{MoveAnswer}
 use Rattle.answers.specs.declared.ImproveAnswer.{ImproveAnswer}
-
--- The move that a C record is: the same five numbers.
-unfoldable pub moveOf : MoveRecord → Move
-moveOf m = record { kind = m .kind; s = m .s; t = m .t; p = m .p; q = m .q }
 
 -- "The answer is the number with all other fields 0", and the three numbers of an accepted move: each field by the call's own
 -- definitions.
@@ -41,7 +35,7 @@ pub record TrialGives (d : Decoded) (given : Moved) (r : MoveAnswer) (scratch sc
 pub record ImproveFields (a : Improved) (r : ImproveAnswer) : Type 0 where
   pub number-is : r .number ≡ improvedNumber a
   pub found-is : r .found ≡ improvedFound a
-  pub move-is : moveOf (r .chosen) ≡ improvedMove a
+  pub move-is : r .chosen ≡ improvedMove a
   pub before-is : r .before ≡ improvedBefore a
   pub after-is : r .after ≡ improvedAfter a
   pub changed-is : r .changed ≡ improvedChanged a

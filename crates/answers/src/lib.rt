@@ -9,7 +9,8 @@ ghost use mathlib.Core.Path.{_≡_};
 ghost use Rattle.contracts.specs.declared.Moved.the-variants.{Accepted};
 ghost use Rattle.contracts.specs.declared.Improved.the-variants.{Made};
 ghost use Rattle.answers.specs.Boundary.{ReadFields, LoadFields};
-ghost use Rattle.answers.specs.Moving.{moveOf, MoveFields, ImproveFields};
+ghost use Rattle.answers.specs.Moving.{MoveFields, ImproveFields};
+ghost use Rattle.contracts.specs.ImproveCall.{noMove};
 
 // Root before, root after, and how many cells differ.
 pub fn accepted(r: After) -> Moved
@@ -50,13 +51,6 @@ pub struct LoadAnswer {
     pub cells: u32,
 }
 
-// vk_part: a part of the caller's cell table. A slice cannot be handed back to C, so the part is said by place and length.
-#[repr(C)]
-pub struct Part {
-    pub first: usize,
-    pub count: usize,
-}
-
 pub fn read_fields(a: Answer) -> ReadAnswer
     ensures { λ r. ⌜ ReadFields a r ⌝ }
 {
@@ -91,16 +85,6 @@ pub fn load_fields(a: Loaded) -> LoadAnswer
     }
 }
 
-// vk_move_record: a move as a C caller gives it and improve hands it back.
-#[repr(C)]
-pub struct MoveRecord {
-    pub kind: u32,
-    pub s: u32,
-    pub t: u32,
-    pub p: u32,
-    pub q: u32,
-}
-
 // vk_move_answer: 0 or the ground's number, root before, root after, how many cells differ.
 #[repr(C)]
 pub struct MoveAnswer {
@@ -115,33 +99,22 @@ pub struct MoveAnswer {
 pub struct ImproveAnswer {
     pub number: u32,
     pub found: u32,
-    pub chosen: MoveRecord,
+    pub chosen: Move,
     pub before: u32,
     pub after: u32,
     pub changed: u32,
 }
 
-pub fn move_of(m: MoveRecord) -> Move
-    ensures { λ r. ⌜ r ≡ moveOf m ⌝ }
+// The move of an answer that has none: all 0.
+fn no_move() -> Move
+    ensures { λ r. ⌜ r ≡ noMove ⌝ }
 {
     Move {
-        kind: m.kind,
-        s: m.s,
-        t: m.t,
-        p: m.p,
-        q: m.q,
-    }
-}
-
-fn record_of(chosen: Move) -> MoveRecord
-    ensures { λ r. ⌜ moveOf r ≡ chosen ⌝ }
-{
-    MoveRecord {
-        kind: chosen.kind,
-        s: chosen.s,
-        t: chosen.t,
-        p: chosen.p,
-        q: chosen.q,
+        kind: 0,
+        s: 0,
+        t: 0,
+        p: 0,
+        q: 0,
     }
 }
 
@@ -180,7 +153,7 @@ pub fn improve_fields(a: Improved) -> ImproveAnswer
         } => ImproveAnswer {
             number: 0,
             found: 1,
-            chosen: record_of(chosen),
+            chosen,
             before,
             after,
             changed,
@@ -188,13 +161,7 @@ pub fn improve_fields(a: Improved) -> ImproveAnswer
         Improved::NoBetter { root } => ImproveAnswer {
             number: 0,
             found: 0,
-            chosen: MoveRecord {
-                kind: 0,
-                s: 0,
-                t: 0,
-                p: 0,
-                q: 0,
-            },
+            chosen: no_move(),
             before: root,
             after: root,
             changed: 0,
@@ -202,13 +169,7 @@ pub fn improve_fields(a: Improved) -> ImproveAnswer
         Improved::Refused(number) => ImproveAnswer {
             number: number as u32,
             found: 0,
-            chosen: MoveRecord {
-                kind: 0,
-                s: 0,
-                t: 0,
-                p: 0,
-                q: 0,
-            },
+            chosen: no_move(),
             before: 0,
             after: 0,
             changed: 0,

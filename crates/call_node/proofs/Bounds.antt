@@ -8,12 +8,13 @@ use native.Mathlib.Omega.{arith}
 use lib.Dec.{ltb}
 use lib.ListN.{length, getD, drop, List·getD-append}
 use borrow.Author.Tests.{lt-ltb, le-ltb}
-use Rattle.logic.specs.Formula.{Forest, nodeCount}
-use Rattle.logic.specs.Cells.{cellCount, firstCells}
+use Rattle.logic.specs.Formula.{Forest, Plan, nodeCount}
+use Rattle.logic.specs.Cells.{cellCount, ownCells, firstCells}
 use Rattle.table_format.specs.inner.Index.{laid}
 use Rattle.table_format.proofs.Laid.{length-firsts}
+use Rattle.table_format.proofs.Ready.{own-count}
 use Rattle.call_node.specs.inner.Bounds.{boundAt}
-use Rattle.contracts.proofs.NodeParts.{bounded, bounded-is, last-bound}
+use Rattle.contracts.proofs.NodeParts.{bounded, bounded-is, last-bound, NodeBounds, node-bounds}
 
 -- the bounds as the code reads them from the index table
 pub bound-read : (u : ℕ) (f : Forest) (zs firsts : List ℕ) (i nodes total : ℕ) → firsts ≡ laid zs 0 (firstCells u f 0 0) → nodes ≡ nodeCount f → total ≡ cellCount u f 0
@@ -36,3 +37,13 @@ bound-read u f zs firsts i nodes total e n t h = go (decLt i nodes)
         ap (λ (b : Bool). cond b (getD firsts i 0) total) (le-ltb i nodes (omega arith))
         ∙ t ∙ (let q : cellCount u f 0 ≡ 0 + cellCount u f 0 = omega arith in q) ∙ sym (last-bound u f 0 0)
         ∙ ap (λ (k : ℕ). getD (bounded u f 0 0) k 0) (let q : nodeCount f ≡ i = omega arith in q)
+
+-- the bounds that the code reads from the check's index table
+pub bounds-of : (P : Plan) (zs firsts : List ℕ) (node from to nodes total : ℕ) → firsts ≡ laid zs 0 (firstCells (P .ports) (P .formula) 0 0)
+    → nodes ≡ nodeCount (P .formula) → total ≡ ownCells P → node < nodes → from ≡ boundAt firsts node nodes total → to ≡ boundAt firsts (node + 1) nodes total
+    → NodeBounds (P .ports) (P .formula) node from to total
+bounds-of P zs firsts node from to nodes total e n t h a b =
+    let q = t ∙ own-count P in
+    node-bounds (P .ports) (P .formula) node from to total (omega (arith, n)) q
+    (a ∙ bound-read (P .ports) (P .formula) zs firsts node nodes total e n q (omega arith))
+    (b ∙ bound-read (P .ports) (P .formula) zs firsts (node + 1) nodes total e n q (omega arith))

@@ -2,7 +2,7 @@
 use mathlib.Core.Path.{_≡_}
 use mathlib.Core.Bool.{true, not}
 use mathlib.Core.List.{List, [], _∷_, _++_}
-use Prim.Native.Nat.{ℕ, zero, suc, _≤_, _<_}
+use Prim.Native.Nat.{ℕ, zero, suc, _<_}
 use lib.ListN.{length, getD, take, drop}
 use Rattle.logic.specs.declared.Move.{Move}
 use Rattle.logic.specs.Formula.{Plan}
@@ -14,6 +14,7 @@ use Rattle.table_format.specs.Decode.{Decoded, broken, sound}
 use Rattle.contracts.specs.declared.Improved.{Improved}
 use Rattle.contracts.specs.declared.Improved.the-variants.{Made, NoBetter, Refused}
 use Rattle.contracts.specs.MoveCall.{tableGrounds, cellsAfter}
+use Rattle.contracts.specs.Least.{NoneBelow}
 
 -- "The answer is the number with all other fields 0."
 unfoldable pub improvedNumber : Improved → ℕ
@@ -73,7 +74,7 @@ pub record Candidate (P : Plan) (kinds : ℕ) (own : List ℕ) (m : Move) : Type
 pub record MadeBest (P : Plan) (kinds : ℕ) (own before : List ℕ) (m : Move) (b a n : ℕ) (own′ after : List ℕ) : Type 0 where
   pub candidate : Candidate P kinds own m
   pub smaller : rootAfter P m own before < rootNow before
-  pub least : (m′ : Move) → Candidate P kinds own m′ → rootAfter P m own before ≤ rootAfter P m′ own before
+  pub least : NoneBelow (Candidate P kinds own) (λ x. rootAfter P x own before) (rootAfter P m own before)
   pub before-is : b ≡ rootNow before
   pub after-is : a ≡ rootAfter P m own before
   pub changed-is : n ≡ differing before (cellsAfter P m own before)
@@ -82,7 +83,7 @@ pub record MadeBest (P : Plan) (kinds : ℕ) (own before : List ℕ) (m : Move) 
 
 -- "Otherwise it answers "no better move" with the root and writes only scratch."
 pub record NoneBetter (P : Plan) (kinds : ℕ) (own before : List ℕ) (r : ℕ) (own′ after : List ℕ) : Type 0 where
-  pub none-smaller : (m : Move) → Candidate P kinds own m → rootNow before ≤ rootAfter P m own before
+  pub none-smaller : NoneBelow (Candidate P kinds own) (λ x. rootAfter P x own before) (rootNow before)
   pub root-is : r ≡ rootNow before
   pub masks-kept : own′ ≡ own
   pub cells-kept : after ≡ before

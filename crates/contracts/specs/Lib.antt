@@ -5,6 +5,7 @@ pub mod NodeCells
 pub mod OwnParts
 pub mod Book
 pub mod ImproveCall
+pub mod Least
 pub mod Lists
 pub mod MoveCall
 pub mod TrialCall

@@ -11,6 +11,13 @@ pub enum Loaded {
     Refused(u8),
 }
 
+// A node's cells: a part of the caller's cell table by place and length. vk_part: a slice cannot be handed back to C.
+#[repr(C)]
+pub struct Part {
+    pub first: usize,
+    pub count: usize,
+}
+
 // A move and a trial answer root before, root after and how many cells differ.
 pub enum Moved {
     Accepted {

@@ -9,7 +9,8 @@ ghost use Rattle.logic.specs.inner.Flip.{flipPort};
 ghost use Rattle.logic.specs.Penalty.{compare, sizePenalty};
 
 // A move as the operator gives it: kind, set S, set T, port p, port q. The fields are wide, so that no value is cut before
-// ground 14 sees it.
+// ground 14 sees it. The same struct at the C boundary, vk_move_record.
+#[repr(C)]
 pub struct Move {
     pub kind: u32,
     pub s: u32,

@@ -1,25 +1,35 @@
--- What vk_move, vk_trial and vk_improve give, from what the calls below them give. Assumes nothing.
-use mathlib.Core.Path.{_≡_, sym, ap, subst, _∙_}
+-- What the exported functions give, from what the calls below them give. Assumes nothing.
+use mathlib.Core.Path.{_≡_, sym, ap, subst}
 use mathlib.Core.List.{List}
 use Prim.Native.Nat.{ℕ}
 use lib.ListN.{length}
-use Rattle.logic.specs.declared.Move.{Move}
 use Rattle.table_format.specs.Decode.{Decoded}
+use Rattle.contracts.specs.declared.Answer.{Answer}
+use Rattle.contracts.specs.declared.Loaded.{Loaded}
 use Rattle.contracts.specs.declared.Moved.{Moved}
 use Rattle.contracts.specs.declared.Improved.{Improved}
-use Rattle.contracts.specs.MoveCall.{movedNumber, moves}
-use Rattle.contracts.specs.TrialCall.{trials, ScratchAfter}
+use Rattle.contracts.specs.MoveCall.{movedNumber}
+use Rattle.contracts.specs.TrialCall.{ScratchAfter}
 use Rattle.contracts.specs.ImproveCall.{improvedNumber, Improves}
-use Rattle.answers.specs.declared.MoveRecord.{MoveRecord}
+use Rattle.answers.specs.declared.ReadAnswer.{ReadAnswer}
+use Rattle.answers.specs.declared.LoadAnswer.{LoadAnswer}
 use Rattle.answers.specs.declared.MoveAnswer.{MoveAnswer}
 use Rattle.answers.specs.declared.ImproveAnswer.{ImproveAnswer}
-use Rattle.answers.specs.Moving.{moveOf, MoveFields, MoveGives, TrialGives, ImproveFields, ImproveGives}
+use Rattle.answers.specs.Boundary.{ReadFields, ReadGives, LoadFields, LoadGives}
+use Rattle.answers.specs.Moving.{MoveFields, MoveGives, TrialGives, ImproveFields, ImproveGives}
 
--- the C record's move, and the answer field by field
-pub move-gives : (d : Decoded) (n : MoveRecord) (m : Move) (masks cells masks′ cells′ : List ℕ) (a : Moved) (r : MoveAnswer) → m ≡ moveOf n
-    → (a, masks′, cells′) ≡ moves d m masks cells → MoveFields a r → MoveGives (moves d (moveOf n) masks cells) r masks′ cells′
-move-gives d n m masks cells masks′ cells′ a r p q f =
-    let e : (a, masks′, cells′) ≡ moves d (moveOf n) masks cells = q ∙ ap (λ (x : Move). moves d x masks cells) p in
+-- an answer handed on field by field
+pub read-gives : (a : Answer) (t : List ℕ) (given : Answer × List ℕ) (r : ReadAnswer) → (a, t) ≡ given → ReadFields a r → ReadGives given r t
+read-gives a t given r e f =
+    record { fields = subst (λ (x : Answer × List ℕ). ReadFields (x .0) r) e f; table-is = ap (λ (x : Answer × List ℕ). x .1) e }
+
+pub load-gives : (a : Loaded) (t : List ℕ) (given : Loaded × List ℕ) (r : LoadAnswer) → (a, t) ≡ given → LoadFields a r → LoadGives given r t
+load-gives a t given r e f =
+    record { fields = subst (λ (x : Loaded × List ℕ). LoadFields (x .0) r) e f; cells-are = ap (λ (x : Loaded × List ℕ). x .1) e }
+
+pub move-gives : (given : Moved × List ℕ × List ℕ) (masks′ cells′ : List ℕ) (a : Moved) (r : MoveAnswer)
+    → (a, masks′, cells′) ≡ given → MoveFields a r → MoveGives given r masks′ cells′
+move-gives given masks′ cells′ a r e f =
     record {
       fields = subst (λ (x : Moved × List ℕ × List ℕ). MoveFields (x .0) r) e f;
       masks-are = ap (λ (x : Moved × List ℕ × List ℕ). x .1) e;
@@ -27,11 +37,9 @@ move-gives d n m masks cells masks′ cells′ a r p q f =
     }
 
 -- the number that scratch is held to is the struct's own
-pub trial-gives : (d : Decoded) (n : MoveRecord) (m : Move) (masks cells scratch scratch′ : List ℕ) (a : Moved) (r : MoveAnswer) → m ≡ moveOf n
-    → a ≡ trials d m masks cells (length scratch) → ScratchAfter d (movedNumber a) scratch scratch′ → MoveFields a r
-    → TrialGives d (trials d (moveOf n) masks cells (length scratch)) r scratch scratch′
-trial-gives d n m masks cells scratch scratch′ a r p q s f =
-    let e : a ≡ trials d (moveOf n) masks cells (length scratch) = q ∙ ap (λ (x : Move). trials d x masks cells (length scratch)) p in
+pub trial-gives : (d : Decoded) (given : Moved) (scratch scratch′ : List ℕ) (a : Moved) (r : MoveAnswer)
+    → a ≡ given → ScratchAfter d (movedNumber a) scratch scratch′ → MoveFields a r → TrialGives d given r scratch scratch′
+trial-gives d given scratch scratch′ a r e s f =
     record {
       fields = subst (λ (x : Moved). MoveFields x r) e f;
       scratch-is = subst (λ (x : ℕ). ScratchAfter d x scratch scratch′) (sym (f .number-is)) s;

@@ -4,29 +4,28 @@
 use answers::ImproveAnswer;
 use answers::LoadAnswer;
 use answers::MoveAnswer;
-use answers::MoveRecord;
-use answers::Part;
 use answers::ReadAnswer;
 use answers::improve_fields;
 use answers::load_fields;
 use answers::move_fields;
-use answers::move_of;
 use answers::read_fields;
 use call_improve::improve;
 use call_load::load;
 use call_move::make_move;
 use call_move::trial;
-use call_node::bound_of;
+use call_node::node_bounds;
 use call_read::read;
-use table_check::check;
+use contracts::Part;
+use logic::Move;
 ghost use lib.ListN.{length};
 ghost use Rattle.table_format.specs.Decode.{decode};
 ghost use Rattle.contracts.specs.Read.{reads};
 ghost use Rattle.contracts.specs.Load.{loads};
 ghost use Rattle.contracts.specs.MoveCall.{moves};
 ghost use Rattle.contracts.specs.TrialCall.{trials};
-ghost use Rattle.answers.specs.Boundary.{ReadGives, LoadGives, PartGives};
-ghost use Rattle.answers.specs.Moving.{moveOf, MoveGives, TrialGives, ImproveGives};
+ghost use Rattle.contracts.specs.NodeCells.{PartGives};
+ghost use Rattle.answers.specs.Boundary.{ReadGives, LoadGives};
+ghost use Rattle.answers.specs.Moving.{MoveGives, TrialGives, ImproveGives};
 
 // Reads a plan text and writes its plan table.
 #[no_mangle]
@@ -49,42 +48,17 @@ pub extern "C" fn vk_load(table: &[u8], masks: &[u64], cells: &mut [u32]) -> Loa
 // A node's cells, as a part of the caller's cell table: {0, 0} where 11, 12 or a node past the count applies.
 #[no_mangle]
 pub extern "C" fn vk_node_cells(table: &[u8], cells: &[u32], node: usize) -> Part
-    ensures { λ r. ⌜ PartGives (decode (now (table .entry))) (now (cells .entry)) node r ⌝ }
+    ensures { λ r. ⌜ PartGives (decode (now (table .entry))) (length (now (cells .entry))) node r ⌝ }
 {
-    let mut firsts = [0u32; 512];
-    let mut ends = [0u16; 512];
-    let mut uses = [0u64; 512];
-    let info = check(table, &mut firsts, &mut ends, &mut uses);
-    if !info.ok {
-        return Part { first: 0, count: 0 };
-    }
-    let nodes = info.nodes;
-    let total = info.cells;
-    if cells.len() < total {
-        return Part { first: 0, count: 0 };
-    }
-    if nodes <= node {
-        return Part { first: 0, count: 0 };
-    }
-    let from = bound_of(&firsts, node, nodes, total);
-    let to = bound_of(&firsts, node + 1, nodes, total);
-    Part {
-        first: from,
-        count: to - from,
-    }
+    node_bounds(table, cells.len(), node)
 }
 
 // Makes a move: writes its masks and the touched cells in place.
 #[no_mangle]
-pub extern "C" fn vk_move(
-    table: &[u8],
-    masks: &mut [u64],
-    cells: &mut [u32],
-    m: MoveRecord,
-) -> MoveAnswer
-    ensures { λ r. ⌜ MoveGives (moves (decode (now (table .entry))) (moveOf m) (now (masks .entry)) (now (cells .entry))) r (now (masks .exit)) (now (cells .exit)) ⌝ }
+pub extern "C" fn vk_move(table: &[u8], masks: &mut [u64], cells: &mut [u32], m: Move) -> MoveAnswer
+    ensures { λ r. ⌜ MoveGives (moves (decode (now (table .entry))) m (now (masks .entry)) (now (cells .entry))) r (now (masks .exit)) (now (cells .exit)) ⌝ }
 {
-    let a = make_move(table, masks, cells, move_of(m));
+    let a = make_move(table, masks, cells, m);
     move_fields(a)
 }
 
@@ -95,11 +69,11 @@ pub extern "C" fn vk_trial(
     masks: &[u64],
     cells: &[u32],
     scratch: &mut [u32],
-    m: MoveRecord,
+    m: Move,
 ) -> MoveAnswer
-    ensures { λ r. ⌜ TrialGives (decode (now (table .entry))) (trials (decode (now (table .entry))) (moveOf m) (now (masks .entry)) (now (cells .entry)) (length (now (scratch .entry)))) r (now (scratch .entry)) (now (scratch .exit)) ⌝ }
+    ensures { λ r. ⌜ TrialGives (decode (now (table .entry))) (trials (decode (now (table .entry))) m (now (masks .entry)) (now (cells .entry)) (length (now (scratch .entry)))) r (now (scratch .entry)) (now (scratch .exit)) ⌝ }
 {
-    let a = trial(table, masks, cells, scratch, move_of(m));
+    let a = trial(table, masks, cells, scratch, m);
     move_fields(a)
 }
 

@@ -1,5 +1,5 @@
 use borrow.Author.Needs.{needs}
-use Rattle.vuyekhang.proofs.Parts.{load-gives}
+use Rattle.vuyekhang.proofs.Handing.{load-gives}
 use Rattle.vuyekhang.proofs.vk_load.Statement.{statement}
 use Rattle.vuyekhang.proofs.vk_load.Tie as tie
 

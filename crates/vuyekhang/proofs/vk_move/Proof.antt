@@ -3,9 +3,6 @@ use Rattle.vuyekhang.proofs.Handing.{move-gives}
 use Rattle.vuyekhang.proofs.vk_move.Statement.{statement}
 use Rattle.vuyekhang.proofs.vk_move.Tie as tie
 
-move-of-requires : tie.Need-move-of-requires
-move-of-requires c κs = search needs
-
 make-move-requires : tie.Need-make-move-requires
 make-move-requires c κs = search needs
 
@@ -20,13 +17,12 @@ same-length-2 c = search needs
 
 returns : tie.Need-returns
 returns c =
-    move-gives _ _ _ _ _ _ _ _ _ (c .before .before .before .before .before .before .move-of .ensures) (c .before .before .before .before .before .make-move .ensures) (c .move-fields .ensures)
+    move-gives _ _ _ _ _ (c .before .before .before .before .before .make-move .ensures) (c .move-fields .ensures)
 
 pub vk-move-spec : {M : Type 1} → statement M
 vk-move-spec =
     tie.close
     (tie.spec
-    move-of-requires
     make-move-requires
     move-fields-requires
     same-length

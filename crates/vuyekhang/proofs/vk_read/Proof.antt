@@ -1,5 +1,5 @@
 use borrow.Author.Needs.{needs}
-use Rattle.vuyekhang.proofs.Parts.{read-gives}
+use Rattle.vuyekhang.proofs.Handing.{read-gives}
 use Rattle.vuyekhang.proofs.vk_read.Statement.{statement}
 use Rattle.vuyekhang.proofs.vk_read.Tie as tie
 
