@@ -20,6 +20,7 @@ fn meet_of(join: u8, x: u32, y: u32) -> u32
     y
 }
 
+// The join of no cells: 0, or the largest number, above every true penalty.
 fn unit_of(join: u8) -> u32
     ensures { λ r. ⌜ r ≡ unitOf join ⌝ }
 {
@@ -87,12 +88,14 @@ pub fn merge(join: u8, over: usize, s: usize, at: usize, cells: &mut [u32])
     }
 }
 
+// How a kind joins the cells below it: `@` and `&`, the odd kinds, add.
 pub fn join_of(kind: u8) -> u8
     ensures { λ r. ⌜ r ≡ joinOf kind ⌝ }
 {
     1 - kind % 2
 }
 
+// How many cells of a child stand below one cell: a quantifier has one for each port.
 pub fn spread_of(kind: u8, ports: usize) -> usize
     ensures { λ r. ⌜ r ≡ spreadOf kind ports ⌝ }
 {

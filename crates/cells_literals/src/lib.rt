@@ -16,6 +16,7 @@ ghost use Rattle.logic.specs.Penalty.{sizePenalty, literalPenalty};
 ghost use Rattle.logic.specs.Cells.{tupleAt, tabulate};
 ghost use Rattle.cells_literals.specs.inner.Literal.{literalOf, LiteralPlaced};
 
+// The mask of a set.
 fn mask_at(masks: &[u64], set: usize) -> u64
     requires { ⌜ set < length (now masks) ⌝ }
     ensures { λ r. ⌜ r ≡ getD (now (masks .entry)) set 0 ⌝ }

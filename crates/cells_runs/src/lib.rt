@@ -12,6 +12,7 @@ pub struct Digit {
     pub left: usize,
 }
 
+// The port after this one; after the last the first.
 fn next_port(port: u32, ports: u32) -> u32
     requires { ⌜ (port < ports) × (ports ≤ 64) ⌝ }
     ensures { λ r. ⌜ r ≡ (port + 1) % ports ⌝ }
@@ -40,6 +41,7 @@ pub fn next_digit(d: Digit, block: usize, ports: u32) -> Digit
     }
 }
 
+// How many tuples n variables have; at most two stand inside a third.
 fn power(ports: usize, n: usize) -> usize
     requires { ⌜ (ports ≤ 64) × (n ≤ 2) ⌝ }
     ensures { λ r. ⌜ r ≡ ports ^ n ⌝ }
@@ -74,6 +76,7 @@ pub fn put_run(from: usize, len: usize, value: u32, cells: &mut [u32])
     }
 }
 
+// The lesser of two lengths.
 pub fn lesser(a: usize, b: usize) -> usize
     ensures { λ r. ⌜ r ≡ min a b ⌝ }
 {

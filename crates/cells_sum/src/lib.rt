@@ -21,6 +21,7 @@ pub struct Sum {
     pub changed: u32,
 }
 
+// The lesser of two penalties.
 fn lesser(a: u32, b: u32) -> u32
     ensures { λ r. ⌜ r ≡ min a b ⌝ }
 {

@@ -35,6 +35,7 @@ fn level_of(depth: usize) -> u64
     0x4444444444444444
 }
 
+// Every bit but that of variable `depth`, in every set.
 fn other_levels(depth: usize) -> u64
     ensures { λ r. ⌜ r ≡ otherLevels depth ⌝ }
 {
@@ -81,6 +82,7 @@ pub fn port_word(c: Changed, word: u64, depth: usize, x: usize) -> u64
     rest_word(word, depth) | (at_port(c, x) & level_of(depth))
 }
 
+// The bits of a set that say which variables it is tested at.
 fn variable_bits(set: usize) -> u64
     requires { ⌜ set < 16 ⌝ }
     ensures { λ r. ⌜ r ≡ variableBits set ⌝ }
@@ -88,6 +90,7 @@ fn variable_bits(set: usize) -> u64
     bit(4 * set) | bit(4 * set + 1) | bit(4 * set + 2)
 }
 
+// The bit of a set that says that its size is tested.
 fn size_bit(set: usize) -> u64
     requires { ⌜ set < 16 ⌝ }
     ensures { λ r. ⌜ r ≡ sizeBit set ⌝ }
@@ -120,6 +123,7 @@ fn change_at(s: usize, t: usize, p: usize, q: usize) -> Changed
     }
 }
 
+// A field of a move as an index.
 fn wide(x: u32) -> usize
     ensures { λ r. ⌜ r ≡ x ⌝ }
 {

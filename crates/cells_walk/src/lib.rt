@@ -25,6 +25,7 @@ ghost use Rattle.table_format.specs.Bytes.{headerLength, recordLength, kindFiel
 ghost use Rattle.cells_walk.specs.inner.Nodes.{recordAt};
 ghost use Rattle.cells_walk.specs.inner.Visit.{LiteralReady, Afresh, RecordReady, RecordAfresh};
 
+// A cell's place as an index; its bound, so that a place may be added.
 fn wide(x: u32) -> usize
     ensures { λ r. ⌜ (r ≡ x) × (r < 4294967296) ⌝ }
 {
@@ -53,6 +54,7 @@ pub fn kept(firsts: &[u32], i: usize, place: usize, cells: &[u32]) -> After
     }
 }
 
+// The node behind all that stand below node i.
 pub fn end_at(ends: &[u16], i: usize) -> usize
     requires { ⌜ i < length (now ends) ⌝ }
     ensures { λ r. ⌜ r ≡ getD (now (ends .entry)) i 0 ⌝ }
@@ -60,6 +62,7 @@ pub fn end_at(ends: &[u16], i: usize) -> usize
     ends[i] as usize
 }
 
+// How node i and those below it use the sets, four bits a set.
 pub fn uses_at(uses: &[u64], i: usize) -> u64
     requires { ⌜ i < length (now uses) ⌝ }
     ensures { λ r. ⌜ r ≡ getD (now (uses .entry)) i 0 ⌝ }
@@ -67,6 +70,7 @@ pub fn uses_at(uses: &[u64], i: usize) -> u64
     uses[i]
 }
 
+// A node's kind.
 pub fn kind_at(table: &[u8], i: usize) -> u8
     requires { ⌜ headerLength + recordLength * i + recordLength ≤ length (now table) ⌝ }
     ensures { λ r. ⌜ r ≡ kindField (recordAt (now (table .entry)) i) ⌝ }
@@ -104,6 +108,7 @@ pub fn with_port(digits: u32, depth: usize, x: usize) -> u32
     digits + 65536 * port
 }
 
+// The mask of a set.
 fn mask_at(masks: &[u64], set: u8) -> u64
     requires { ⌜ set < length (now masks) ⌝ }
     ensures { λ r. ⌜ r ≡ getD (now (masks .entry)) set 0 ⌝ }
@@ -197,6 +202,7 @@ pub fn first_port(all: bool, c: Changed) -> usize
     c.p
 }
 
+// After the last of them it is the number of ports.
 pub fn next_port(all: bool, c: Changed, x: usize, ports: usize) -> usize
     requires { ⌜ x < ports ⌝ }
     ensures { λ r. ⌜ r ≡ cond all (x + 1) (cond (ltb x (c .q)) (c .q) ports) ⌝ }

@@ -12,6 +12,7 @@ fn room() -> [u32; 16384] {
     [0; 16384]
 }
 
+// The lesser of two: a cut behind the end of an input cuts nothing off.
 fn least(a: usize, b: usize) -> usize
     ensures { λ r. ⌜ r ≡ min a b ⌝ }
 {
@@ -21,13 +22,12 @@ fn least(a: usize, b: usize) -> usize
     b
 }
 
-// The line for an input that comes in two pieces, the first of at most `cut` bytes.
-fn line_of(input: &[u8], cut: usize) -> Line {
+// The line for an input that comes in two pieces.
+fn line_of(first: &[u8], rest: &[u8]) -> Line {
     let mut masks = [0u64; 16];
     let mut text = [0u8; 4097];
-    let k = least(cut, input.len());
-    let a = step(start(), &input[0..k], &mut masks, &mut text);
-    let b = step(a, &input[k..], &mut masks, &mut text);
+    let a = step(start(), first, &mut masks, &mut text);
+    let b = step(a, rest, &mut masks, &mut text);
     let mut table = [0u8; 4105];
     let mut cells = room();
     finish(b, &mut masks, &text, &mut table, &mut cells)
@@ -35,20 +35,26 @@ fn line_of(input: &[u8], cut: usize) -> Line {
 
 // An input whole.
 fn whole(input: &[u8]) {
-    say_line(line_of(input, 0));
+    say_line(line_of(input, b""));
 }
 
-// An input whole and cut at some places: the same line each time.
+// An input of which the first piece has at most n bytes.
+fn cut_at(input: &[u8], n: usize) {
+    let k = least(n, input.len());
+    say_line(line_of(&input[0..k], &input[k..]));
+}
+
+// An input cut at some places: the same line each time.
 fn cut(input: &[u8]) {
-    say_line(line_of(input, 0));
-    say_line(line_of(input, 1));
-    say_line(line_of(input, 2));
-    say_line(line_of(input, 3));
-    say_line(line_of(input, 7));
-    say_line(line_of(input, 20));
+    cut_at(input, 0);
+    cut_at(input, 1);
+    cut_at(input, 2);
+    cut_at(input, 3);
+    cut_at(input, 7);
+    cut_at(input, 20);
 }
 
-// The first two lines: no line end, line 2 ended by the input, words that are no digit runs.
+// The first two lines: no line end, line 2 ended by the input.
 fn lines() {
     whole(b"");
     whole(b"3");
@@ -56,6 +62,10 @@ fn lines() {
     whole(b"3\n1");
     whole(b"3\n1\n");
     whole(b"65\n1");
+}
+
+// Words that are no digit runs.
+fn words() {
     whole(b"\n1\n[S] ?x x:S");
     whole(b"01\n1\n[S] ?x x:S");
     whole(b"1 \n1\n[S] ?x x:S");
@@ -100,9 +110,11 @@ fn cells() {
     );
 }
 
+// Plan A cut, then inputs by what is wrong with them.
 pub fn all() {
     cut(b"3\n3 7 1\n[STI] @x (x:I <-> x:S & x:T) & #I <= 1");
     lines();
+    words();
     ports();
     masks();
     cells();

@@ -12,14 +12,17 @@ fn room() -> [u32; 800000] {
     [0; 800000]
 }
 
+// One room for cells serves the texts and the plans: two would not fit on the stack.
 fn main() {
     let mut cells = room();
     heading(b"texts");
-    texts::all(&mut cells);
+    texts::all();
+    texts::large_plans(&mut cells);
     heading(b"inputs");
     inputs::all();
     heading(b"plans");
-    plans::all(&mut cells);
+    plans::all();
+    plans::large_plans(&mut cells);
     heading(b"moves");
     moves::all();
 }

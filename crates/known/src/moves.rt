@@ -55,6 +55,7 @@ fn moves(table: &[u8], masks: &mut [u64], cells: &mut [u32]) {
     made(table, masks, cells, one_port(1, 1, 1));
 }
 
+// Reads and loads plan A, then moves.
 pub fn all() {
     let mut table = [0u8; 121];
     let mut masks = [3u64, 7, 1];

@@ -15,6 +15,7 @@ fn byte(b: u8) {
     number(b as u32);
 }
 
+// Ends a line.
 fn end() {
     io::write_all(1, b"\n");
 }

@@ -17,22 +17,25 @@ fn wrapped(j: usize, n: usize) -> usize
     0
 }
 
-// Lays a piece again and again over out, from place `from` up to place `to`, as far as there is room.
-fn lay(out: &mut [u8], from: usize, to: usize, piece: &[u8]) {
-    if piece.len() == 0 {
-        return;
-    }
+// Lays a piece again and again over `length` places of out from place `from` on, as far as there is room: where it ends.
+fn lay(out: &mut [u8], from: usize, length: usize, piece: &[u8]) -> usize {
     let mut i = from;
+    if piece.len() == 0 {
+        return i;
+    }
+    let mut left = length;
     let mut j = 0;
-    while i < to {
+    while 0 < left {
         if out.len() <= i {
-            return;
+            return i;
         }
         let k = wrapped(j, piece.len());
         out[i] = piece[k];
         i += 1;
         j = k + 1;
+        left -= 1;
     }
+    i
 }
 
 // Room for the largest table.
@@ -40,6 +43,7 @@ fn blank_table() -> [u8; 4105] {
     [0; 4105]
 }
 
+// Room for the longest text that is laid.
 fn spaces() -> [u8; 8192] {
     [32; 8192]
 }
@@ -60,29 +64,14 @@ fn run(u: u64, text: &[u8], masks: &[u64], cells: &mut [u32]) {
 // A text of four parts, the second and the fourth of so many bytes, laid from pieces; read over one port.
 fn say_long(first: &[u8], piece: &[u8], length: usize, middle: &[u8], last: &[u8], more: usize) {
     let mut text = spaces();
-    if 1000 < first.len() {
-        return;
-    }
-    if 1000 < middle.len() {
-        return;
-    }
-    if 4100 < length {
-        return;
-    }
-    if 4100 < more {
-        return;
-    }
-    let a = first.len();
-    let b = a + length;
-    let c = b + middle.len();
-    let d = c + more;
-    lay(&mut text, 0, a, first);
-    lay(&mut text, a, b, piece);
-    lay(&mut text, b, c, middle);
-    lay(&mut text, c, d, last);
+    let a = lay(&mut text, 0, first.len(), first);
+    let b = lay(&mut text, a, length, piece);
+    let c = lay(&mut text, b, middle.len(), middle);
+    let d = lay(&mut text, c, more, last);
     say_part(&text, d);
 }
 
+// Reads the first bytes of a text.
 fn say_part(text: &[u8], length: usize) {
     if text.len() < length {
         return;
@@ -90,29 +79,41 @@ fn say_part(text: &[u8], length: usize) {
     say(1, &text[0..length]);
 }
 
+// Reads and loads a small plan.
+fn small(u: u64, text: &[u8], masks: &[u64]) {
+    let mut cells = [0u32; 128];
+    run(u, text, masks, &mut cells);
+}
+
+// A plan of one set.
+fn one_set(u: u64, text: &[u8], mask: u64) {
+    let masks = [mask];
+    small(u, text, &masks);
+}
+
+// Plan A.
+fn plan_a() {
+    let masks = [3u64, 7, 1];
+    small(3, b"[STI] @x (x:I <-> x:S & x:T) & #I <= 1", &masks);
+}
+
+// A plan over two masks.
+fn two_masks(u: u64, text: &[u8]) {
+    let masks = [1u64, 1];
+    small(u, text, &masks);
+}
+
 // The starred plans, in the paper's order.
 fn starred() {
-    let mut cells = [0u32; 128];
-    let three = [3u64, 7, 1];
-    let one = [1u64, 1];
-    run(
-        3,
-        b"[STI] @x (x:I <-> x:S & x:T) & #I <= 1",
-        &three,
-        &mut cells,
-    );
-    run(2, b"[ST] @x (x/S | x:T) & ?x (x:T & x/S)", &one, &mut cells);
-    let none = [0u64];
-    run(1, b"[S] ?x x:S", &none, &mut cells);
-    run(1, b"[S] ?x x:S", &one, &mut cells);
-    run(64, b"[S] #S < 0", &none, &mut cells);
-    let full = [18446744073709551615u64];
-    run(64, b"[S] #S > 64", &full, &mut cells);
-    run(64, b"[S] #S = 2", &none, &mut cells);
-    let four = [15u64];
-    run(64, b"[S] #S = 2", &four, &mut cells);
-    let two = [3u64];
-    run(64, b"[S] #S != 2", &two, &mut cells);
+    plan_a();
+    two_masks(2, b"[ST] @x (x/S | x:T) & ?x (x:T & x/S)");
+    one_set(1, b"[S] ?x x:S", 0);
+    two_masks(1, b"[S] ?x x:S");
+    one_set(64, b"[S] #S < 0", 0);
+    one_set(64, b"[S] #S > 64", 18446744073709551615);
+    one_set(64, b"[S] #S = 2", 0);
+    one_set(64, b"[S] #S = 2", 15);
+    one_set(64, b"[S] #S != 2", 3);
 }
 
 // u at its boundaries.
@@ -165,39 +166,46 @@ fn quantifiers() {
     say(64, b"[S] @x @y @z (x:S & y:S & z:S)");
 }
 
+// A literal and a piece again and again.
+fn say_tail(piece: &[u8], length: usize) {
+    say_long(b"[S] #S<1", piece, length, b"", b"", 0);
+}
+
+// A literal inside pieces.
+fn say_nested(piece: &[u8], length: usize, last: &[u8], more: usize) {
+    say_long(b"[S] ", piece, length, b"#S<1", last, more);
+}
+
+// So many `(` and `)`, with no space, so that more of them fit.
+fn say_brackets(length: usize, more: usize) {
+    say_long(b"[S]", b"(", length, b"#S<1", b")", more);
+}
+
 // Texts of 4,096 and 4,097 bytes.
 fn lengths() {
-    say_long(b"[S] #S<1", b" ", 4088, b"", b"", 0);
-    say_long(b"[S] #S<1", b" ", 4089, b"", b"", 0);
+    say_tail(b" ", 4088);
+    say_tail(b" ", 4089);
 }
 
 // 64 and 65 of `~` and `(`, and thousands.
 fn nestings() {
-    say_long(b"[S] ", b"~", 64, b"#S<1", b"", 0);
-    say_long(b"[S] ", b"~", 65, b"#S<1", b"", 0);
-    say_long(b"[S] ", b"(", 64, b"#S<1", b")", 64);
-    say_long(b"[S] ", b"(", 65, b"#S<1", b")", 65);
-    say_long(b"[S]", b"(", 2044, b"#S<1", b")", 2044);
-    say_long(b"[S]", b"(", 4088, b"#S<1", b"", 0);
+    say_nested(b"~", 64, b"", 0);
+    say_nested(b"~", 65, b"", 0);
+    say_nested(b"(", 64, b")", 64);
+    say_nested(b"(", 65, b")", 65);
+    say_brackets(2044, 2044);
+    say_brackets(4088, 0);
 }
 
 // 512 and 513 nodes, and `<->` nested 64 deep.
 fn many_nodes() {
-    say_long(b"[S] #S<1", b"&#S<1", 2545, b"", b"", 0);
-    say_long(b"[S] #S<1", b"&#S<1", 2550, b"", b"", 0);
-    say_long(b"[S] ", b"(", 64, b"#S<1", b"<->#S<1)", 512);
-    say_long(b"[S] ", b"(", 64, b"#S<1", b"<->#S<1)", 513);
+    say_tail(b"&#S<1", 2545);
+    say_tail(b"&#S<1", 2550);
+    say_nested(b"(", 64, b"<->#S<1)", 512);
+    say_nested(b"(", 64, b"<->#S<1)", 513);
 }
 
-// An output table of just the plan's length, and one byte less: the old bytes stay.
-fn tables() {
-    let mut table = [7u8; 36];
-    say_short(b"[S] ?x x:S", &mut table, 32);
-    show_bytes(&table);
-    say_short(b"[S] ?x x:S", &mut table, 33);
-    show_bytes(&table);
-}
-
+// Reads a text into the first bytes of a table.
 fn say_short(text: &[u8], table: &mut [u8], length: usize) {
     if table.len() < length {
         return;
@@ -205,20 +213,37 @@ fn say_short(text: &[u8], table: &mut [u8], length: usize) {
     say_read(read(1, text, &mut table[0..length]));
 }
 
-// 65,536 conjuncts are false: 16 bits would have stored 0. Then 790,594 cells.
-fn large_plans(cells: &mut [u32]) {
-    let none = [0u64];
-    run(
-        64,
-        b"[S] @x @y (x:S&x:S&x:S&x:S&x:S&x:S&x:S&x:S&x:S&x:S&x:S&x:S&x:S&x:S&x:S&x:S)",
-        &none,
-        cells,
-    );
-    run(64, b"[S] @x @y @z (x:S & y:S)", &none, cells);
-    run(64, b"[S] @x @y @z (x:S & y:S & z:S)", &none, cells);
+// Reads into a table of this length, and shows what is there.
+fn table_of(length: usize) {
+    let mut table = [7u8; 36];
+    say_short(b"[S] ?x x:S", &mut table, length);
+    show_bytes(&table);
 }
 
-pub fn all(cells: &mut [u32]) {
+// One byte less than the plan's length: the old bytes stay. Then just its length.
+fn tables() {
+    table_of(32);
+    table_of(33);
+}
+
+// A plan over 64 ports, the set empty.
+fn large(text: &[u8], cells: &mut [u32]) {
+    let none = [0u64];
+    run(64, text, &none, cells);
+}
+
+// 65,536 conjuncts are false: 16 bits would have stored 0. Then 790,594 cells, and one conjunct more.
+pub fn large_plans(cells: &mut [u32]) {
+    large(
+        b"[S] @x @y (x:S&x:S&x:S&x:S&x:S&x:S&x:S&x:S&x:S&x:S&x:S&x:S&x:S&x:S&x:S&x:S)",
+        cells,
+    );
+    large(b"[S] @x @y @z (x:S & y:S)", cells);
+    large(b"[S] @x @y @z (x:S & y:S & z:S)", cells);
+}
+
+// The small texts, ground by ground.
+pub fn all() {
     starred();
     ports();
     bytes_and_grammar();
@@ -229,5 +254,4 @@ pub fn all(cells: &mut [u32]) {
     nestings();
     many_nodes();
     tables();
-    large_plans(cells);
 }

@@ -9,6 +9,7 @@ ghost use Rattle.logic.specs.Configuration.{inMasks};
 ghost use Rattle.logic.specs.Moves.{fits};
 ghost use Rattle.move_legal.specs.inner.Legal.{Fields, MoveNumber, tEnd, MoveReady, qEnd, Says, SaysKnown, KnownOver};
 
+// A number of ports or sets at the width of a move's fields.
 pub fn narrow(x: usize) -> u32
     requires { ⌜ x ≤ 64 ⌝ }
     ensures { λ r. ⌜ r ≡ x ⌝ }
@@ -26,6 +27,7 @@ pub fn t_end(kind: u32, sets: u32) -> u32
     1
 }
 
+// As for T: only a swap has a second port.
 pub fn q_end(kind: u32, ports: u32) -> u32
     ensures { λ r. ⌜ r ≡ qEnd kind ports ⌝ }
 {
@@ -64,6 +66,7 @@ pub fn known_move(m: Move, ports: u32, sets: u32) -> bool
     has_fields(m, ports, sets)
 }
 
+// A set of a move as an index.
 pub fn wide(x: u32) -> usize
     ensures { λ r. ⌜ r ≡ x ⌝ }
 {

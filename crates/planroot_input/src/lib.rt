@@ -13,12 +13,14 @@ pub struct Word {
     pub number: u64,
 }
 
+// A word that no further byte can make a digit run.
 fn no_run() -> Word
     ensures { λ r. ⌜ (r .run ≡ 3) × (r .number ≡ 0) ⌝ }
 {
     Word { run: 3, number: 0 }
 }
 
+// The digit that a byte from `0` on shows.
 fn digit(b: u8) -> u64
     requires { ⌜ 48 ≤ b ⌝ }
     ensures { λ r. ⌜ r ≡ b - 48 ⌝ }
@@ -76,12 +78,14 @@ pub struct Scan {
     pub length: usize,
 }
 
+// A word before its first byte.
 fn empty() -> Word
     ensures { λ r. ⌜ (r .run ≡ 0) × (r .number ≡ 0) ⌝ }
 {
     Word { run: 0, number: 0 }
 }
 
+// Before the first byte of the input: in line 1.
 pub fn start() -> Scan
     ensures { λ r. ⌜ Starts r ⌝ }
 {
@@ -96,6 +100,7 @@ pub fn start() -> Scan
     }
 }
 
+// Whether both hold: the words before and this one.
 fn both(a: bool, b: bool) -> bool
     ensures { λ r. ⌜ r ≡ (a && b) ⌝ }
 {
