@@ -5,6 +5,7 @@ use Prim.Native.Nat.{ℕ}
 use lib.ListN.{length}
 use Rattle.logic.specs.declared.Move.{Move}
 use Rattle.table_format.specs.Decode.{Decoded}
+use Rattle.contracts.specs.State.{State}
 use Rattle.contracts.specs.declared.Moved.{Moved}
 use Rattle.contracts.specs.declared.Improved.{Improved}
 use Rattle.contracts.specs.MoveCall.{movedNumber, moves}
@@ -16,34 +17,33 @@ use Rattle.answers.specs.declared.ImproveAnswer.{ImproveAnswer}
 use Rattle.answers.specs.Moving.{moveOf, MoveFields, MoveGives, TrialGives, ImproveFields, ImproveGives}
 
 -- the C record's move, and the answer field by field
-pub move-gives : (d : Decoded) (n : MoveRecord) (m : Move) (masks cells masks′ cells′ : List ℕ) (a : Moved) (r : MoveAnswer) → m ≡ moveOf n
-    → (a, masks′, cells′) ≡ moves d m masks cells → MoveFields a r → MoveGives (moves d (moveOf n) masks cells) r masks′ cells′
-move-gives d n m masks cells masks′ cells′ a r p q f =
-    let e : (a, masks′, cells′) ≡ moves d (moveOf n) masks cells = q ∙ ap (λ (x : Move). moves d x masks cells) p in
+pub move-gives : (d : Decoded) (n : MoveRecord) (m : Move) (s s′ : State) (a : Moved) (r : MoveAnswer) → m ≡ moveOf n
+    → (a, s′) ≡ moves d m s → MoveFields a r → MoveGives (moves d (moveOf n) s) r s′
+move-gives d n m s s′ a r p q f =
+    let e : (a, s′) ≡ moves d (moveOf n) s = q ∙ ap (λ (x : Move). moves d x s) p in
     record {
-      fields = subst (λ (x : Moved × List ℕ × List ℕ). MoveFields (x .0) r) e f;
-      masks-are = ap (λ (x : Moved × List ℕ × List ℕ). x .1) e;
-      cells-are = ap (λ (x : Moved × List ℕ × List ℕ). x .2) e;
+      fields = subst (λ (x : Moved × State). MoveFields (x .0) r) e f;
+      tables-are = ap (λ (x : Moved × State). x .1) e;
     }
 
 -- the number that scratch is held to is the struct's own
-pub trial-gives : (d : Decoded) (n : MoveRecord) (m : Move) (masks cells scratch scratch′ : List ℕ) (a : Moved) (r : MoveAnswer) → m ≡ moveOf n
-    → a ≡ trials d m masks cells (length scratch) → ScratchAfter d (movedNumber a) scratch scratch′ → MoveFields a r
-    → TrialGives d (trials d (moveOf n) masks cells (length scratch)) r scratch scratch′
-trial-gives d n m masks cells scratch scratch′ a r p q s f =
-    let e : a ≡ trials d (moveOf n) masks cells (length scratch) = q ∙ ap (λ (x : Move). trials d x masks cells (length scratch)) p in
+pub trial-gives : (d : Decoded) (n : MoveRecord) (m : Move) (s : State) (scratch scratch′ : List ℕ) (a : Moved) (r : MoveAnswer) → m ≡ moveOf n
+    → a ≡ trials d m s (length scratch) → ScratchAfter d (movedNumber a) scratch scratch′ → MoveFields a r
+    → TrialGives d (trials d (moveOf n) s (length scratch)) r scratch scratch′
+trial-gives d n m s scratch scratch′ a r p q w f =
+    let e : a ≡ trials d (moveOf n) s (length scratch) = q ∙ ap (λ (x : Move). trials d x s (length scratch)) p in
     record {
       fields = subst (λ (x : Moved). MoveFields x r) e f;
-      scratch-is = subst (λ (x : ℕ). ScratchAfter d x scratch scratch′) (sym (f .number-is)) s;
+      scratch-is = subst (λ (x : ℕ). ScratchAfter d x scratch scratch′) (sym (f .number-is)) w;
     }
 
-pub improve-gives : (d : Decoded) (kinds : ℕ) (masks cells scratch masks′ cells′ scratch′ : List ℕ) (a : Improved) (r : ImproveAnswer)
-    → Improves d kinds masks cells (length scratch) a masks′ cells′ → ScratchAfter d (improvedNumber a) scratch scratch′ → ImproveFields a r
-    → ImproveGives d kinds masks cells scratch r masks′ cells′ scratch′
-improve-gives d kinds masks cells scratch masks′ cells′ scratch′ a r i s f =
+pub improve-gives : (d : Decoded) (kinds : ℕ) (s : State) (scratch : List ℕ) (s′ : State) (scratch′ : List ℕ) (a : Improved) (r : ImproveAnswer)
+    → Improves d kinds s (length scratch) a s′ → ScratchAfter d (improvedNumber a) scratch scratch′ → ImproveFields a r
+    → ImproveGives d kinds s scratch r s′ scratch′
+improve-gives d kinds s scratch s′ scratch′ a r i w f =
     record {
       answer = a;
       fields = f;
       improves = i;
-      scratch-is = subst (λ (x : ℕ). ScratchAfter d x scratch scratch′) (sym (f .number-is)) s;
+      scratch-is = subst (λ (x : ℕ). ScratchAfter d x scratch scratch′) (sym (f .number-is)) w;
     }

@@ -23,6 +23,7 @@ ghost use lib.ListN.{length};
 ghost use Rattle.table_format.specs.Decode.{decode};
 ghost use Rattle.contracts.specs.Read.{reads};
 ghost use Rattle.contracts.specs.Load.{loads};
+ghost use Rattle.contracts.specs.State.{tables};
 ghost use Rattle.contracts.specs.MoveCall.{moves};
 ghost use Rattle.contracts.specs.TrialCall.{trials};
 ghost use Rattle.answers.specs.Boundary.{ReadGives, LoadGives, PartGives};
@@ -82,7 +83,7 @@ pub extern "C" fn vk_move(
     cells: &mut [u32],
     m: MoveRecord,
 ) -> MoveAnswer
-    ensures { λ r. ⌜ MoveGives (moves (decode (now (table .entry))) (moveOf m) (now (masks .entry)) (now (cells .entry))) r (now (masks .exit)) (now (cells .exit)) ⌝ }
+    ensures { λ r. ⌜ MoveGives (moves (decode (now (table .entry))) (moveOf m) (tables (now (masks .entry)) (now (cells .entry)))) r (tables (now (masks .exit)) (now (cells .exit))) ⌝ }
 {
     let a = make_move(table, masks, cells, move_of(m));
     move_fields(a)
@@ -97,7 +98,7 @@ pub extern "C" fn vk_trial(
     scratch: &mut [u32],
     m: MoveRecord,
 ) -> MoveAnswer
-    ensures { λ r. ⌜ TrialGives (decode (now (table .entry))) (trials (decode (now (table .entry))) (moveOf m) (now (masks .entry)) (now (cells .entry)) (length (now (scratch .entry)))) r (now (scratch .entry)) (now (scratch .exit)) ⌝ }
+    ensures { λ r. ⌜ TrialGives (decode (now (table .entry))) (trials (decode (now (table .entry))) (moveOf m) (tables (now (masks .entry)) (now (cells .entry))) (length (now (scratch .entry)))) r (now (scratch .entry)) (now (scratch .exit)) ⌝ }
 {
     let a = trial(table, masks, cells, scratch, move_of(m));
     move_fields(a)
@@ -112,7 +113,7 @@ pub extern "C" fn vk_improve(
     scratch: &mut [u32],
     kinds: u32,
 ) -> ImproveAnswer
-    ensures { λ r. ⌜ ImproveGives (decode (now (table .entry))) kinds (now (masks .entry)) (now (cells .entry)) (now (scratch .entry)) r (now (masks .exit)) (now (cells .exit)) (now (scratch .exit)) ⌝ }
+    ensures { λ r. ⌜ ImproveGives (decode (now (table .entry))) kinds (tables (now (masks .entry)) (now (cells .entry))) (now (scratch .entry)) r (tables (now (masks .exit)) (now (cells .exit))) (now (scratch .exit)) ⌝ }
 {
     let a = improve(table, masks, cells, scratch, kinds);
     improve_fields(a)

@@ -17,7 +17,7 @@ same-length c = search needs
 
 returns : tie.Need-returns
 returns c =
-    trial-gives _ _ _ _ _ _ _ _ _ (c .before .before .before .before .move-of .ensures) (c .before .before .before .trial .ensures .0) (c .before .before .before .trial .ensures .1) (c .move-fields .ensures)
+    trial-gives _ _ _ _ _ _ _ _ (c .before .before .before .before .move-of .ensures) (c .before .before .before .trial .ensures .0) (c .before .before .before .trial .ensures .1) (c .move-fields .ensures)
 
 pub vk-trial-spec : {M : Type 1} → statement M
 vk-trial-spec =
