@@ -5,6 +5,7 @@ use mathlib.Core.List.{List}
 use Prim.Native.Nat.{ℕ}
 use lib.ListN.{length}
 use Rattle.table_format.specs.Decode.{Decoded}
+use Rattle.contracts.specs.State.{State}
 use Rattle.contracts.specs.declared.Moved.{Moved}
 use Rattle.contracts.specs.declared.Improved.{Improved}
 use Rattle.contracts.specs.MoveCall.{movedNumber, movedBefore, movedAfter, movedChanged}
@@ -22,10 +23,9 @@ pub record MoveFields (a : Moved) (r : MoveAnswer) : Type 0 where
   pub changed-is : r .changed ≡ movedChanged a
 
 -- The struct, every mask and every cell afterwards.
-pub record MoveGives (given : Moved × List ℕ × List ℕ) (r : MoveAnswer) (masks cells : List ℕ) : Type 0 where
+pub record MoveGives (given : Moved × State) (r : MoveAnswer) (s′ : State) : Type 0 where
   pub fields : MoveFields (given .0) r
-  pub masks-are : masks ≡ given .1
-  pub cells-are : cells ≡ given .2
+  pub tables-are : s′ ≡ given .1
 
 -- The struct, and scratch afterwards: on refusal as it was, and never written past the plan's own cells.
 pub record TrialGives (d : Decoded) (given : Moved) (r : MoveAnswer) (scratch scratch′ : List ℕ) : Type 0 where
@@ -42,8 +42,8 @@ pub record ImproveFields (a : Improved) (r : ImproveAnswer) : Type 0 where
 
 -- The struct is one of the answers that improve may give, with every mask, every cell and scratch afterwards. Its fields leave one
 -- answer alone: found tells a move from none, and a refusal of `Improves` has no number 0.
-pub record ImproveGives (d : Decoded) (kinds : ℕ) (masks cells scratch : List ℕ) (r : ImproveAnswer) (masks′ cells′ scratch′ : List ℕ) : Type 0 where
+pub record ImproveGives (d : Decoded) (kinds : ℕ) (s : State) (scratch : List ℕ) (r : ImproveAnswer) (s′ : State) (scratch′ : List ℕ) : Type 0 where
   pub answer : Improved
   pub fields : ImproveFields answer r
-  pub improves : Improves d kinds masks cells (length scratch) answer masks′ cells′
+  pub improves : Improves d kinds s (length scratch) answer s′
   pub scratch-is : ScratchAfter d (r .number) scratch scratch′

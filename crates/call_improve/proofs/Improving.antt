@@ -1,20 +1,21 @@
 -- The answers of improve, by the grounds in the order in which the code tries them. Assumes nothing.
 use mathlib.Core.Path.{_≡_, refl, sym, ap, ap₂, _∙_, subst}
 use mathlib.Core.Bool.{Bool, true, false, cond, not, _||_}
-use mathlib.Core.List.{List, [], _∷_, _++_}
+use mathlib.Core.List.{List, [], _∷_}
 use Prim.Native.Nat.{ℕ, zero, suc, min}
 use native.Mathlib.Omega.{arith}
 use lib.Dec.{ltb}
-use lib.ListN.{length, take, drop, take-append-drop}
+use lib.ListN.{length, take, take-append-drop}
 use Rattle.logic.specs.Formula.{Plan}
 use Rattle.logic.specs.Configuration.{inMasks, ownMasks, allWithin}
 use Rattle.logic.specs.Cells.{ownCells}
-use Rattle.logic.specs.Moves.{refusal, moveGrounds, moveMasks, known, legal, kindsKnown}
+use Rattle.logic.specs.Moves.{refusal, moveGrounds, known, legal, kindsKnown}
 use Rattle.logic.proofs.Lists.{and-left}
 use Rattle.table_format.specs.Decode.{Decoded, broken, sound}
+use Rattle.contracts.specs.State.{State, tables, ownTables, withRest}
 use Rattle.contracts.specs.declared.Improved.{Improved}
 use Rattle.contracts.specs.declared.Improved.the-variants.{Made, NoBetter, Refused}
-use Rattle.contracts.specs.MoveCall.{tableGrounds, moveAnswer, cellsAfter, movedBefore, movedAfter, movedChanged}
+use Rattle.contracts.specs.MoveCall.{tableGrounds, moveAnswer, tablesAfter, movedBefore, movedAfter, movedChanged}
 use Rattle.contracts.specs.ImproveCall.{improveGrounds, rootNow, rootAfter, Chosen, ImprovesOr, ImprovesPlan, OwnAfter, Improves}
 use Rattle.cells_sum.specs.declared.After.{After}
 use Rattle.call_open.specs.inner.Opening.{openGrounds, openNumber}
@@ -57,22 +58,28 @@ module _ (P : Plan) (kinds : ℕ) (own : List ℕ) (masks-length x y : ℕ) wher
       go false true q = absurd (omega arith)
       go false false q = refl
 
+-- the plan's own part and what is past it are the tables
+own-whole : (P : Plan) (s : State) → s ≡ withRest P (ownTables P s) s
+unfolding withRest ownTables
+own-whole P s = λ i. tables (sym (take-append-drop (ownMasks P) (s .masks)) i) (sym (take-append-drop (ownCells P) (s .cells)) i)
+
 -- a refusal leaves the tables
 refused-own : (P : Plan) (kinds : ℕ) (masks cells : List ℕ) (s g : ℕ)
-    → refusal (improveGrounds P (take (ownMasks P) masks) (length masks) (length cells ∷ s ∷ []) kinds) ≡ suc g → OwnAfter P kinds masks cells s (Refused (suc g)) masks cells
+    → refusal (improveGrounds P (take (ownMasks P) masks) (length masks) (length cells ∷ s ∷ []) kinds) ≡ suc g
+    → OwnAfter P kinds (tables masks cells) s (Refused (suc g)) (tables masks cells)
 unfolding ImprovesPlan ImprovesOr
-refused-own P kinds masks cells s g h = record {
-  own-masks = take (ownMasks P) masks;
-  own-cells = take (ownCells P) cells;
-  improves = subst (λ (n : ℕ). ImprovesOr n P kinds (take (ownMasks P) masks) (take (ownCells P) cells) (Refused (suc g)) (take (ownMasks P) masks) (take (ownCells P) cells)) (sym h) (refl, refl, refl);
-  masks-are = sym (take-append-drop (ownMasks P) masks);
-  cells-are = sym (take-append-drop (ownCells P) cells);
-}
+refused-own P kinds masks cells s g h =
+    let own = ownTables P (tables masks cells) in
+    record {
+      own = own;
+      improves = subst (λ (n : ℕ). ImprovesOr n P kinds own (Refused (suc g)) own) (sym h) (refl, refl);
+      tables-are = own-whole P (tables masks cells);
+    }
 
 pub improve-shut : (d : Decoded) (kinds : ℕ) (masks cells : List ℕ) (s n : ℕ) → (n ≡ 0 → ⊥) → n ≡ openNumber d masks (min (length cells) s)
-    → Improves d kinds masks cells s (Refused n) masks cells
+    → Improves d kinds (tables masks cells) s (Refused n) (tables masks cells)
 unfolding openNumber Improves
-improve-shut broken kinds masks cells s n h q = (ap Refused q, refl, refl)
+improve-shut broken kinds masks cells s n h q = (ap Refused q, refl)
 improve-shut (sound P) kinds masks cells s zero h q = absurd (h refl)
 improve-shut (sound P) kinds masks cells s (suc g) h q =
     refused-own P kinds masks cells s g (closed-first P kinds (take (ownMasks P) masks) (length masks) (length cells) s g q)
@@ -88,29 +95,28 @@ module _ (d : Decoded) (P : Plan) (e : d ≡ sound P) (kinds : ℕ) (masks cells
   unfolding openNumber
   number k h = open-then P kinds own (length masks) (length cells) s k h (ap (λ (x : Decoded). openNumber x masks (min (length cells) s)) (sym e) ∙ opens)
 
-  pub improve-unknown : kindsKnown kinds ≡ false → Improves d kinds masks cells s (Refused 14) masks cells
+  pub improve-unknown : kindsKnown kinds ≡ false → Improves d kinds (tables masks cells) s (Refused 14) (tables masks cells)
   unfolding Improves
   improve-unknown h =
-      subst (λ (x : Decoded). Improves x kinds masks cells s (Refused 14) masks cells) (sym e) (refused-own P kinds masks cells s 13 (number false h))
+      subst (λ (x : Decoded). Improves x kinds (tables masks cells) s (Refused 14) (tables masks cells)) (sym e) (refused-own P kinds masks cells s 13 (number false h))
 
   -- an accepted answer
-  accepted : kindsKnown kinds ≡ true → (r : Improved) (own′ after masks′ cells′ : List ℕ) → Chosen P kinds own before r own′ after
-      → masks′ ≡ own′ ++ drop (ownMasks P) masks → cells′ ≡ after ++ drop (ownCells P) cells → Improves d kinds masks cells s r masks′ cells′
-  unfolding Improves ImprovesPlan ImprovesOr
-  accepted h r own′ after masks′ cells′ c m x =
-      subst (λ (y : Decoded). Improves y kinds masks cells s r masks′ cells′) (sym e) record {
-        own-masks = own′;
-        own-cells = after;
-        improves = subst (λ (n : ℕ). ImprovesOr n P kinds own before r own′ after) (sym (number true h)) c;
-        masks-are = m;
-        cells-are = x;
+  accepted : kindsKnown kinds ≡ true → (r : Improved) (own′ s′ : State) → Chosen P kinds (tables own before) r own′
+      → s′ ≡ withRest P own′ (tables masks cells) → Improves d kinds (tables masks cells) s r s′
+  unfolding Improves ImprovesPlan ImprovesOr ownTables
+  accepted h r own′ s′ c t =
+      subst (λ (y : Decoded). Improves y kinds (tables masks cells) s r s′) (sym e) record {
+        own = own′;
+        improves = subst (λ (n : ℕ). ImprovesOr n P kinds (tables own before) r own′) (sym (number true h)) c;
+        tables-are = t;
       }
 
   module _ (known-kinds : kindsKnown kinds ≡ true) (c : Choice) (chooses : FoundOr (c .found) P kinds own before c) where
-    pub improve-none : c .found ≡ false → Improves d kinds masks cells s (NoBetter (c .root)) masks cells
-    unfolding Chosen
+    pub improve-none : c .found ≡ false → Improves d kinds (tables masks cells) s (NoBetter (c .root)) (tables masks cells)
+    unfolding Chosen ownTables
     improve-none f =
-        accepted known-kinds (NoBetter (c .root)) own before masks cells (none-better P kinds own before c chooses f) (sym (take-append-drop (ownMasks P) masks)) (sym (take-append-drop (ownCells P) cells))
+        accepted known-kinds (NoBetter (c .root)) (tables own before) (tables masks cells) (none-better P kinds own before c chooses f)
+        (own-whole P (tables masks cells))
 
     -- the chosen move meets neither 14 nor 15
     pub chosen-free : c .found ≡ true → refusal (moveGrounds P (inMasks own) (c .m)) ≡ 0
@@ -120,12 +126,12 @@ module _ (d : Decoded) (P : Plan) (e : d ≡ sound P) (kinds : ℕ) (masks cells
         ap₂ (λ (a b : Bool). cond (not a) 14 (cond (not b) 15 0)) (and-left (known P (c .m)) _ l) l
 
     pub improve-made : c .found ≡ true → (r : After) (masks′ cells′ : List ℕ) → Carried P (c .m) masks cells r masks′ cells′
-        → Improves d kinds masks cells s (Made (c .m) (r .old) (r .value) (r .changed)) masks′ cells′
-    unfolding Chosen moveAnswer rootNow rootAfter movedBefore movedAfter movedChanged
+        → Improves d kinds (tables masks cells) s (Made (c .m) (r .old) (r .value) (r .changed)) (tables masks′ cells′)
+    unfolding Chosen moveAnswer rootNow rootAfter movedBefore movedAfter movedChanged tablesAfter withRest
     improve-made f r masks′ cells′ carried =
         let b = made-best P kinds own before c chooses f in
         let a = carried .answer-is in
-        accepted known-kinds (Made (c .m) (r .old) (r .value) (r .changed)) (moveMasks (c .m) own) (cellsAfter P (c .m) own before) masks′ cells′
+        accepted known-kinds (Made (c .m) (r .old) (r .value) (r .changed)) (tablesAfter P (c .m) (tables own before)) (tables masks′ cells′)
         record {
           candidate = b .candidate;
           smaller = b .smaller;
@@ -133,6 +139,5 @@ module _ (d : Decoded) (P : Plan) (e : d ≡ sound P) (kinds : ℕ) (masks cells
           before-is = ap movedBefore a;
           after-is = ap movedAfter a;
           changed-is = ap movedChanged a;
-          masks-are = refl;
-          cells-are = refl;
-        } (carried .masks-are) (carried .cells-are)
+          tables-are = refl;
+        } (λ i. tables (carried .masks-are i) (carried .cells-are i))

@@ -9,6 +9,7 @@ ghost use mathlib.Core.Path.{_≡_};
 ghost use lib.ListN.{length};
 ghost use Rattle.logic.specs.Moves.{kindsKnown};
 ghost use Rattle.table_format.specs.Decode.{decode};
+ghost use Rattle.contracts.specs.State.{tables};
 ghost use Rattle.contracts.specs.TrialCall.{ScratchAfter};
 ghost use Rattle.contracts.specs.ImproveCall.{improvedNumber, Improves};
 
@@ -30,7 +31,7 @@ pub fn improve(
     scratch: &mut [u32],
     kinds: u32,
 ) -> Improved
-    ensures answer { λ r. ⌜ Improves (decode (now (table .entry))) kinds (now (masks .entry)) (now (cells .entry)) (length (now (scratch .entry))) r (now (masks .exit)) (now (cells .exit)) ⌝ }
+    ensures answer { λ r. ⌜ Improves (decode (now (table .entry))) kinds (tables (now (masks .entry)) (now (cells .entry))) (length (now (scratch .entry))) r (tables (now (masks .exit)) (now (cells .exit))) ⌝ }
     ensures lent { λ r. ⌜ ScratchAfter (decode (now (table .entry))) (improvedNumber r) (now (scratch .entry)) (now (scratch .exit)) ⌝ }
 {
     let mut firsts = [0u32; 512];

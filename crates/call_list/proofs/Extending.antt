@@ -9,7 +9,8 @@ use native.Mathlib.Omega.{arith}
 use lib.ListN.{length, take, drop, length-append, length-drop}
 use lib.Seq.{take-all, length-take-le, drop-drop}
 use Rattle.logic.proofs.Lent.{lent, back, lent-is, back-is}
-use Rattle.contracts.specs.Lists.{Exchange, moveCall, trialCall, improveCall, State, Step, Run, ended, called}
+use Rattle.contracts.specs.State.{State}
+use Rattle.contracts.specs.Lists.{Exchange, moveCall, trialCall, improveCall, Step, Run, ended, called}
 use Rattle.table_format.specs.Decode.{decode}
 use Rattle.call_list.specs.Scratch.{ScratchRun, kept}
 use Rattle.call_list.proofs.Scratch.{scratch-snoc, scratch-length}
@@ -58,10 +59,10 @@ lent-all : (at : ℕ) (xs : List ℕ) → lent at xs ≡ drop at xs
 lent-all at xs = take-all (length xs - at) (drop at xs) (omega (arith, length-drop at xs))
 
 -- before the first call
-pub none-yet : (bytes calls masks cells scratch answers : List ℕ)
-    → Worked bytes calls masks cells scratch answers 0 masks cells scratch answers
+pub none-yet : (bytes calls : List ℕ) (s : State) (scratch answers : List ℕ)
+    → Worked bytes calls s scratch answers 0 s scratch answers
 unfolding SayAll allNumbers
-none-yet bytes calls masks cells scratch answers = record {
+none-yet bytes calls s scratch answers = record {
   exchanges = [];
   whole = omega arith;
   room = omega arith;
@@ -72,8 +73,8 @@ none-yet bytes calls masks cells scratch answers = record {
   answers-are = refl;
 }
 
-module _ (bytes calls masks cells scratch answers : List ℕ) (count : ℕ) (masks′ cells′ scratch′ answers′ : List ℕ)
-    (w : Worked bytes calls masks cells scratch answers count masks′ cells′ scratch′ answers′) where
+module _ (bytes calls : List ℕ) (s : State) (scratch answers : List ℕ) (count : ℕ) (s′ : State) (scratch′ answers′ : List ℕ)
+    (w : Worked bytes calls s scratch answers count s′ scratch′ answers′) where
   told-length : length (allNumbers (w .exchanges)) ≡ 10 * count
   told-length =
       length-all (w .exchanges) ∙ ap (λ (j : ℕ). 10 * j) (w .worked)
@@ -95,10 +96,10 @@ module _ (bytes calls masks cells scratch answers : List ℕ) (count : ℕ) (mas
       ap (λ (xs : List ℕ). back (10 * count) xs ys) (w .answers-are)
       ∙ back-is (10 * count) (allNumbers (w .exchanges)) (drop (10 * count) answers) ys told-length
 
-  module _ (masks″ cells″ scratch″ part : List ℕ) where
-    pub one-more : OneWorked bytes (lent (7 * count) calls) masks′ cells′ scratch′ (lent (10 * count) answers′) masks″ cells″ scratch″ part
+  module _ (s″ : State) (scratch″ part : List ℕ) where
+    pub one-more : OneWorked bytes (lent (7 * count) calls) s′ scratch′ (lent (10 * count) answers′) s″ scratch″ part
         → 7 * count + 7 ≤ length calls → 10 * count + 10 ≤ length answers
-        → Worked bytes calls masks cells scratch answers (count + 1) masks″ cells″ scratch″ (back (10 * count) answers′ part)
+        → Worked bytes calls s scratch answers (count + 1) s″ scratch″ (back (10 * count) answers′ part)
     one-more o whole room =
         let next : 10 * count + 10 ≡ 10 * (count + 1) = omega arith in
         record {
@@ -122,18 +123,15 @@ module _ (bytes calls masks cells scratch answers : List ℕ) (count : ℕ) (mas
               ∙ ap (λ (ys : List ℕ). ys ++ drop (10 * (count + 1)) answers) (sym (all-snoc (w .exchanges) (o .exchange)));
         }
 
-    module _ (o : NoneWorked (lent (7 * count) calls) masks′ cells′ scratch′ (lent (10 * count) answers′) masks″ cells″ scratch″ part) where
-      pub none-more : Worked bytes calls masks cells scratch answers count masks″ cells″ scratch″ (back (10 * count) answers′ part)
+    module _ (o : NoneWorked (lent (7 * count) calls) s′ scratch′ (lent (10 * count) answers′) s″ scratch″ part) where
+      pub none-more : Worked bytes calls s scratch answers count s″ scratch″ (back (10 * count) answers′ part)
       none-more = record {
         exchanges = w .exchanges;
         whole = w .whole;
         room = w .room;
         worked = w .worked;
         says = w .says;
-        run = subst (λ (x : List ℕ). Run bytes record { masks = masks; cells = cells } (w .exchanges) record { masks = masks″; cells = x })
-            (sym (o .cells-kept))
-            (subst (λ (x : List ℕ). Run bytes record { masks = masks; cells = cells } (w .exchanges) record { masks = x; cells = cells′ })
-            (sym (o .masks-kept)) (w .run));
+        run = subst (Run bytes s (w .exchanges)) (sym (o .tables-kept)) (w .run);
         scratch-run = subst (ScratchRun (decode bytes) scratch (w .exchanges)) (sym (o .scratch-kept)) (w .scratch-run);
         answers-are = given-back part ∙ ap (λ (ys : List ℕ). allNumbers (w .exchanges) ++ ys) (o .answer-kept ∙ part-is);
       }
@@ -142,16 +140,16 @@ module _ (bytes calls masks cells scratch answers : List ℕ) (count : ℕ) (mas
       stopped-there whole room = unknownTag whole room (subst Unknown (lent-all (7 * count) calls) (o .unknown))
 
 -- by the answer of the leaf
-module _ (r : Bool) (bytes call masks cells scratch answer masks′ cells′ scratch′ answer′ : List ℕ) where
-  pub after-true : r ≡ true → OneAfter r bytes call masks cells scratch answer masks′ cells′ scratch′ answer′
-      → OneWorked bytes call masks cells scratch answer masks′ cells′ scratch′ answer′
+module _ (r : Bool) (bytes call : List ℕ) (s : State) (scratch answer : List ℕ) (s′ : State) (scratch′ answer′ : List ℕ) where
+  pub after-true : r ≡ true → OneAfter r bytes call s scratch answer s′ scratch′ answer′
+      → OneWorked bytes call s scratch answer s′ scratch′ answer′
   unfolding OneAfter
-  after-true e h = subst (λ (x : Bool). OneAfter x bytes call masks cells scratch answer masks′ cells′ scratch′ answer′) e h
+  after-true e h = subst (λ (x : Bool). OneAfter x bytes call s scratch answer s′ scratch′ answer′) e h
 
-  pub after-false : r ≡ false → OneAfter r bytes call masks cells scratch answer masks′ cells′ scratch′ answer′
-      → NoneWorked call masks cells scratch answer masks′ cells′ scratch′ answer′
+  pub after-false : r ≡ false → OneAfter r bytes call s scratch answer s′ scratch′ answer′
+      → NoneWorked call s scratch answer s′ scratch′ answer′
   unfolding OneAfter
-  after-false e h = subst (λ (x : Bool). OneAfter x bytes call masks cells scratch answer masks′ cells′ scratch′ answer′) e h
+  after-false e h = subst (λ (x : Bool). OneAfter x bytes call s scratch answer s′ scratch′ answer′) e h
 
 pub fits-true : (r : Bool) (calls answers : List ℕ) (count : ℕ) → r ≡ true → NextFits r calls answers count
     → (7 * count + 7 ≤ length calls) × (10 * count + 10 ≤ length answers)
@@ -176,25 +174,25 @@ scratch-lent xs asked x lent e h =
     length-take-le (lent - 0) xs (omega arith) ∙ omega arith
 
 -- What holds before each call: the calls so far were worked, and masks and cells are as long as at the outset.
-pub record Going (bytes calls masks cells scratch answers : List ℕ) (count : ℕ) (masks′ cells′ scratch′ answers′ : List ℕ) : Type 0 where
-  pub so-far : Worked bytes calls masks cells scratch answers count masks′ cells′ scratch′ answers′
-  pub masks-length : length masks′ ≡ length masks
-  pub cells-length : length cells′ ≡ length cells
+pub record Going (bytes calls : List ℕ) (s : State) (scratch answers : List ℕ) (count : ℕ) (s′ : State) (scratch′ answers′ : List ℕ) : Type 0 where
+  pub so-far : Worked bytes calls s scratch answers count s′ scratch′ answers′
+  pub masks-length : length (s′ .masks) ≡ length (s .masks)
+  pub cells-length : length (s′ .cells) ≡ length (s .cells)
 
-pub outset : (bytes calls masks cells scratch answers : List ℕ) → Going bytes calls masks cells scratch answers 0 masks cells scratch answers
-outset bytes calls masks cells scratch answers = record {
-  so-far = none-yet bytes calls masks cells scratch answers;
+pub outset : (bytes calls : List ℕ) (s : State) (scratch answers : List ℕ) → Going bytes calls s scratch answers 0 s scratch answers
+outset bytes calls s scratch answers = record {
+  so-far = none-yet bytes calls s scratch answers;
   masks-length = refl;
   cells-length = refl;
 }
 
-module _ (bytes calls masks cells scratch answers : List ℕ) (count : ℕ) (masks′ cells′ scratch′ answers′ : List ℕ)
-    (g : Going bytes calls masks cells scratch answers count masks′ cells′ scratch′ answers′) where
+module _ (bytes calls : List ℕ) (s : State) (scratch answers : List ℕ) (count : ℕ) (s′ : State) (scratch′ answers′ : List ℕ)
+    (g : Going bytes calls s scratch answers count s′ scratch′ answers′) where
   pub same-answers : length answers′ ≡ length answers
-  same-answers = answers-length bytes calls masks cells scratch answers count masks′ cells′ scratch′ answers′ (g .so-far)
+  same-answers = answers-length bytes calls s scratch answers count s′ scratch′ answers′ (g .so-far)
 
   pub same-scratch : length scratch′ ≡ length scratch
-  same-scratch = as-long bytes calls masks cells scratch answers count masks′ cells′ scratch′ answers′ (g .so-far)
+  same-scratch = as-long bytes calls s scratch answers count s′ scratch′ answers′ (g .so-far)
 
   -- what was worked stands within both tables
   pub within : (7 * count ≤ length calls) × (10 * count ≤ length answers′)
@@ -208,37 +206,37 @@ module _ (bytes calls masks cells scratch answers : List ℕ) (count : ℕ) (mas
     rw (lent-all (10 * count) answers′) (rw (length-drop (10 * count) answers′) (omega arith)),
   )
 
-  module _ (masks″ cells″ scratch″ part : List ℕ) (r : Bool)
-      (o : OneAfter r bytes (lent (7 * count) calls) masks′ cells′ scratch′ (lent (10 * count) answers′) masks″ cells″ scratch″ part)
+  module _ (s″ : State) (scratch″ part : List ℕ) (r : Bool)
+      (o : OneAfter r bytes (lent (7 * count) calls) s′ scratch′ (lent (10 * count) answers′) s″ scratch″ part)
       (fits : (7 * count + 7 ≤ length calls) × (10 * count + 10 ≤ length answers′)) where
-    pub goes-on : r ≡ true → length masks″ ≡ length masks′ → length cells″ ≡ length cells′
-        → Going bytes calls masks cells scratch answers (count + 1) masks″ cells″ scratch″ (back (10 * count) answers′ part)
+    pub goes-on : r ≡ true → length (s″ .masks) ≡ length (s′ .masks) → length (s″ .cells) ≡ length (s′ .cells)
+        → Going bytes calls s scratch answers (count + 1) s″ scratch″ (back (10 * count) answers′ part)
     goes-on e lm lc = record {
       so-far =
-          one-more bytes calls masks cells scratch answers count masks′ cells′ scratch′ answers′ (g .so-far) masks″ cells″ scratch″ part
-          (after-true r bytes (lent (7 * count) calls) masks′ cells′ scratch′ (lent (10 * count) answers′) masks″ cells″ scratch″ part e o)
+          one-more bytes calls s scratch answers count s′ scratch′ answers′ (g .so-far) s″ scratch″ part
+          (after-true r bytes (lent (7 * count) calls) s′ scratch′ (lent (10 * count) answers′) s″ scratch″ part e o)
           (fits .0) (omega (arith, fits .1, same-answers));
       masks-length = lm ∙ g .masks-length;
       cells-length = lc ∙ g .cells-length;
     }
 
     module _ (e : r ≡ false) where
-      nothing-done : NoneWorked (lent (7 * count) calls) masks′ cells′ scratch′ (lent (10 * count) answers′) masks″ cells″ scratch″ part
+      nothing-done : NoneWorked (lent (7 * count) calls) s′ scratch′ (lent (10 * count) answers′) s″ scratch″ part
       nothing-done =
-          after-false r bytes (lent (7 * count) calls) masks′ cells′ scratch′ (lent (10 * count) answers′) masks″ cells″ scratch″ part e o
+          after-false r bytes (lent (7 * count) calls) s′ scratch′ (lent (10 * count) answers′) s″ scratch″ part e o
 
-      pub worked-there : Worked bytes calls masks cells scratch answers count masks″ cells″ scratch″ (back (10 * count) answers′ part)
+      pub worked-there : Worked bytes calls s scratch answers count s″ scratch″ (back (10 * count) answers′ part)
       worked-there =
-          none-more bytes calls masks cells scratch answers count masks′ cells′ scratch′ answers′ (g .so-far) masks″ cells″ scratch″ part nothing-done
+          none-more bytes calls s scratch answers count s′ scratch′ answers′ (g .so-far) s″ scratch″ part nothing-done
 
       pub unknown-there : Stopped calls (length answers) count
       unknown-there =
-          stopped-there bytes calls masks cells scratch answers count masks′ cells′ scratch′ answers′ (g .so-far) masks″ cells″ scratch″ part nothing-done
+          stopped-there bytes calls s scratch answers count s′ scratch′ answers′ (g .so-far) s″ scratch″ part nothing-done
           (fits .0) (omega (arith, fits .1, same-answers))
 
       pub answers-there : length (back (10 * count) answers′ part) ≡ length answers
       answers-there =
-          answers-length bytes calls masks cells scratch answers count masks″ cells″ scratch″ (back (10 * count) answers′ part) worked-there
+          answers-length bytes calls s scratch answers count s″ scratch″ (back (10 * count) answers′ part) worked-there
 
   pub ends-there : (r : Bool) → r ≡ false → NextFits r calls answers′ count → Stopped calls (length answers) count
   ends-there r e h = subst (λ (n : ℕ). Stopped calls n count) same-answers (fits-false r calls answers′ count e h)

@@ -4,19 +4,20 @@ use mathlib.Core.List.{List, _++_}
 use Prim.Native.Nat.{ℕ, _+_, _*_, _≤_, _<_}
 use lib.ListN.{length, drop}
 use Rattle.table_format.specs.Decode.{decode}
+use Rattle.contracts.specs.State.{State}
 use Rattle.contracts.specs.Lists.{Exchange, Run}
 use Rattle.call_list.specs.Scratch.{ScratchRun}
 use Rattle.call_list.specs.Encoding.{Unknown, SayAll, allNumbers}
 
 -- "Its contract gives, for every list, a run in the sense of the theorem whose calls are the list's and whose answers are the
 -- table's": the first `count` calls, their answers, and what stood behind those as it was. Scratch goes from call to call.
-pub record Worked (bytes calls masks cells scratch answers : List ℕ) (count : ℕ) (masks′ cells′ scratch′ answers′ : List ℕ) : Type 0 where
+pub record Worked (bytes calls : List ℕ) (s : State) (scratch answers : List ℕ) (count : ℕ) (s′ : State) (scratch′ answers′ : List ℕ) : Type 0 where
   pub exchanges : List Exchange
   pub whole : 7 * count ≤ length calls
   pub room : 10 * count ≤ length answers
   pub worked : length exchanges ≡ count
   pub says : SayAll (length scratch) calls exchanges
-  pub run : Run bytes record { masks = masks; cells = cells } exchanges record { masks = masks′; cells = cells′ }
+  pub run : Run bytes s exchanges s′
   pub scratch-run : ScratchRun (decode bytes) scratch exchanges scratch′
   pub answers-are : answers′ ≡ allNumbers exchanges ++ drop (10 * count) answers
 

@@ -10,6 +10,7 @@ ghost use mathlib.Core.Path.{_≡_};
 ghost use mathlib.Core.List.{_++_};
 ghost use Prim.Native.Nat.{_*_, _≤_};
 ghost use lib.ListN.{length, drop};
+ghost use Rattle.contracts.specs.State.{tables};
 ghost use Rattle.contracts.specs.ImproveCall.{noMove};
 ghost use Rattle.call_list.specs.Encoding.{moveOf, tenNumbers, movedNumbers, improvedNumbers};
 ghost use Rattle.call_list.specs.inner.Steps.{OneAfter, NextFits};
@@ -109,7 +110,7 @@ fn work_one(
     answer: &mut [u32],
 ) -> bool
     requires { ⌜ (7 ≤ length (now call)) × (10 ≤ length (now answer)) ⌝ }
-    ensures { λ r. ⌜ OneAfter r (now (table .entry)) (now (call .entry)) (now (masks .entry)) (now (cells .entry)) (now (scratch .entry)) (now (answer .entry)) (now (masks .exit)) (now (cells .exit)) (now (scratch .exit)) (now (answer .exit)) ⌝ }
+    ensures { λ r. ⌜ OneAfter r (now (table .entry)) (now (call .entry)) (tables (now (masks .entry)) (now (cells .entry))) (now (scratch .entry)) (now (answer .entry)) (tables (now (masks .exit)) (now (cells .exit))) (now (scratch .exit)) (now (answer .exit)) ⌝ }
 {
     let tag = call[0];
     let m = move_of(call);
@@ -158,7 +159,7 @@ pub fn work(
     calls: &[u32],
     answers: &mut [u32],
 ) -> usize
-    ensures run { λ r. ⌜ Worked (now (table .entry)) (now (calls .entry)) (now (masks .entry)) (now (cells .entry)) (now (scratch .entry)) (now (answers .entry)) r (now (masks .exit)) (now (cells .exit)) (now (scratch .exit)) (now (answers .exit)) ⌝ }
+    ensures run { λ r. ⌜ Worked (now (table .entry)) (now (calls .entry)) (tables (now (masks .entry)) (now (cells .entry))) (now (scratch .entry)) (now (answers .entry)) r (tables (now (masks .exit)) (now (cells .exit))) (now (scratch .exit)) (now (answers .exit)) ⌝ }
     ensures stopped { λ r. ⌜ Stopped (now (calls .entry)) (length (now (answers .entry))) r ⌝ }
 {
     let mut worked = 0;

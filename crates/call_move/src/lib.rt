@@ -14,12 +14,13 @@ use move_masks::masks_after;
 ghost use mathlib.Core.Path.{_≡_};
 ghost use lib.ListN.{length};
 ghost use Rattle.table_format.specs.Decode.{decode};
+ghost use Rattle.contracts.specs.State.{tables};
 ghost use Rattle.contracts.specs.MoveCall.{movedNumber, moves};
 ghost use Rattle.contracts.specs.TrialCall.{trials, ScratchAfter};
 
 // Trial: tries 11 to 15; answers what the move would, and writes nothing.
 pub fn trial(table: &[u8], masks: &[u64], cells: &[u32], scratch: &mut [u32], m: Move) -> Moved
-    ensures answer { λ r. ⌜ r ≡ trials (decode (now (table .entry))) m (now (masks .entry)) (now (cells .entry)) (length (now (scratch .entry))) ⌝ }
+    ensures answer { λ r. ⌜ r ≡ trials (decode (now (table .entry))) m (tables (now (masks .entry)) (now (cells .entry))) (length (now (scratch .entry))) ⌝ }
     ensures lent { λ r. ⌜ ScratchAfter (decode (now (table .entry))) (movedNumber r) (now (scratch .entry)) (now (scratch .exit)) ⌝ }
 {
     let mut firsts = [0u32; 512];
@@ -54,7 +55,7 @@ pub fn trial(table: &[u8], masks: &[u64], cells: &[u32], scratch: &mut [u32], m:
 
 // A move: tries 11 to 15; writes its masks and the touched cells in place.
 pub fn make_move(table: &[u8], masks: &mut [u64], cells: &mut [u32], m: Move) -> Moved
-    ensures { λ r. ⌜ (r, now (masks .exit), now (cells .exit)) ≡ moves (decode (now (table .entry))) m (now (masks .entry)) (now (cells .entry)) ⌝ }
+    ensures { λ r. ⌜ (r, tables (now (masks .exit)) (now (cells .exit))) ≡ moves (decode (now (table .entry))) m (tables (now (masks .entry)) (now (cells .entry))) ⌝ }
 {
     let mut firsts = [0u32; 512];
     let mut ends = [0u16; 512];

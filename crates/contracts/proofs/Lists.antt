@@ -9,17 +9,18 @@ use lib.ListN.{length, take, drop, take-append-drop}
 use lib.Seq.{length-take-le}
 use borrow.Author.Tests.{ltb-false, not-false}
 use Rattle.logic.specs.Formula.{Plan}
-use Rattle.logic.specs.Configuration.{Sets, inMasks, ownMasks, spelled, allWithin}
+use Rattle.logic.specs.Configuration.{inMasks, ownMasks, spelled, allWithin}
 use Rattle.logic.specs.Cells.{ownCells}
 use Rattle.logic.specs.Moves.{refusal}
 use Rattle.logic.proofs.Lists.{or-left}
 use Rattle.table_format.specs.Decode.{Decoded, broken, sound, decode}
+use Rattle.contracts.specs.State.{State, tables}
 use Rattle.contracts.specs.declared.Loaded.{Loaded}
 use Rattle.contracts.specs.declared.Loaded.the-variants.{Accepted, Refused}
 use Rattle.contracts.specs.Load.{loadNumber, loadGrounds, loadOr, loadPlan, loads}
 use Rattle.contracts.proofs.LoadAnswers.{load-cells}
-use Rattle.contracts.specs.Book.{bookStep}
-use Rattle.contracts.specs.Lists.{Exchange, State, Run, ended, called, feed, bookAfter, bookCells, AllRight}
+use Rattle.contracts.specs.Book.{Book, firstBook, bookStep}
+use Rattle.contracts.specs.Lists.{Exchange, Run, ended, called, feed, bookAfter, bookCells, AllRight}
 use Rattle.contracts.proofs.Steps.{either-ground, Holds, own-holds, step-right}
 
 -- an accepted load's answer is no refusal
@@ -54,30 +55,30 @@ module _ (P : Plan) (masks before cells : List ℕ) (root total : ℕ) (h : load
           (sym (ap (λ (x : ℕ). let r = loadOr x P own (take (ownCells P) before) in (r .0, r .1 ++ drop (ownCells P) before)) e) ∙ h))
 
   -- The tables as an accepted load leaves them hold what they must.
-  pub load-holds : Holds P (inMasks own) (drop (ownMasks P) masks) (drop (ownCells P) before) record { masks = masks; cells = cells }
-  unfolding loadGrounds refusal bookCells spelled
+  pub load-holds : Holds P (firstBook P (tables masks cells)) (drop (ownMasks P) masks) (drop (ownCells P) before) (tables masks cells)
+  unfolding loadGrounds refusal bookCells spelled firstBook
   load-holds =
       let short = ltb (length masks) (ownMasks P) in
       let few = ltb (length before) (ownCells P) in
       let g = either-ground (short || few) 11 (cond (not (allWithin (P .ports) own)) 13 0) load-free in
       let w = either-ground (not (allWithin (P .ports) own)) 12 0 (g .1) in
-      own-holds P (inMasks own) (drop (ownMasks P) masks) (drop (ownCells P) before) record { masks = masks; cells = cells }
-      own (bookCells P (inMasks own))
+      own-holds P (firstBook P (tables masks cells)) (drop (ownMasks P) masks) (drop (ownCells P) before) (tables masks cells)
+      (tables own (bookCells P (inMasks own)))
       record {
         spells = refl;
         enough = length-take-le (ownMasks P) masks (ltb-false (length masks) (ownMasks P) (or-left short few (g .0)));
         within = not-false _ (w .0);
         penalties = refl;
       }
-      (sym (take-append-drop (ownMasks P) masks)) (sym (ap (λ (t : Loaded × List ℕ). t .1) h) ∙ load-cells masks before P load-free)
+      (λ i. tables (sym (take-append-drop (ownMasks P) masks) i) ((sym (ap (λ (t : Loaded × List ℕ). t .1) h) ∙ load-cells masks before P load-free) i))
 
 -- A list of calls from any tables that hold what they must.
-pub run-right : (bytes : List ℕ) (P : Plan) → decode bytes ≡ sound P → (k : Sets) (tail-masks tail-cells : List ℕ)
-    → (s : State) (xs : List Exchange) (s″ : State) → Holds P k tail-masks tail-cells s → Run bytes s xs s″
-    → AllRight P k xs × Holds P (bookAfter P k xs) tail-masks tail-cells s″
+pub run-right : (bytes : List ℕ) (P : Plan) → decode bytes ≡ sound P → (b : Book) (tail-masks tail-cells : List ℕ)
+    → (s : State) (xs : List Exchange) (s″ : State) → Holds P b tail-masks tail-cells s → Run bytes s xs s″
+    → AllRight P b xs × Holds P (bookAfter P b xs) tail-masks tail-cells s″
 unfolding AllRight bookAfter
-run-right bytes P d k tm tc s xs s″ h ended = (tt, h)
-run-right bytes P d k tm tc s xs s″ h (called {s′ = s′} {x = x} {xs = rest} y r) =
-    let q = step-right bytes P d k tm tc s s′ h x y in
-    let w = run-right bytes P d (bookStep P k (feed x)) tm tc s′ rest s″ (q .1) r in
+run-right bytes P d b tm tc s xs s″ h ended = (tt, h)
+run-right bytes P d b tm tc s xs s″ h (called {s′ = s′} {x = x} {xs = rest} y r) =
+    let q = step-right bytes P d b tm tc s s′ h x y in
+    let w = run-right bytes P d (bookStep P b (feed x)) tm tc s′ rest s″ (q .1) r in
     ((q .0, w .0), w .1)

@@ -18,8 +18,9 @@ use Rattle.logic.specs.Change.{someOf, newCells}
 use Rattle.logic.proofs.Lists.{or-left, or-right}
 use Rattle.logic.proofs.Tables.{length-layout}
 use Rattle.table_format.specs.Decode.{Decoded, broken, sound}
+use Rattle.contracts.specs.State.{State, ownTables, withRest}
 use Rattle.contracts.specs.declared.Improved.{Improved}
-use Rattle.contracts.specs.MoveCall.{tableGrounds, moveCallGrounds, cellsAfter, moveOr, movePlan, moves}
+use Rattle.contracts.specs.MoveCall.{tableGrounds, moveCallGrounds, cellsAfter, tablesAfter, moveOr, movePlan, moves}
 use Rattle.contracts.specs.TrialCall.{trialOr, trialPlan, trials}
 use Rattle.contracts.specs.ImproveCall.{improveGrounds, Chosen, ImprovesOr, ImprovesPlan, Improves}
 use Rattle.contracts.proofs.Within.{move-length}
@@ -60,117 +61,124 @@ length-after : (P : Plan) (m : Move) (own cells : List ℕ) → ownCells P ≤ l
 unfolding cellsAfter newCells ownCells
 length-after P m own cells h = length-layout (P .ports) _ (P .formula) 0 0 ∙ sym (length-take-le (ownCells P) cells h)
 
+-- tables of which the plan's own part is as long as that of others
+pub record AsLong (P : Plan) (own : State) (s : State) : Type 0 where
+  pub masks-long : length (own .masks) ≡ length (take (ownMasks P) (s .masks))
+  pub cells-long : length (own .cells) ≡ length (take (ownCells P) (s .cells))
+
+own-long : (P : Plan) (s : State) → AsLong P (ownTables P s) s
+unfolding ownTables
+own-long P s = record { masks-long = refl; cells-long = refl }
+
+made-long : (P : Plan) (m : Move) (s : State) → ownCells P ≤ length (s .cells) → AsLong P (tablesAfter P m (ownTables P s)) s
+unfolding tablesAfter ownTables
+made-long P m s h =
+    record { masks-long = move-length m (take (ownMasks P) (s .masks)); cells-long = length-after P m (take (ownMasks P) (s .masks)) (s .cells) h }
+
 -- a move leaves as many own masks and cells as there were
-move-lengths : (g : ℕ) (P : Plan) (m : Move) (own cells : List ℕ) → (g ≡ 0 → ownCells P ≤ length cells)
-    → (let r = moveOr g P m own (take (ownCells P) cells) in (length (r .1) ≡ length own) × (length (r .2) ≡ length (take (ownCells P) cells)))
+move-lengths : (g : ℕ) (P : Plan) (m : Move) (s : State) → (g ≡ 0 → ownCells P ≤ length (s .cells)) → AsLong P (moveOr g P m (ownTables P s) .1) s
 unfolding moveOr
-move-lengths zero P m own cells h = (move-length m own, length-after P m own cells (h refl))
-move-lengths (suc g) P m own cells h = (refl, refl)
+move-lengths zero P m s h = made-long P m s (h refl)
+move-lengths (suc g) P m s h = own-long P s
 
 -- so does improve, whatever it answers
-improve-lengths : (g : ℕ) (P : Plan) (kinds : ℕ) (own cells : List ℕ) → (g ≡ 0 → ownCells P ≤ length cells)
-    → (r : Improved) (own′ after : List ℕ) → ImprovesOr g P kinds own (take (ownCells P) cells) r own′ after
-    → (length own′ ≡ length own) × (length after ≡ length (take (ownCells P) cells))
+improve-lengths : (g : ℕ) (P : Plan) (kinds : ℕ) (s : State) → (g ≡ 0 → ownCells P ≤ length (s .cells))
+    → (r : Improved) (own′ : State) → ImprovesOr g P kinds (ownTables P s) r own′ → AsLong P own′ s
 unfolding ImprovesOr Chosen
-improve-lengths zero P kinds own cells h (improved.Made m b a n) own′ after x =
-    (ap length (x .masks-are) ∙ move-length m own, ap length (x .cells-are) ∙ length-after P m own cells (h refl))
-improve-lengths zero P kinds own cells h (improved.NoBetter root) own′ after x = (ap length (x .masks-kept), ap length (x .cells-kept))
-improve-lengths zero P kinds own cells h (improved.Refused number) own′ after x = absurd x
-improve-lengths (suc g) P kinds own cells h r own′ after x = (ap length (x .1), ap length (x .2))
+improve-lengths zero P kinds s h (improved.Made m b a n) own′ x = rw (x .tables-are) (made-long P m s (h refl))
+improve-lengths zero P kinds s h (improved.NoBetter root) own′ x = rw (x .tables-kept) (own-long P s)
+improve-lengths zero P kinds s h (improved.Refused number) own′ x = absurd x
+improve-lengths (suc g) P kinds s h r own′ x = rw (x .1) (own-long P s)
 
-module _ (P : Plan) (masks cells : List ℕ) where
-  abbrev ownM : List ℕ
-  ownM = take (ownMasks P) masks
+-- what is past the plan's own masks and cells is the same in both
+pub record SamePast (P : Plan) (s s′ : State) : Type 0 where
+  pub masks-past : drop (ownMasks P) (s′ .masks) ≡ drop (ownMasks P) (s .masks)
+  pub masks-length : length (s′ .masks) ≡ length (s .masks)
+  pub cells-past : drop (ownCells P) (s′ .cells) ≡ drop (ownCells P) (s .cells)
+  pub cells-length : length (s′ .cells) ≡ length (s .cells)
 
-  abbrev ownC : List ℕ
-  ownC = take (ownCells P) cells
+module _ (P : Plan) (own s : State) (f : AsLong P own s) where
+  rest-past : SamePast P s (withRest P own s)
+  unfolding withRest
+  rest-past = record {
+    masks-past = past (ownMasks P) (own .masks) (s .masks) (f .masks-long);
+    masks-length = length-front (s .masks) (own .masks) (ownMasks P) (f .masks-long);
+    cells-past = past (ownCells P) (own .cells) (s .cells) (f .cells-long);
+    cells-length = length-front (s .cells) (own .cells) (ownCells P) (f .cells-long);
+  }
 
+  rest-own : ownTables P (withRest P own s) ≡ own
+  unfolding withRest ownTables
+  rest-own = λ i. record {
+    masks = front (ownMasks P) (own .masks) (s .masks) (f .masks-long) i;
+    cells = front (ownCells P) (own .cells) (s .cells) (f .cells-long) i;
+  }
+
+module _ (P : Plan) (s : State) where
   -- over the tables: a move
-  move-fits : (m : Move) → (let r = movePlan P m ownM ownC (length masks) (length cells) in (length (r .1) ≡ length ownM) × (length (r .2) ≡ length ownC))
+  move-fits : (m : Move) → AsLong P (movePlan P m s .1) s
   unfolding movePlan moveCallGrounds
-  move-fits m = move-lengths (refusal (moveCallGrounds P ownM (length masks) (length cells ∷ []) m)) P m ownM cells (cells-enough P ownM (length masks) cells [] _)
+  move-fits m =
+      move-lengths (refusal (moveCallGrounds P (take (ownMasks P) (s .masks)) (length (s .masks)) (length (s .cells) ∷ []) m)) P m s
+      (cells-enough P (take (ownMasks P) (s .masks)) (length (s .masks)) (s .cells) [] _)
 
   -- and improve
-  improve-fits : (kinds scratch-length : ℕ) (r : Improved) (own′ after : List ℕ)
-      → ImprovesPlan P kinds ownM ownC (length masks) (length cells) scratch-length r own′ after → (length own′ ≡ length ownM) × (length after ≡ length ownC)
+  improve-fits : (kinds scratch-length : ℕ) (r : Improved) (own′ : State) → ImprovesPlan P kinds s scratch-length r own′ → AsLong P own′ s
   unfolding ImprovesPlan improveGrounds
-  improve-fits kinds scratch-length r own′ after x =
-      improve-lengths (refusal (improveGrounds P ownM (length masks) (length cells ∷ scratch-length ∷ []) kinds)) P kinds ownM cells
-      (cells-enough P ownM (length masks) cells (scratch-length ∷ []) _) r own′ after x
+  improve-fits kinds scratch-length r own′ x =
+      improve-lengths (refusal (improveGrounds P (take (ownMasks P) (s .masks)) (length (s .masks)) (length (s .cells) ∷ scratch-length ∷ []) kinds)) P kinds s
+      (cells-enough P (take (ownMasks P) (s .masks)) (length (s .masks)) (s .cells) (scratch-length ∷ []) _) r own′ x
 
   -- "An accepted move writes its masks and touched cells": what is past the plan's own masks and cells stays, accepted or not.
-  pub move-past : (m : Move) → (let r = moves (sound P) m masks cells in
-      (drop (ownMasks P) (r .1) ≡ drop (ownMasks P) masks) × (length (r .1) ≡ length masks)
-      × (drop (ownCells P) (r .2) ≡ drop (ownCells P) cells) × (length (r .2) ≡ length cells))
+  pub move-past : (m : Move) → SamePast P s (moves (sound P) m s .1)
   unfolding moves
-  move-past m =
-      let r = movePlan P m ownM ownC (length masks) (length cells) in
-      let f = move-fits m in (
-        past (ownMasks P) (r .1) masks (f .0),
-        length-front masks (r .1) (ownMasks P) (f .0),
-        past (ownCells P) (r .2) cells (f .1),
-        length-front cells (r .2) (ownCells P) (f .1),
-      )
+  move-past m = rest-past P (movePlan P m s .1) s (move-fits m)
 
   -- The same, whatever improve answers.
-  pub improve-past : (kinds scratch-length : ℕ) (r : Improved) (masks′ cells′ : List ℕ)
-      → Improves (sound P) kinds masks cells scratch-length r masks′ cells′
-      → (drop (ownMasks P) masks′ ≡ drop (ownMasks P) masks) × (length masks′ ≡ length masks)
-      × (drop (ownCells P) cells′ ≡ drop (ownCells P) cells) × (length cells′ ≡ length cells)
+  pub improve-past : (kinds scratch-length : ℕ) (r : Improved) (s′ : State) → Improves (sound P) kinds s scratch-length r s′ → SamePast P s s′
   unfolding Improves
-  improve-past kinds scratch-length r masks′ cells′ x =
-      let f = improve-fits kinds scratch-length r (x .own-masks) (x .own-cells) (x .improves) in (
-        ap (drop (ownMasks P)) (x .masks-are) ∙ past (ownMasks P) (x .own-masks) masks (f .0),
-        ap length (x .masks-are) ∙ length-front masks (x .own-masks) (ownMasks P) (f .0),
-        ap (drop (ownCells P)) (x .cells-are) ∙ past (ownCells P) (x .own-cells) cells (f .1),
-        ap length (x .cells-are) ∙ length-front cells (x .own-cells) (ownCells P) (f .1),
-      )
+  improve-past kinds scratch-length r s′ x =
+      rw (x .tables-are) (rest-past P (x .own) s (improve-fits kinds scratch-length r (x .own) (x .improves)))
 
-pub same-back : (P : Plan) (masks masks′ cells cells′ : List ℕ) → SameTables P masks masks′ cells cells′ → SameTables P masks′ masks cells′ cells
-same-back P masks masks′ cells cells′ t = record {
+pub same-back : (P : Plan) (s s′ : State) → SameTables P s s′ → SameTables P s′ s
+same-back P s s′ t = record {
   same-masks = record { entries = sym (t .same-masks .entries); enough = sym (t .same-masks .enough) };
   same-cells = record { entries = sym (t .same-cells .entries); enough = sym (t .same-cells .enough) };
 }
 
--- the grounds of two such calls
-same-grounds : (P : Plan) (masks masks′ cells cells′ : List ℕ) (lengths lengths′ : List ℕ) (rest : List ℕ → List Ground)
-    → SameTables P masks masks′ cells cells′
+-- the plan's own tables of two such calls, and their grounds
+same-own : (P : Plan) (s s′ : State) → SameTables P s s′ → ownTables P s ≡ ownTables P s′
+unfolding ownTables
+same-own P s s′ t = λ i. record { masks = t .same-masks .entries i; cells = t .same-cells .entries i }
+
+same-grounds : (P : Plan) (s s′ : State) (lengths lengths′ : List ℕ) (rest : List ℕ → List Ground) → SameTables P s s′
     → someOf (λ l. ltb l (ownCells P)) lengths ≡ someOf (λ l. ltb l (ownCells P)) lengths′
-    → refusal (tableGrounds P (take (ownMasks P) masks) (length masks) (length cells ∷ lengths) ++ rest (take (ownMasks P) masks))
-    ≡ refusal (tableGrounds P (take (ownMasks P) masks′) (length masks′) (length cells′ ∷ lengths′) ++ rest (take (ownMasks P) masks′))
+    → refusal (tableGrounds P (take (ownMasks P) (s .masks)) (length (s .masks)) (length (s .cells) ∷ lengths) ++ rest (take (ownMasks P) (s .masks)))
+    ≡ refusal (tableGrounds P (take (ownMasks P) (s′ .masks)) (length (s′ .masks)) (length (s′ .cells) ∷ lengths′) ++ rest (take (ownMasks P) (s′ .masks)))
 unfolding tableGrounds someOf
-same-grounds P masks masks′ cells cells′ lengths lengths′ rest t e = λ i.
+same-grounds P s s′ lengths lengths′ rest t e = λ i.
     refusal ((12, t .same-masks .enough i || (t .same-cells .enough i || e i)) ∷ (13, not (allWithin (P .ports) (t .same-masks .entries i)))
     ∷ rest (t .same-masks .entries i))
 
-module _ (P : Plan) (masks masks′ cells cells′ : List ℕ) (t : SameTables P masks masks′ cells cells′) where
-  move-same : (m : Move) → movePlan P m (take (ownMasks P) masks) (take (ownCells P) cells) (length masks) (length cells)
-      ≡ movePlan P m (take (ownMasks P) masks′) (take (ownCells P) cells′) (length masks′) (length cells′)
+module _ (P : Plan) (s s′ : State) (t : SameTables P s s′) where
+  move-same : (m : Move) → movePlan P m s ≡ movePlan P m s′
   unfolding movePlan moveCallGrounds
-  move-same m = λ i.
-      moveOr (same-grounds P masks masks′ cells cells′ [] [] (λ own. moveGrounds P (inMasks own) m) t refl i) P m
-      (t .same-masks .entries i) (t .same-cells .entries i)
+  move-same m = λ i. moveOr (same-grounds P s s′ [] [] (λ own. moveGrounds P (inMasks own) m) t refl i) P m (same-own P s s′ t i)
 
-  pub move-sound : (m : Move) → (moves (sound P) m masks cells .0 ≡ moves (sound P) m masks′ cells′ .0)
-      × (take (ownMasks P) (moves (sound P) m masks cells .1) ≡ take (ownMasks P) (moves (sound P) m masks′ cells′ .1))
-      × (take (ownCells P) (moves (sound P) m masks cells .2) ≡ take (ownCells P) (moves (sound P) m masks′ cells′ .2))
+  pub move-sound : (m : Move) → (moves (sound P) m s .0 ≡ moves (sound P) m s′ .0) × (ownTables P (moves (sound P) m s .1) ≡ ownTables P (moves (sound P) m s′ .1))
   unfolding moves
-  move-sound m =
-      let f = move-fits P masks cells m in
-      let f′ = move-fits P masks′ cells′ m in (
-        ap (λ r. r .0) (move-same m),
-        front (ownMasks P) _ masks (f .0) ∙ ap (λ r. r .1) (move-same m) ∙ sym (front (ownMasks P) _ masks′ (f′ .0)),
-        front (ownCells P) _ cells (f .1) ∙ ap (λ r. r .2) (move-same m) ∙ sym (front (ownCells P) _ cells′ (f′ .1)),
-      )
+  move-sound m = (
+    ap (λ r. r .0) (move-same m),
+    rest-own P (movePlan P m s .1) s (move-fits P s m) ∙ ap (λ r. r .1) (move-same m) ∙ sym (rest-own P (movePlan P m s′ .1) s′ (move-fits P s′ m)),
+  )
 
   pub trial-sound : (m : Move) (scratch scratch′ : List ℕ) → ltb (length scratch) (ownCells P) ≡ ltb (length scratch′) (ownCells P)
-      → trials (sound P) m masks cells (length scratch) ≡ trials (sound P) m masks′ cells′ (length scratch′)
+      → trials (sound P) m s (length scratch) ≡ trials (sound P) m s′ (length scratch′)
   unfolding trials trialPlan moveCallGrounds someOf
   trial-sound m scratch scratch′ e = λ i.
       trialOr
-      (same-grounds P masks masks′ cells cells′ (length scratch ∷ []) (length scratch′ ∷ []) (λ own. moveGrounds P (inMasks own) m) t
-      (ap (λ (b : Bool). b || false) e) i)
-      P m (t .same-masks .entries i) (t .same-cells .entries i)
+      (same-grounds P s s′ (length scratch ∷ []) (length scratch′ ∷ []) (λ own. moveGrounds P (inMasks own) m) t (ap (λ (b : Bool). b || false) e) i)
+      P m (same-own P s s′ t i)
 
 -- the plan of a decoded table
 planOr : Plan → Decoded → Plan
@@ -181,32 +189,25 @@ one-sound : (P Q : Plan) → sound P ≡ sound Q → P ≡ Q
 unfolding planOr
 one-sound P Q e = ap (planOr P) e
 
-improve-sound : (P : Plan) (masks masks′ cells cells′ : List ℕ) → SameTables P masks masks′ cells cells′ → (kinds : ℕ) (scratch scratch′ : List ℕ)
-    → ltb (length scratch) (ownCells P) ≡ ltb (length scratch′) (ownCells P) → (r : Improved) (masks₁ cells₁ : List ℕ)
-    → Improves (sound P) kinds masks cells (length scratch) r masks₁ cells₁ → Allows (sound P) kinds masks′ cells′ scratch′ r masks₁ cells₁
+improve-sound : (P : Plan) (s s′ : State) → SameTables P s s′ → (kinds : ℕ) (scratch scratch′ : List ℕ)
+    → ltb (length scratch) (ownCells P) ≡ ltb (length scratch′) (ownCells P) → (r : Improved) (s₁ : State)
+    → Improves (sound P) kinds s (length scratch) r s₁ → Allows (sound P) kinds s′ scratch′ r s₁
 unfolding Improves ImprovesPlan improveGrounds someOf
-improve-sound P masks masks′ cells cells′ t kinds scratch scratch′ e r masks₁ cells₁ x =
-    let own = x .own-masks in
-    let after = x .own-cells in
-    let y : ImprovesPlan P kinds (take (ownMasks P) masks′) (take (ownCells P) cells′) (length masks′) (length cells′) (length scratch′) r own after =
-    subst (λ (z : ℕ × List ℕ × List ℕ). ImprovesOr (z .0) P kinds (z .1) (z .2) r own after)
+improve-sound P s s′ t kinds scratch scratch′ e r s₁ x =
+    let own = x .own in
+    let y : ImprovesPlan P kinds s′ (length scratch′) r own =
+    subst (λ (z : ℕ × State). ImprovesOr (z .0) P kinds (z .1) r own)
     (λ i. (
-      same-grounds P masks masks′ cells cells′ (length scratch ∷ []) (length scratch′ ∷ []) (λ o. (14, not (kindsKnown kinds)) ∷ []) t
-          (ap (λ (b : Bool). b || false) e) i,
-      t .same-masks .entries i,
-      t .same-cells .entries i,
+      same-grounds P s s′ (length scratch ∷ []) (length scratch′ ∷ []) (λ o. (14, not (kindsKnown kinds)) ∷ []) t (ap (λ (b : Bool). b || false) e) i,
+      same-own P s s′ t i,
     ))
     (x .improves) in
-    let f = improve-fits P masks cells kinds (length scratch) r own after (x .improves) in
-    let f′ = improve-fits P masks′ cells′ kinds (length scratch′) r own after y in
     record {
-      masks-left = own ++ drop (ownMasks P) masks′;
-      cells-left = after ++ drop (ownCells P) cells′;
-      allowed = record { own-masks = own; own-cells = after; improves = y; masks-are = refl; cells-are = refl };
-      own-masks = λ Q q. subst (λ (R : Plan). take (ownMasks R) (own ++ drop (ownMasks P) masks′) ≡ take (ownMasks R) masks₁) (one-sound P Q q)
-          (front (ownMasks P) own masks′ (f′ .0) ∙ sym (ap (take (ownMasks P)) (x .masks-are) ∙ front (ownMasks P) own masks (f .0)));
-      own-cells = λ Q q. subst (λ (R : Plan). take (ownCells R) (after ++ drop (ownCells P) cells′) ≡ take (ownCells R) cells₁) (one-sound P Q q)
-          (front (ownCells P) after cells′ (f′ .1) ∙ sym (ap (take (ownCells P)) (x .cells-are) ∙ front (ownCells P) after cells (f .1)));
+      left = withRest P own s′;
+      allowed = record { own = own; improves = y; tables-are = refl };
+      own = λ Q q. subst (λ (R : Plan). ownTables R (withRest P own s′) ≡ ownTables R s₁) (one-sound P Q q)
+          (rest-own P own s′ (improve-fits P s′ kinds (length scratch′) r own y)
+          ∙ sym (ap (ownTables P) (x .tables-are) ∙ rest-own P own s (improve-fits P s kinds (length scratch) r own (x .improves))));
     }
 
 isSound : Decoded → Type 0
@@ -217,16 +218,11 @@ broken-not : (P : Plan) → broken ≡ sound P → ⊥
 unfolding isSound
 broken-not P e = subst isSound (sym e) tt
 
-pub improve-any : (d : Decoded) (masks masks′ cells cells′ scratch scratch′ : List ℕ) (kinds : ℕ)
-    → ((P : Plan) → d ≡ sound P → SameLent P masks masks′ cells cells′ scratch scratch′) → (r : Improved) (masks₁ cells₁ : List ℕ)
-    → Improves d kinds masks cells (length scratch) r masks₁ cells₁ → Allows d kinds masks′ cells′ scratch′ r masks₁ cells₁
+pub improve-any : (d : Decoded) (s s′ : State) (scratch scratch′ : List ℕ) (kinds : ℕ)
+    → ((P : Plan) → d ≡ sound P → SameLent P s s′ scratch scratch′) → (r : Improved) (s₁ : State)
+    → Improves d kinds s (length scratch) r s₁ → Allows d kinds s′ scratch′ r s₁
 unfolding Improves
-improve-any broken masks masks′ cells cells′ scratch scratch′ kinds same r masks₁ cells₁ x = record {
-  masks-left = masks′;
-  cells-left = cells′;
-  allowed = (x .0, refl, refl);
-  own-masks = λ P e. absurd (broken-not P e);
-  own-cells = λ P e. absurd (broken-not P e);
-}
-improve-any (sound P) masks masks′ cells cells′ scratch scratch′ kinds same r masks₁ cells₁ x =
-    improve-sound P masks masks′ cells cells′ (same P refl .tables) kinds scratch scratch′ (same P refl .enough) r masks₁ cells₁ x
+improve-any broken s s′ scratch scratch′ kinds same r s₁ x =
+    record { left = s′; allowed = (x .0, refl); own = λ P e. absurd (broken-not P e) }
+improve-any (sound P) s s′ scratch scratch′ kinds same r s₁ x =
+    improve-sound P s s′ (same P refl .same) kinds scratch scratch′ (same P refl .enough) r s₁ x

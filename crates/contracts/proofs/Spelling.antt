@@ -11,7 +11,9 @@ use lib.Pow.{pow-mono}
 use lib.Seq.{length-take-le}
 use Rattle.logic.specs.Formula.{Plan}
 use Rattle.logic.specs.Configuration.{Sets, inMask, inMasks, ownMasks}
-use Rattle.contracts.specs.Lists.{State, Kept}
+use Rattle.contracts.specs.State.{State}
+use Rattle.contracts.specs.Book.{Book}
+use Rattle.contracts.specs.Lists.{Kept}
 
 digit-same : (a b : ℕ) → a < 2 → b < 2 → eqb a 1 ≡ eqb b 1 → a ≡ b
 digit-same zero zero h l e = refl
@@ -58,9 +60,9 @@ masks-same (m ∷ ms) [] l e = absurd (omega arith)
 masks-same (m ∷ ms) (m′ ∷ ms′) l e = ap₂ _∷_ (mask-same m m′ (e 0)) (masks-same ms ms′ (omega arith) (λ S. e (suc S)))
 
 -- The book's sets and the tails say what every mask and every cell is.
-pub kept-same : (P : Plan) (k : Sets) (tail-masks tail-cells : List ℕ) (s s′ : State)
-    → Kept P k tail-masks tail-cells s → Kept P k tail-masks tail-cells s′ → s ≡ s′
-kept-same P k tail-masks tail-cells s s′ h h′ = λ i. record { masks = m i; cells = (h .cells-are ∙ sym (h′ .cells-are)) i }
+pub kept-same : (P : Plan) (b : Book) (tail-masks tail-cells : List ℕ) (s s′ : State)
+    → Kept P b tail-masks tail-cells s → Kept P b tail-masks tail-cells s′ → s ≡ s′
+kept-same P b tail-masks tail-cells s s′ h h′ = λ i. record { masks = m i; cells = (h .cells-are ∙ sym (h′ .cells-are)) i }
   where
     n : ℕ
     n = ownMasks P

@@ -13,7 +13,7 @@ use Rattle.logic.specs.declared.Move.{Move}
 use Rattle.logic.specs.Formula.{Plan}
 use Rattle.logic.specs.Configuration.{Sets, configuration, inMasks, ownMasks, spelled, allWithin}
 use Rattle.logic.specs.Cells.{ownCells, cells as planCells, rootPenalty}
-use Rattle.logic.specs.Moves.{Ground, refusal, moveGrounds, known, legal, moveMasks, movePairs, flips, kindsKnown}
+use Rattle.logic.specs.Moves.{Ground, refusal, moveGrounds, known, legal, moveMasks, movePairs, kindsKnown}
 use Rattle.logic.specs.Change.{someOf, pairsChange, differing}
 use Rattle.logic.proofs.Moves.{move-masks, move-spells}
 use Rattle.logic.proofs.Theorems.{move-true, length-cells}
@@ -21,23 +21,31 @@ use Rattle.table_format.specs.Decode.{Decoded, sound, decode}
 use Rattle.table_format.specs.inner.Facts.{PlanFacts}
 use Rattle.table_format.proofs.Encoding.{decode-sound}
 use Rattle.table_format.proofs.Facts.{plan-facts}
+use Rattle.contracts.specs.State.{State, tables, ownTables, withRest}
 use Rattle.contracts.specs.declared.Moved.{Moved}
 use Rattle.contracts.specs.declared.Improved.{Improved}
-use Rattle.contracts.specs.MoveCall.{tableGrounds, moveCallGrounds, cellsAfter, moveAnswer, moveOr, movePlan, moves}
+use Rattle.contracts.specs.MoveCall.{tableGrounds, moveCallGrounds, cellsAfter, moveAnswer, tablesAfter, moveOr, movePlan, moves}
 use Rattle.contracts.specs.TrialCall.{trialOr, trialPlan, trials}
 use Rattle.contracts.specs.ImproveCall.{improveGrounds, rootNow, rootAfter, MadeBest, NoneBetter, Chosen, ImprovesOr, ImprovesPlan, Improves}
-use Rattle.contracts.specs.Book.{fedMove, chosenStep, bookStep}
-use Rattle.contracts.specs.Lists.{Exchange, moveCall, trialCall, improveCall, State, Step, feed, bookRoot, bookCells, bookMade, NumbersRight, MovedRight, scratchGround, BestMade, NoneLowers, ImprovedRight, Right, Kept}
+use Rattle.contracts.specs.Book.{Book, fedMove, bookMade, movedBook, chosenStep, bookStep}
+use Rattle.contracts.specs.Lists.{Exchange, moveCall, trialCall, improveCall, Step, feed, bookRoot, bookCells, NumbersRight, MovedRight, scratchGround, BestMade, NoneLowers, ImprovedRight, Right, Kept}
 use Rattle.contracts.proofs.Within.{move-within, move-length}
 use Rattle.logic.proofs.Changed as changed
 use Rattle.contracts.specs.declared.Improved.the-variants as improved
 
+-- the book that own masks spell, and its tables
+abbrev spelt : List ℕ → Book
+spelt own = record { sets = inMasks own }
+
+abbrev bookTables : Plan → List ℕ → State
+bookTables P own = tables own (bookCells P (inMasks own))
+
 -- The plan's own masks and cells are the book's: the masks spell its sets and have no other port, the cells are the penalties.
-pub record OwnKept (P : Plan) (k : Sets) (own before : List ℕ) : Type 0 where
-  pub spells : inMasks own ≡ k
-  pub enough : length own ≡ ownMasks P
-  pub within : allWithin (P .ports) own ≡ true
-  pub penalties : before ≡ bookCells P k
+pub record OwnKept (P : Plan) (b : Book) (own : State) : Type 0 where
+  pub spells : inMasks (own .masks) ≡ b .sets
+  pub enough : length (own .masks) ≡ ownMasks P
+  pub within : allWithin (P .ports) (own .masks) ≡ true
+  pub penalties : own .cells ≡ bookCells P (b .sets)
 
 -- grounds answer 0 only if the first does not apply and the rest answer 0
 pub either-ground : (a : Bool) (i g : ℕ) → cond a (suc i) g ≡ 0 → (a ≡ false) × (g ≡ 0)
@@ -105,8 +113,8 @@ module _ (P : Plan) (facts : PlanFacts P) where
       }
 
   made-kept : (m : Move) (own : List ℕ) → legal P (inMasks own) m ≡ true → length own ≡ ownMasks P → allWithin (P .ports) own ≡ true
-      → OwnKept P (bookMade m (inMasks own)) (moveMasks m own) (cellsAfter P m own (bookCells P (inMasks own)))
-  unfolding bookMade
+      → OwnKept P (movedBook m (spelt own)) (tablesAfter P m (bookTables P own))
+  unfolding bookMade movedBook tablesAfter
   made-kept m own h l w = record {
     spells = move-masks P m own h (omega arith);
     enough = move-length m own ∙ l;
@@ -114,55 +122,59 @@ module _ (P : Plan) (facts : PlanFacts P) where
     penalties = made-cells m own h (omega arith);
   }
 
-  -- what holds where the masks themselves spell the sets holds of the book's sets
-  of-book : (k : Sets) (own before : List ℕ) (C : Sets → List ℕ → Type 0) → OwnKept P k own before
-      → C (inMasks own) (bookCells P (inMasks own)) → C k before
-  of-book k own before C o c =
-      subst (λ (j : Sets). C j before) (o .spells)
-      (subst (C (inMasks own)) (ap (bookCells P) (o .spells) ∙ sym (o .penalties)) c)
+  -- what holds where the masks themselves spell the sets holds of the book
+  of-book : (b : Book) (own : State) (C : Book → State → Type 0) → OwnKept P b own → C (spelt (own .masks)) (bookTables P (own .masks)) → C b own
+  of-book b own C o c =
+      let e : spelt (own .masks) ≡ b = λ i. record { sets = o .spells i } in
+      let f : bookTables P (own .masks) ≡ own = λ i. tables (own .masks) ((ap (bookCells P) (o .spells) ∙ sym (o .penalties)) i) in
+      subst (λ (j : Book). C j own) e (subst (C (spelt (own .masks))) f c)
+
+  -- tables that are not written
+  same-kept : (own : List ℕ) → length own ≡ ownMasks P → allWithin (P .ports) own ≡ true → OwnKept P (spelt own) (bookTables P own)
+  same-kept own l w = record { spells = refl; enough = l; within = w; penalties = refl }
 
   -- a move by the first ground that applies to it
   move-at : (m : Move) (own : List ℕ) → length own ≡ ownMasks P → allWithin (P .ports) own ≡ true
       → (g : ℕ) → refusal (moveGrounds P (inMasks own) m) ≡ g
-      → (let r = moveOr g P m own (bookCells P (inMasks own)) in
-      MovedRight g P (inMasks own) m (r .0) × OwnKept P (cond (eqb g 0) (flips (movePairs m) (inMasks own)) (inMasks own)) (r .1) (r .2))
-  unfolding moveOr moveAnswer MovedRight bookMade rootNow rootAfter
+      → (let r = moveOr g P m (bookTables P own) in
+      MovedRight g P (inMasks own) m (r .0) × OwnKept P (cond (eqb g 0) (movedBook m (spelt own)) (spelt own)) (r .1))
+  unfolding moveOr moveAnswer MovedRight rootNow rootAfter
   move-at m own l w zero e =
       let h = grounds-legal P (inMasks own) m e in (made-numbers m own h (omega arith), made-kept m own h l w)
-  move-at m own l w (suc g) e =
-      rw (ne-eqb (suc g) 0 (λ z. omega arith)) (refl, record { spells = refl; enough = l; within = w; penalties = refl })
+  move-at m own l w (suc g) e = rw (ne-eqb (suc g) 0 (λ z. omega arith)) (refl, same-kept own l w)
 
   -- Moves, over the plan's own parts.
-  pub move-own : (m : Move) (k : Sets) (own before : List ℕ) → OwnKept P k own before
-      → (let g = refusal (moveGrounds P k m) in
-      let r = moveOr g P m own before in MovedRight g P k m (r .0) × OwnKept P (bookStep P k (fedMove m)) (r .1) (r .2))
+  pub move-own : (m : Move) (b : Book) (own : State) → OwnKept P b own
+      → (let g = refusal (moveGrounds P (b .sets) m) in
+      let r = moveOr g P m own in MovedRight g P (b .sets) m (r .0) × OwnKept P (bookStep P b (fedMove m)) (r .1))
   unfolding bookStep
-  move-own m k own before o =
-      of-book k own before
-      (λ j c. let g = refusal (moveGrounds P j m) in
-      let r = moveOr g P m own c in MovedRight g P j m (r .0) × OwnKept P (cond (eqb g 0) (flips (movePairs m) j) j) (r .1) (r .2))
-      o (move-at m own (o .enough) (o .within) (refusal (moveGrounds P (inMasks own) m)) refl)
+  move-own m b own o =
+      of-book b own
+      (λ j s. let g = refusal (moveGrounds P (j .sets) m) in
+      let r = moveOr g P m s in MovedRight g P (j .sets) m (r .0) × OwnKept P (cond (eqb g 0) (movedBook m j) j) (r .1))
+      o (move-at m (own .masks) (o .enough) (o .within) (refusal (moveGrounds P (inMasks (own .masks)) m)) refl)
 
   trial-at : (m : Move) (own : List ℕ) → length own ≡ ownMasks P → (g : ℕ) → (g ≡ 0 → legal P (inMasks own) m ≡ true)
-      → MovedRight g P (inMasks own) m (trialOr g P m own (bookCells P (inMasks own)))
+      → MovedRight g P (inMasks own) m (trialOr g P m (bookTables P own))
   unfolding trialOr moveAnswer MovedRight rootNow rootAfter
   trial-at m own l zero H = made-numbers m own (H refl) (omega arith)
   trial-at m own l (suc g) H = refl
 
   -- Trials, over the plan's own parts.
-  pub trial-own : (m : Move) (scratch : List ℕ) (k : Sets) (own before : List ℕ) → OwnKept P k own before
-      → (let g = refusal (scratchGround P scratch ∷ moveGrounds P k m) in MovedRight g P k m (trialOr g P m own before))
+  pub trial-own : (m : Move) (scratch : List ℕ) (b : Book) (own : State) → OwnKept P b own
+      → (let g = refusal (scratchGround P scratch ∷ moveGrounds P (b .sets) m) in MovedRight g P (b .sets) m (trialOr g P m own))
   unfolding scratchGround
-  trial-own m scratch k own before o =
-      of-book k own before
-      (λ j c. let g = refusal (scratchGround P scratch ∷ moveGrounds P j m) in MovedRight g P j m (trialOr g P m own c))
-      o (trial-at m own (o .enough) (refusal (scratchGround P scratch ∷ moveGrounds P (inMasks own) m))
-      (λ e. grounds-legal P (inMasks own) m (later-ground 11 (ltb (length scratch) (ownCells P)) (moveGrounds P (inMasks own) m) e)))
+  trial-own m scratch b own o =
+      of-book b own
+      (λ j s. let g = refusal (scratchGround P scratch ∷ moveGrounds P (j .sets) m) in MovedRight g P (j .sets) m (trialOr g P m s))
+      o (trial-at m (own .masks) (o .enough) (refusal (scratchGround P scratch ∷ moveGrounds P (inMasks (own .masks)) m))
+      (λ e. grounds-legal P (inMasks (own .masks)) m
+      (later-ground 11 (ltb (length scratch) (ownCells P)) (moveGrounds P (inMasks (own .masks)) m) e)))
 
   -- an accepted improve that makes a move
-  best-made : (kinds : ℕ) (own : List ℕ) → length own ≡ ownMasks P → (m : Move) (b a n : ℕ) (own′ after : List ℕ)
-      → MadeBest P kinds own (bookCells P (inMasks own)) m b a n own′ after → BestMade P (inMasks own) kinds m b a n
-  best-made kinds own l m b a n own′ after x =
+  best-made : (kinds : ℕ) (own : List ℕ) → length own ≡ ownMasks P → (m : Move) (b a n : ℕ) (own′ : State)
+      → MadeBest P kinds (bookTables P own) m b a n own′ → BestMade P (inMasks own) kinds m b a n
+  best-made kinds own l m b a n own′ x =
       let old = bookCells P (inMasks own) in
       let h = x .candidate .is-legal in
       let r = root-made m own h (omega arith) in
@@ -180,37 +192,35 @@ module _ (P : Plan) (facts : PlanFacts P) where
         };
       }
 
-  none-lowers : (kinds : ℕ) (own : List ℕ) → length own ≡ ownMasks P → (root : ℕ) (own′ after : List ℕ)
-      → NoneBetter P kinds own (bookCells P (inMasks own)) root own′ after → NoneLowers P (inMasks own) kinds root
+  none-lowers : (kinds : ℕ) (own : List ℕ) → length own ≡ ownMasks P → (root : ℕ) (own′ : State)
+      → NoneBetter P kinds (bookTables P own) root own′ → NoneLowers P (inMasks own) kinds root
   unfolding rootNow bookRoot rootPenalty bookCells
-  none-lowers kinds own l root own′ after x = record {
+  none-lowers kinds own l root own′ x = record {
     none = λ m f g. rw (← (root-made m own g (omega arith))) (x .none-smaller m record { of-kinds = f; is-legal = g });
     root-right = x .root-is;
   }
 
   improve-at : (kinds : ℕ) (own : List ℕ) → length own ≡ ownMasks P → allWithin (P .ports) own ≡ true
-      → (g : ℕ) (r : Improved) (own′ after : List ℕ) → ImprovesOr g P kinds own (bookCells P (inMasks own)) r own′ after
-      → ImprovedRight g P (inMasks own) kinds r × OwnKept P (chosenStep (inMasks own) r) own′ after
-  unfolding ImprovesOr Chosen ImprovedRight chosenStep bookMade
-  improve-at kinds own l w zero (improved.Made m b a n) own′ after x =
-      (best-made kinds own l m b a n own′ after x, rw (x .masks-are, x .cells-are) (made-kept m own (x .candidate .is-legal) l w))
-  improve-at kinds own l w zero (improved.NoBetter root) own′ after x =
-      (none-lowers kinds own l root own′ after x, rw (x .masks-kept, x .cells-kept) record { spells = refl; enough = l; within = w; penalties = refl })
-  improve-at kinds own l w zero (improved.Refused number) own′ after x = absurd x
-  improve-at kinds own l w (suc g) r own′ after x =
-      (x .0, rw (x .0, x .1, x .2) record { spells = refl; enough = l; within = w; penalties = refl })
+      → (g : ℕ) (r : Improved) (own′ : State) → ImprovesOr g P kinds (bookTables P own) r own′
+      → ImprovedRight g P (inMasks own) kinds r × OwnKept P (chosenStep (spelt own) r) own′
+  unfolding ImprovesOr Chosen ImprovedRight chosenStep
+  improve-at kinds own l w zero (improved.Made m b a n) own′ x =
+      (best-made kinds own l m b a n own′ x, rw (x .tables-are) (made-kept m own (x .candidate .is-legal) l w))
+  improve-at kinds own l w zero (improved.NoBetter root) own′ x = (none-lowers kinds own l root own′ x, rw (x .tables-kept) (same-kept own l w))
+  improve-at kinds own l w zero (improved.Refused number) own′ x = absurd x
+  improve-at kinds own l w (suc g) r own′ x = (x .0, rw (x .0, x .1) (same-kept own l w))
 
   -- Improve, over the plan's own parts, for every answer that is allowed.
-  pub improve-own : (kinds g : ℕ) (k : Sets) (own before : List ℕ) → OwnKept P k own before → (r : Improved) (own′ after : List ℕ)
-      → ImprovesOr g P kinds own before r own′ after → ImprovedRight g P k kinds r × OwnKept P (chosenStep k r) own′ after
-  improve-own kinds g k own before o r own′ after =
-      of-book k own before
-      (λ j c. ImprovesOr g P kinds own c r own′ after → ImprovedRight g P j kinds r × OwnKept P (chosenStep j r) own′ after)
-      o (improve-at kinds own (o .enough) (o .within) g r own′ after)
+  pub improve-own : (kinds g : ℕ) (b : Book) (own : State) → OwnKept P b own → (r : Improved) (own′ : State)
+      → ImprovesOr g P kinds own r own′ → ImprovedRight g P (b .sets) kinds r × OwnKept P (chosenStep b r) own′
+  improve-own kinds g b own o r own′ =
+      of-book b own
+      (λ j s. ImprovesOr g P kinds s r own′ → ImprovedRight g P (j .sets) kinds r × OwnKept P (chosenStep j r) own′)
+      o (improve-at kinds (own .masks) (o .enough) (o .within) g r own′)
 
 -- What stands before and after each call of a list: masks and cells are the book's, and no mask has a port of u or more.
-pub record Holds (P : Plan) (k : Sets) (tail-masks tail-cells : List ℕ) (s : State) : Type 0 where
-  pub kept : Kept P k tail-masks tail-cells s
+pub record Holds (P : Plan) (b : Book) (tail-masks tail-cells : List ℕ) (s : State) : Type 0 where
+  pub kept : Kept P b tail-masks tail-cells s
   pub within : allWithin (P .ports) (take (ownMasks P) (s .masks)) ≡ true
   pub enough-cells : ownCells P ≤ length (s .cells)
 
@@ -221,108 +231,111 @@ length-book P k = length-cells P (configuration P k)
 long-enough : (own rest : List ℕ) (n : ℕ) → length own ≡ n → n ≤ length (own ++ rest)
 long-enough own rest n l = rw (length-append own rest) (omega arith)
 
-module _ (P : Plan) (k : Sets) (tail-masks tail-cells : List ℕ) (s : State) where
+module _ (P : Plan) (b : Book) (tail-masks tail-cells : List ℕ) (s : State) where
   -- the plan's own parts of tables that hold what they must
-  pub holds-own : Holds P k tail-masks tail-cells s → OwnKept P k (take (ownMasks P) (s .masks)) (take (ownCells P) (s .cells))
+  pub holds-own : Holds P b tail-masks tail-cells s → OwnKept P b (ownTables P s)
+  unfolding ownTables
   holds-own h = record {
     spells = h .kept .masks-are;
     enough = length-take-le (ownMasks P) (s .masks) (h .kept .enough-masks);
     within = h .within;
     penalties =
-        ap (take (ownCells P)) (h .kept .cells-are) ∙ take-at (bookCells P k) tail-cells (ownCells P) (length-book P k);
+        ap (take (ownCells P)) (h .kept .cells-are) ∙ take-at (bookCells P (b .sets)) tail-cells (ownCells P) (length-book P (b .sets));
   }
 
   -- and the rest of the cell table
-  pub holds-rest : Holds P k tail-masks tail-cells s → drop (ownCells P) (s .cells) ≡ tail-cells
+  holds-rest : Holds P b tail-masks tail-cells s → drop (ownCells P) (s .cells) ≡ tail-cells
   holds-rest h =
-      ap (drop (ownCells P)) (h .kept .cells-are) ∙ drop-at (bookCells P k) tail-cells (ownCells P) (length-book P k)
+      ap (drop (ownCells P)) (h .kept .cells-are) ∙ drop-at (bookCells P (b .sets)) tail-cells (ownCells P) (length-book P (b .sets))
 
-  pub own-holds : (own after : List ℕ) → OwnKept P k own after → s .masks ≡ own ++ tail-masks → s .cells ≡ after ++ tail-cells
-      → Holds P k tail-masks tail-cells s
-  own-holds own after o m c = record {
+  -- the plan's own part written anew has the same behind it
+  pub rest-is : Holds P b tail-masks tail-cells s → (own : State) → withRest P own s ≡ tables (own .masks ++ tail-masks) (own .cells ++ tail-cells)
+  unfolding withRest
+  rest-is h own = λ i. tables (own .masks ++ h .kept .masks-tail i) (own .cells ++ holds-rest h i)
+
+  pub own-holds : (own : State) → OwnKept P b own → s ≡ tables (own .masks ++ tail-masks) (own .cells ++ tail-cells)
+      → Holds P b tail-masks tail-cells s
+  own-holds own o e = record {
     kept = record {
-      enough-masks = rw m (long-enough own tail-masks (ownMasks P) (o .enough));
+      enough-masks = rw m (long-enough (own .masks) tail-masks (ownMasks P) (o .enough));
       masks-are = ap inMasks front ∙ o .spells;
-      masks-tail = ap (drop (ownMasks P)) m ∙ drop-at own tail-masks (ownMasks P) (o .enough);
+      masks-tail = ap (drop (ownMasks P)) m ∙ drop-at (own .masks) tail-masks (ownMasks P) (o .enough);
       cells-are = c ∙ ap (λ (l : List ℕ). l ++ tail-cells) (o .penalties);
     };
     within = rw front (o .within);
-    enough-cells = rw (c, o .penalties) (long-enough (bookCells P k) tail-cells (ownCells P) (length-book P k));
+    enough-cells = rw (c, o .penalties) (long-enough (bookCells P (b .sets)) tail-cells (ownCells P) (length-book P (b .sets)));
   }
     where
-      front : take (ownMasks P) (s .masks) ≡ own
-      front = ap (take (ownMasks P)) m ∙ take-at own tail-masks (ownMasks P) (o .enough)
+      m : s .masks ≡ own .masks ++ tail-masks
+      m = ap (λ (t : State). t .masks) e
 
-module _ (P : Plan) (facts : PlanFacts P) (k : Sets) (tail-masks tail-cells : List ℕ) (s s′ : State) (h : Holds P k tail-masks tail-cells s) where
-  move-step : (m : Move) (r : Moved) → (r, s′ .masks, s′ .cells) ≡ moves (sound P) m (s .masks) (s .cells)
-      → MovedRight (refusal (moveGrounds P k m)) P k m r × Holds P (bookStep P k (fedMove m)) tail-masks tail-cells s′
+      c : s .cells ≡ own .cells ++ tail-cells
+      c = ap (λ (t : State). t .cells) e
+
+      front : take (ownMasks P) (s .masks) ≡ own .masks
+      front = ap (take (ownMasks P)) m ∙ take-at (own .masks) tail-masks (ownMasks P) (o .enough)
+
+module _ (P : Plan) (facts : PlanFacts P) (b : Book) (tail-masks tail-cells : List ℕ) (s s′ : State) (h : Holds P b tail-masks tail-cells s) where
+  move-step : (m : Move) (r : Moved) → (r, s′) ≡ moves (sound P) m s
+      → MovedRight (refusal (moveGrounds P (b .sets) m)) P (b .sets) m r × Holds P (bookStep P b (fedMove m)) tail-masks tail-cells s′
   unfolding moves movePlan moveCallGrounds refusal someOf
   move-step m r e =
-      let own = take (ownMasks P) (s .masks) in
-      let before = take (ownCells P) (s .cells) in
-      let o = holds-own P k tail-masks tail-cells s h in
-      let q = move-own P facts m k own before o in
-      let g : refusal (tableGrounds P own (length (s .masks)) (length (s .cells) ∷ []) ++ moveGrounds P (inMasks own) m) ≡ refusal (moveGrounds P k m) =
-      tables-pass P own (length (s .masks)) (length (s .cells)) [] (moveGrounds P (inMasks own) m) (h .kept .enough-masks) (h .enough-cells) (h .within)
-      ∙ ap (λ (j : Sets). refusal (moveGrounds P j m)) (o .spells) in
-      let x = moveOr (refusal (moveGrounds P k m)) P m own before in
-      let all : _≡_ {A = Moved × List ℕ × List ℕ} (r, s′ .masks, s′ .cells) (x .0, x .1 ++ tail-masks, x .2 ++ tail-cells) =
-      e ∙ (λ i. let y = moveOr (g i) P m own before in
-      (y .0, y .1 ++ h .kept .masks-tail i, y .2 ++ holds-rest P k tail-masks tail-cells s h i)) in (
-        rw (ap (λ (t : Moved × List ℕ × List ℕ). t .0) all) (q .0),
-        own-holds P (bookStep P k (fedMove m)) tail-masks tail-cells s′ (x .1) (x .2) (q .1)
-            (ap (λ (t : Moved × List ℕ × List ℕ). t .1) all) (ap (λ (t : Moved × List ℕ × List ℕ). t .2) all),
+      let masks = take (ownMasks P) (s .masks) in
+      let own = ownTables P s in
+      let o = holds-own P b tail-masks tail-cells s h in
+      let q = move-own P facts m b own o in
+      let g : refusal (tableGrounds P masks (length (s .masks)) (length (s .cells) ∷ []) ++ moveGrounds P (inMasks masks) m)
+      ≡ refusal (moveGrounds P (b .sets) m) =
+      tables-pass P masks (length (s .masks)) (length (s .cells)) [] (moveGrounds P (inMasks masks) m) (h .kept .enough-masks) (h .enough-cells) (h .within)
+      ∙ ap (λ (j : Sets). refusal (moveGrounds P j m)) (h .kept .masks-are) in
+      let all : _≡_ {A = Moved × State} (r, s′) (let x = moveOr (refusal (moveGrounds P (b .sets) m)) P m own in (x .0, withRest P (x .1) s)) =
+      e ∙ ap (λ (i : ℕ). let x = moveOr i P m own in (x .0, withRest P (x .1) s)) g in
+      let x = moveOr (refusal (moveGrounds P (b .sets) m)) P m own in (
+        rw (ap (λ (t : Moved × State). t .0) all) (q .0),
+        own-holds P (bookStep P b (fedMove m)) tail-masks tail-cells s′ (x .1) (q .1)
+            (ap (λ (t : Moved × State). t .1) all ∙ rest-is P b tail-masks tail-cells s h (x .1)),
       )
 
-  trial-step : (m : Move) (scratch : List ℕ) (r : Moved) → r ≡ trials (sound P) m (s .masks) (s .cells) (length scratch)
-      → MovedRight (refusal (scratchGround P scratch ∷ moveGrounds P k m)) P k m r
+  trial-step : (m : Move) (scratch : List ℕ) (r : Moved) → r ≡ trials (sound P) m s (length scratch)
+      → MovedRight (refusal (scratchGround P scratch ∷ moveGrounds P (b .sets) m)) P (b .sets) m r
   unfolding trials trialPlan moveCallGrounds
   trial-step m scratch r e =
-      let own = take (ownMasks P) (s .masks) in
-      let before = take (ownCells P) (s .cells) in
-      let o = holds-own P k tail-masks tail-cells s h in
-      let g = scratch-passes P own (length (s .masks)) (length (s .cells)) scratch (moveGrounds P (inMasks own) m)
+      let masks = take (ownMasks P) (s .masks) in
+      let own = ownTables P s in
+      let g = scratch-passes P masks (length (s .masks)) (length (s .cells)) scratch (moveGrounds P (inMasks masks) m)
       (h .kept .enough-masks) (h .enough-cells) (h .within)
-      ∙ ap (λ (j : Sets). refusal (scratchGround P scratch ∷ moveGrounds P j m)) (o .spells) in
-      rw (e ∙ ap (λ (i : ℕ). trialOr i P m own before) g) (trial-own P facts m scratch k own before o)
+      ∙ ap (λ (j : Sets). refusal (scratchGround P scratch ∷ moveGrounds P j m)) (h .kept .masks-are) in
+      rw (e ∙ ap (λ (i : ℕ). trialOr i P m own) g) (trial-own P facts m scratch b own (holds-own P b tail-masks tail-cells s h))
 
-  improve-step : (kinds : ℕ) (scratch : List ℕ) (r : Improved) → Improves (sound P) kinds (s .masks) (s .cells) (length scratch) r (s′ .masks) (s′ .cells)
-      → ImprovedRight (refusal (scratchGround P scratch ∷ (14, not (kindsKnown kinds)) ∷ [])) P k kinds r
-      × Holds P (chosenStep k r) tail-masks tail-cells s′
+  improve-step : (kinds : ℕ) (scratch : List ℕ) (r : Improved) → Improves (sound P) kinds s (length scratch) r s′
+      → ImprovedRight (refusal (scratchGround P scratch ∷ (14, not (kindsKnown kinds)) ∷ [])) P (b .sets) kinds r
+      × Holds P (chosenStep b r) tail-masks tail-cells s′
   unfolding Improves ImprovesPlan improveGrounds
   improve-step kinds scratch r x =
-      let own = take (ownMasks P) (s .masks) in
-      let before = take (ownCells P) (s .cells) in
-      let o = holds-own P k tail-masks tail-cells s h in
+      let own = ownTables P s in
       let gs : List Ground = (14, not (kindsKnown kinds)) ∷ [] in
-      let g = scratch-passes P own (length (s .masks)) (length (s .cells)) scratch gs (h .kept .enough-masks) (h .enough-cells) (h .within) in
-      let q = improve-own P facts kinds (refusal (scratchGround P scratch ∷ gs)) k own before o r (x .own-masks) (x .own-cells)
-      (subst (λ (i : ℕ). ImprovesOr i P kinds own before r (x .own-masks) (x .own-cells)) g (x .improves)) in (
+      let g = scratch-passes P (take (ownMasks P) (s .masks)) (length (s .masks)) (length (s .cells)) scratch gs
+      (h .kept .enough-masks) (h .enough-cells) (h .within) in
+      let q = improve-own P facts kinds (refusal (scratchGround P scratch ∷ gs)) b own (holds-own P b tail-masks tail-cells s h) r (x .own)
+      (subst (λ (i : ℕ). ImprovesOr i P kinds own r (x .own)) g (x .improves)) in (
         q .0,
-        own-holds P (chosenStep k r) tail-masks tail-cells s′ (x .own-masks) (x .own-cells) (q .1)
-            (x .masks-are ∙ ap (λ (l : List ℕ). x .own-masks ++ l) (h .kept .masks-tail))
-            (x .cells-are ∙ ap (λ (l : List ℕ). x .own-cells ++ l) (holds-rest P k tail-masks tail-cells s h)),
+        own-holds P (chosenStep b r) tail-masks tail-cells s′ (x .own) (q .1)
+            (x .tables-are ∙ rest-is P b tail-masks tail-cells s h (x .own)),
       )
-
-  same-holds : s′ .masks ≡ s .masks → s′ .cells ≡ s .cells → Holds P k tail-masks tail-cells s′
-  same-holds a b =
-      let e : s ≡ s′ = λ i. record { masks = sym a i; cells = sym b i } in
-      subst (Holds P k tail-masks tail-cells) e h
 
   -- a call of each kind
   step-at : (bytes : List ℕ) → decode bytes ≡ sound P → (x : Exchange) → Step bytes s x s′
-      → Right P k x × Holds P (bookStep P k (feed x)) tail-masks tail-cells s′
+      → Right P b x × Holds P (bookStep P b (feed x)) tail-masks tail-cells s′
   unfolding Step Right feed bookStep
-  step-at bytes d (moveCall m r) e = move-step m r (e ∙ ap (λ (y : Decoded). moves y m (s .masks) (s .cells)) d)
+  step-at bytes d (moveCall m r) e = move-step m r (e ∙ ap (λ (y : Decoded). moves y m s) d)
   step-at bytes d (trialCall m scratch r) e =
-      (trial-step m scratch r (e .0 ∙ ap (λ (y : Decoded). trials y m (s .masks) (s .cells) (length scratch)) d), same-holds (e .1) (e .2))
+      (trial-step m scratch r (e .0 ∙ ap (λ (y : Decoded). trials y m s (length scratch)) d), subst (Holds P b tail-masks tail-cells) (sym (e .1)) h)
   step-at bytes d (improveCall kinds scratch r) e =
-      improve-step kinds scratch r
-      (subst (λ (y : Decoded). Improves y kinds (s .masks) (s .cells) (length scratch) r (s′ .masks) (s′ .cells)) d e)
+      improve-step kinds scratch r (subst (λ (y : Decoded). Improves y kinds s (length scratch) r s′) d e)
 
--- One call: its answer is right under the book's sets before it, and afterwards masks and cells are those of the book's next sets.
-pub step-right : (bytes : List ℕ) (P : Plan) → decode bytes ≡ sound P → (k : Sets) (tail-masks tail-cells : List ℕ) (s s′ : State)
-    → Holds P k tail-masks tail-cells s → (x : Exchange) → Step bytes s x s′
-    → Right P k x × Holds P (bookStep P k (feed x)) tail-masks tail-cells s′
-step-right bytes P d k tail-masks tail-cells s s′ h =
-    step-at P (plan-facts P (decode-sound bytes P d .rules)) k tail-masks tail-cells s s′ h bytes d
+-- One call: its answer is right under the book before it, and afterwards masks and cells are those of the next book.
+pub step-right : (bytes : List ℕ) (P : Plan) → decode bytes ≡ sound P → (b : Book) (tail-masks tail-cells : List ℕ) (s s′ : State)
+    → Holds P b tail-masks tail-cells s → (x : Exchange) → Step bytes s x s′
+    → Right P b x × Holds P (bookStep P b (feed x)) tail-masks tail-cells s′
+step-right bytes P d b tail-masks tail-cells s s′ h =
+    step-at P (plan-facts P (decode-sound bytes P d .rules)) b tail-masks tail-cells s s′ h bytes d

@@ -3,12 +3,21 @@
 use mathlib.Core.Bool.{cond}
 use Prim.Native.Nat.{ℕ}
 use lib.Dec.{eqb}
+use lib.ListN.{take}
 use Rattle.logic.specs.declared.Move.{Move}
 use Rattle.logic.specs.Formula.{Plan}
-use Rattle.logic.specs.Configuration.{Sets}
+use Rattle.logic.specs.Configuration.{Sets, inMasks, ownMasks}
 use Rattle.logic.specs.Moves.{refusal, moveGrounds, movePairs, flips}
+use Rattle.contracts.specs.State.{State}
 use Rattle.contracts.specs.declared.Improved.{Improved}
 use Rattle.contracts.specs.declared.Improved.the-variants.{Made, NoBetter, Refused}
+
+-- "Its state is the n sets, at first the masks after the load."
+pub record Book : Type 0 where
+  pub sets : Sets
+
+unfoldable pub firstBook : Plan → State → Book
+firstBook P s = record { sets = inMasks (take (ownMasks P) (s .masks)) }
 
 -- What the book is fed of a call.
 pub data Fed : Type 0 where
@@ -16,16 +25,23 @@ pub data Fed : Type 0 where
   fedTrial : Move → Fed
   fedImprove : ℕ → Improved → Fed
 
--- "If improve answers a move, that move's pairs change likewise. Any other answer of improve changes nothing."
-unfoldable pub chosenStep : Sets → Improved → Sets
-chosenStep k (Made chosen before after changed) = flips (movePairs chosen) k
-chosenStep k (NoBetter root) = k
-chosenStep k (Refused number) = k
+-- "in each pair (set, port) that the move changes the port enters the set if it was out, and leaves it if it was in"
+unfoldable pub bookMade : Move → Sets → Sets
+bookMade m k = flips (movePairs m) k
 
--- "A move that meets a ground for refusal, the book's sets taken as the masks, changes nothing. For any other [..] in each pair
--- (set, port) that the move changes the port enters the set if it was out, and leaves it if it was in. Trial changes nothing."
+unfoldable pub movedBook : Move → Book → Book
+movedBook m b = record { sets = bookMade m (b .sets) }
+
+-- "If improve answers a move, that move's pairs change likewise. Any other answer of improve changes nothing."
+unfoldable pub chosenStep : Book → Improved → Book
+chosenStep b (Made chosen before after changed) = movedBook chosen b
+chosenStep b (NoBetter root) = b
+chosenStep b (Refused number) = b
+
+-- "A move that meets a ground for refusal, the book's sets taken as the masks, changes nothing. For any other add, drop, transfer or
+-- swap" its pairs change. "Trial changes nothing."
 -- Of the grounds only 14 and 15 look at a move and at the sets: the others are of the tables, which the load accepted.
-unfoldable pub bookStep : Plan → Sets → Fed → Sets
-bookStep P k (fedMove m) = cond (eqb (refusal (moveGrounds P k m)) 0) (flips (movePairs m) k) k
-bookStep P k (fedTrial m) = k
-bookStep P k (fedImprove kinds answer) = chosenStep k answer
+unfoldable pub bookStep : Plan → Book → Fed → Book
+bookStep P b (fedMove m) = cond (eqb (refusal (moveGrounds P (b .sets) m)) 0) (movedBook m b) b
+bookStep P b (fedTrial m) = b
+bookStep P b (fedImprove kinds answer) = chosenStep b answer

@@ -3,17 +3,17 @@ use mathlib.Core.Path.{_≡_}
 use mathlib.Core.Bool.{true, not}
 use mathlib.Core.List.{List, [], _∷_, _++_}
 use Prim.Native.Nat.{ℕ, zero, suc, _<_}
-use lib.ListN.{length, getD, take, drop}
+use lib.ListN.{length, getD, take}
 use Rattle.logic.specs.declared.Move.{Move}
 use Rattle.logic.specs.Formula.{Plan}
 use Rattle.logic.specs.Configuration.{inMasks, ownMasks}
-use Rattle.logic.specs.Cells.{ownCells}
-use Rattle.logic.specs.Moves.{Ground, refusal, legal, kindsKnown, ofKinds, moveMasks}
+use Rattle.logic.specs.Moves.{Ground, refusal, legal, kindsKnown, ofKinds}
 use Rattle.logic.specs.Change.{differing}
 use Rattle.table_format.specs.Decode.{Decoded, broken, sound}
+use Rattle.contracts.specs.State.{State, ownTables, withRest}
 use Rattle.contracts.specs.declared.Improved.{Improved}
 use Rattle.contracts.specs.declared.Improved.the-variants.{Made, NoBetter, Refused}
-use Rattle.contracts.specs.MoveCall.{tableGrounds, cellsAfter}
+use Rattle.contracts.specs.MoveCall.{tableGrounds, cellsAfter, tablesAfter}
 use Rattle.contracts.specs.Least.{NoneBelow}
 
 -- "The answer is the number with all other fields 0."
@@ -71,45 +71,42 @@ pub record Candidate (P : Plan) (kinds : ℕ) (own : List ℕ) (m : Move) : Type
 
 -- "If a legal move of these kinds leaves a smaller root than now, it makes one that leaves the least and returns it with the
 -- three numbers."
-pub record MadeBest (P : Plan) (kinds : ℕ) (own before : List ℕ) (m : Move) (b a n : ℕ) (own′ after : List ℕ) : Type 0 where
-  pub candidate : Candidate P kinds own m
-  pub smaller : rootAfter P m own before < rootNow before
-  pub least : NoneBelow (Candidate P kinds own) (λ x. rootAfter P x own before) (rootAfter P m own before)
-  pub before-is : b ≡ rootNow before
-  pub after-is : a ≡ rootAfter P m own before
-  pub changed-is : n ≡ differing before (cellsAfter P m own before)
-  pub masks-are : own′ ≡ moveMasks m own
-  pub cells-are : after ≡ cellsAfter P m own before
+pub record MadeBest (P : Plan) (kinds : ℕ) (own : State) (m : Move) (b a n : ℕ) (own′ : State) : Type 0 where
+  pub candidate : Candidate P kinds (own .masks) m
+  pub smaller : rootAfter P m (own .masks) (own .cells) < rootNow (own .cells)
+  pub least : NoneBelow (Candidate P kinds (own .masks)) (λ x. rootAfter P x (own .masks) (own .cells)) (rootAfter P m (own .masks) (own .cells))
+  pub before-is : b ≡ rootNow (own .cells)
+  pub after-is : a ≡ rootAfter P m (own .masks) (own .cells)
+  pub changed-is : n ≡ differing (own .cells) (cellsAfter P m (own .masks) (own .cells))
+  pub tables-are : own′ ≡ tablesAfter P m own
 
 -- "Otherwise it answers "no better move" with the root and writes only scratch."
-pub record NoneBetter (P : Plan) (kinds : ℕ) (own before : List ℕ) (r : ℕ) (own′ after : List ℕ) : Type 0 where
-  pub none-smaller : NoneBelow (Candidate P kinds own) (λ x. rootAfter P x own before) (rootNow before)
-  pub root-is : r ≡ rootNow before
-  pub masks-kept : own′ ≡ own
-  pub cells-kept : after ≡ before
+pub record NoneBetter (P : Plan) (kinds : ℕ) (own : State) (r : ℕ) (own′ : State) : Type 0 where
+  pub none-smaller : NoneBelow (Candidate P kinds (own .masks)) (λ x. rootAfter P x (own .masks) (own .cells)) (rootNow (own .cells))
+  pub root-is : r ≡ rootNow (own .cells)
+  pub tables-kept : own′ ≡ own
 
--- The answers that an accepted improve may give, with the plan's own masks and cells afterwards.
-unfoldable pub Chosen : Plan → ℕ → List ℕ → List ℕ → Improved → List ℕ → List ℕ → Type 0
-Chosen P kinds own before (Made chosen b a n) own′ after = MadeBest P kinds own before chosen b a n own′ after
-Chosen P kinds own before (NoBetter root) own′ after = NoneBetter P kinds own before root own′ after
-Chosen P kinds own before (Refused number) own′ after = ⊥
+-- The answers that an accepted improve may give, with the plan's own tables afterwards.
+unfoldable pub Chosen : Plan → ℕ → State → Improved → State → Type 0
+Chosen P kinds own (Made chosen b a n) own′ = MadeBest P kinds own chosen b a n own′
+Chosen P kinds own (NoBetter root) own′ = NoneBetter P kinds own root own′
+Chosen P kinds own (Refused number) own′ = ⊥
 
-unfoldable pub ImprovesOr : ℕ → Plan → ℕ → List ℕ → List ℕ → Improved → List ℕ → List ℕ → Type 0
-ImprovesOr zero P kinds own before r own′ after = Chosen P kinds own before r own′ after
-ImprovesOr (suc g) P kinds own before r own′ after = (r ≡ Refused (suc g)) × (own′ ≡ own) × (after ≡ before)
+unfoldable pub ImprovesOr : ℕ → Plan → ℕ → State → Improved → State → Type 0
+ImprovesOr zero P kinds own r own′ = Chosen P kinds own r own′
+ImprovesOr (suc g) P kinds own r own′ = (r ≡ Refused (suc g)) × (own′ ≡ own)
 
-unfoldable pub ImprovesPlan : Plan → ℕ → List ℕ → List ℕ → ℕ → ℕ → ℕ → Improved → List ℕ → List ℕ → Type 0
-ImprovesPlan P kinds own before masks-length cells-length scratch-length r own′ after =
-    ImprovesOr (refusal (improveGrounds P own masks-length (cells-length ∷ scratch-length ∷ []) kinds)) P kinds own before r own′ after
+unfoldable pub ImprovesPlan : Plan → ℕ → State → ℕ → Improved → State → Type 0
+ImprovesPlan P kinds s scratch-length r own′ =
+    ImprovesOr (refusal (improveGrounds P (take (ownMasks P) (s .masks)) (length (s .masks)) (length (s .cells) ∷ scratch-length ∷ []) kinds)) P kinds
+    (ownTables P s) r own′
 
 -- Improve over the tables: the answer, every mask and every cell afterwards.
-pub record OwnAfter (P : Plan) (kinds : ℕ) (masks cells : List ℕ) (scratch-length : ℕ) (r : Improved) (masks′ cells′ : List ℕ) : Type 0 where
-  pub own-masks : List ℕ
-  pub own-cells : List ℕ
-  pub improves : ImprovesPlan P kinds (take (ownMasks P) masks) (take (ownCells P) cells) (length masks) (length cells) scratch-length r own-masks own-cells
-  pub masks-are : masks′ ≡ own-masks ++ drop (ownMasks P) masks
-  pub cells-are : cells′ ≡ own-cells ++ drop (ownCells P) cells
+pub record OwnAfter (P : Plan) (kinds : ℕ) (s : State) (scratch-length : ℕ) (r : Improved) (s′ : State) : Type 0 where
+  pub own : State
+  pub improves : ImprovesPlan P kinds s scratch-length r own
+  pub tables-are : s′ ≡ withRest P own s
 
-unfoldable pub Improves : Decoded → ℕ → List ℕ → List ℕ → ℕ → Improved → List ℕ → List ℕ → Type 0
-Improves broken kinds masks cells scratch-length r masks′ cells′ = (r ≡ Refused 11) × (masks′ ≡ masks) × (cells′ ≡ cells)
-Improves (sound P) kinds masks cells scratch-length r masks′ cells′ = OwnAfter P kinds masks cells scratch-length r masks′ cells′
+unfoldable pub Improves : Decoded → ℕ → State → ℕ → Improved → State → Type 0
+Improves broken kinds s scratch-length r s′ = (r ≡ Refused 11) × (s′ ≡ s)
+Improves (sound P) kinds s scratch-length r s′ = OwnAfter P kinds s scratch-length r s′

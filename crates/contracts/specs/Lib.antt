@@ -1,3 +1,4 @@
+pub mod State
 pub mod Admitted
 pub mod Read
 pub mod Load

@@ -9,15 +9,16 @@ use Rattle.logic.specs.declared.Move.{Move}
 use Rattle.logic.specs.Formula.{Plan}
 use Rattle.logic.specs.Configuration.{Sets, configuration, inMasks, ownMasks}
 use Rattle.logic.specs.Cells.{ownCells, cells as planCells, rootPenalty}
-use Rattle.logic.specs.Moves.{Ground, refusal, moveGrounds, movePairs, flips, legal, kindsKnown, ofKinds}
+use Rattle.logic.specs.Moves.{Ground, refusal, moveGrounds, movePairs, legal, kindsKnown, ofKinds}
 use Rattle.logic.specs.Change.{pairsChange, differing, touchedCount}
 use Rattle.table_format.specs.Decode.{decode}
+use Rattle.contracts.specs.State.{State}
 use Rattle.contracts.specs.declared.Moved.{Moved}
 use Rattle.contracts.specs.declared.Improved.{Improved}
 use Rattle.contracts.specs.MoveCall.{moves}
 use Rattle.contracts.specs.TrialCall.{trials}
 use Rattle.contracts.specs.ImproveCall.{Improves}
-use Rattle.contracts.specs.Book.{Fed, fedMove, fedTrial, fedImprove, bookStep}
+use Rattle.contracts.specs.Book.{Book, Fed, fedMove, fedTrial, fedImprove, bookMade, bookStep}
 use Rattle.contracts.specs.declared.Improved.the-variants as improved
 use Rattle.contracts.specs.declared.Moved.the-variants as moved
 
@@ -28,18 +29,11 @@ pub data Exchange : Type 0 where
   trialCall : Move → List ℕ → Moved → Exchange
   improveCall : ℕ → List ℕ → Improved → Exchange
 
--- "Each call is lent these tables as the last call left them, and nobody else writes them until the list ends."
-pub record State : Type 0 where
-  pub masks : List ℕ
-  pub cells : List ℕ
-
 -- One call, by the very definitions that the calls' contracts cite; s is the state before it and s′ the state after it.
 unfoldable pub Step : List ℕ → State → Exchange → State → Type 0
-Step bytes s (moveCall m r) s′ = (r, s′ .masks, s′ .cells) ≡ moves (decode bytes) m (s .masks) (s .cells)
-Step bytes s (trialCall m scratch r) s′ =
-    (r ≡ trials (decode bytes) m (s .masks) (s .cells) (length scratch)) × (s′ .masks ≡ s .masks) × (s′ .cells ≡ s .cells)
-Step bytes s (improveCall kinds scratch r) s′ =
-    Improves (decode bytes) kinds (s .masks) (s .cells) (length scratch) r (s′ .masks) (s′ .cells)
+Step bytes s (moveCall m r) s′ = (r, s′) ≡ moves (decode bytes) m s
+Step bytes s (trialCall m scratch r) s′ = (r ≡ trials (decode bytes) m s (length scratch)) × (s′ ≡ s)
+Step bytes s (improveCall kinds scratch r) s′ = Improves (decode bytes) kinds s (length scratch) r s′
 
 -- Call after call, each with an answer that its definition allows.
 pub data Run (bytes : List ℕ) : State → List Exchange → State → Type 0 where
@@ -52,10 +46,10 @@ feed (moveCall m r) = fedMove m
 feed (trialCall m scratch r) = fedTrial m
 feed (improveCall kinds scratch r) = fedImprove kinds r
 
--- The book's sets after a list.
-unfoldable pub bookAfter : Plan → Sets → List Exchange → Sets
-bookAfter P k [] = k
-bookAfter P k (x ∷ xs) = bookAfter P (bookStep P k (feed x)) xs
+-- The book after a list.
+unfoldable pub bookAfter : Plan → Book → List Exchange → Book
+bookAfter P b [] = b
+bookAfter P b (x ∷ xs) = bookAfter P (bookStep P b (feed x)) xs
 
 -- "Its roots are the root's penalties under the book's sets", and its cells the penalties of Definition 5.
 unfoldable pub bookRoot : Plan → Sets → ℕ
@@ -64,12 +58,8 @@ bookRoot P k = rootPenalty P (configuration P k)
 unfoldable pub bookCells : Plan → Sets → List ℕ
 bookCells P k = planCells P (configuration P k)
 
--- The sets "after the move as if it were made".
-unfoldable pub bookMade : Move → Sets → Sets
-bookMade m k = flips (movePairs m) k
-
--- The three numbers of an accepted move or trial: the roots' penalties before and after; "A cell has changed if its own penalties
--- under these two configurations differ"; and no more cells change than the move touches.
+-- The three numbers of an accepted move or trial: the roots' penalties before and "after the move as if it were made"; "A cell has
+-- changed if its own penalties under these two configurations differ"; and no more cells change than the move touches.
 pub record NumbersRight (P : Plan) (k : Sets) (m : Move) (before after changed : ℕ) : Type 0 where
   pub before-right : before ≡ bookRoot P k
   pub after-right : after ≡ bookRoot P (bookMade m k)
@@ -105,19 +95,20 @@ ImprovedRight zero P k kinds (improved.NoBetter root) = NoneLowers P k kinds roo
 ImprovedRight zero P k kinds (improved.Refused number) = ⊥
 ImprovedRight (suc g) P k kinds r = r ≡ improved.Refused (suc g)
 
--- An answer is right under the book's sets before its call.
-unfoldable pub Right : Plan → Sets → Exchange → Type 0
-Right P k (moveCall m r) = MovedRight (refusal (moveGrounds P k m)) P k m r
-Right P k (trialCall m scratch r) = MovedRight (refusal (scratchGround P scratch ∷ moveGrounds P k m)) P k m r
-Right P k (improveCall kinds scratch r) = ImprovedRight (refusal (scratchGround P scratch ∷ (14, not (kindsKnown kinds)) ∷ [])) P k kinds r
+-- An answer is right under the book before its call.
+unfoldable pub Right : Plan → Book → Exchange → Type 0
+Right P b (moveCall m r) = MovedRight (refusal (moveGrounds P (b .sets) m)) P (b .sets) m r
+Right P b (trialCall m scratch r) = MovedRight (refusal (scratchGround P scratch ∷ moveGrounds P (b .sets) m)) P (b .sets) m r
+Right P b (improveCall kinds scratch r) =
+    ImprovedRight (refusal (scratchGround P scratch ∷ (14, not (kindsKnown kinds)) ∷ [])) P (b .sets) kinds r
 
-unfoldable pub AllRight : Plan → Sets → List Exchange → Type 0
-AllRight P k [] = Unit {0}
-AllRight P k (x ∷ xs) = Right P k x × AllRight P (bookStep P k (feed x)) xs
+unfoldable pub AllRight : Plan → Book → List Exchange → Type 0
+AllRight P b [] = Unit {0}
+AllRight P b (x ∷ xs) = Right P b x × AllRight P (bookStep P b (feed x)) xs
 
 -- "The masks of demand 3 are the book's sets", the tail as it was; every cell is the penalty under them, the tail as it was.
-pub record Kept (P : Plan) (k : Sets) (tail-masks tail-cells : List ℕ) (s : State) : Type 0 where
+pub record Kept (P : Plan) (b : Book) (tail-masks tail-cells : List ℕ) (s : State) : Type 0 where
   pub enough-masks : ownMasks P ≤ length (s .masks)
-  pub masks-are : inMasks (take (ownMasks P) (s .masks)) ≡ k
+  pub masks-are : inMasks (take (ownMasks P) (s .masks)) ≡ b .sets
   pub masks-tail : drop (ownMasks P) (s .masks) ≡ tail-masks
-  pub cells-are : s .cells ≡ bookCells P k ++ tail-cells
+  pub cells-are : s .cells ≡ bookCells P (b .sets) ++ tail-cells

@@ -3,7 +3,7 @@ use mathlib.Core.Bool.{not, _||_}
 use mathlib.Core.List.{List, [], _∷_, _++_}
 use Prim.Native.Nat.{ℕ, zero, suc}
 use lib.Dec.{ltb}
-use lib.ListN.{length, getD, take, drop}
+use lib.ListN.{length, getD, take}
 use Rattle.logic.specs.declared.Move.{Move}
 use Rattle.logic.specs.Formula.{Plan}
 use Rattle.logic.specs.Configuration.{inMasks, ownMasks, spelled, allWithin}
@@ -11,6 +11,7 @@ use Rattle.logic.specs.Cells.{ownCells}
 use Rattle.logic.specs.Moves.{Ground, refusal, moveGrounds, moveMasks, movePairs}
 use Rattle.logic.specs.Change.{someOf, pairsChange, newCells, differing}
 use Rattle.table_format.specs.Decode.{Decoded, broken, sound}
+use Rattle.contracts.specs.State.{State, ownTables, withRest}
 use Rattle.contracts.specs.declared.Moved.{Moved}
 use Rattle.contracts.specs.declared.Moved.the-variants.{Accepted, Refused}
 
@@ -49,18 +50,22 @@ cellsAfter P m own before = newCells P (spelled P (moveMasks m own)) (pairsChang
 unfoldable pub moveAnswer : Plan → Move → List ℕ → List ℕ → Moved
 moveAnswer P m own before = Accepted (getD before 0 0) (getD (cellsAfter P m own before) 0 0) (differing before (cellsAfter P m own before))
 
--- The answer, the plan's own masks and its own cells afterwards, where the first ground that applies is given, 0 for none.
-unfoldable pub moveOr : ℕ → Plan → Move → List ℕ → List ℕ → Moved × List ℕ × List ℕ
-moveOr zero P m own before = (moveAnswer P m own before, moveMasks m own, cellsAfter P m own before)
-moveOr (suc g) P m own before = (Refused (suc g), own, before)
+-- "An accepted move writes its masks and touched cells": the plan's own tables afterwards.
+unfoldable pub tablesAfter : Plan → Move → State → State
+tablesAfter P m own = record { masks = moveMasks m (own .masks); cells = cellsAfter P m (own .masks) (own .cells) }
 
-unfoldable pub movePlan : Plan → Move → List ℕ → List ℕ → ℕ → ℕ → Moved × List ℕ × List ℕ
-movePlan P m own before masks-length cells-length =
-    moveOr (refusal (moveCallGrounds P own masks-length (cells-length ∷ []) m)) P m own before
+-- The answer and the plan's own tables afterwards, where the first ground that applies is given, 0 for none.
+unfoldable pub moveOr : ℕ → Plan → Move → State → Moved × State
+moveOr zero P m own = (moveAnswer P m (own .masks) (own .cells), tablesAfter P m own)
+moveOr (suc g) P m own = (Refused (suc g), own)
+
+unfoldable pub movePlan : Plan → Move → State → Moved × State
+movePlan P m s =
+    moveOr (refusal (moveCallGrounds P (take (ownMasks P) (s .masks)) (length (s .masks)) (length (s .cells) ∷ []) m)) P m (ownTables P s)
 
 -- The move as a function of the tables: the answer, every mask and every cell afterwards.
-unfoldable pub moves : Decoded → Move → List ℕ → List ℕ → Moved × List ℕ × List ℕ
-moves broken m masks cells = (Refused 11, masks, cells)
-moves (sound P) m masks cells =
-    let r = movePlan P m (take (ownMasks P) masks) (take (ownCells P) cells) (length masks) (length cells) in
-    (r .0, r .1 ++ drop (ownMasks P) masks, r .2 ++ drop (ownCells P) cells)
+unfoldable pub moves : Decoded → Move → State → Moved × State
+moves broken m s = (Refused 11, s)
+moves (sound P) m s =
+    let r = movePlan P m s in
+    (r .0, withRest P (r .1) s)

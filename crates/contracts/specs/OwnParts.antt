@@ -8,6 +8,7 @@ use Rattle.logic.specs.Formula.{Plan}
 use Rattle.logic.specs.Configuration.{ownMasks}
 use Rattle.logic.specs.Cells.{ownCells}
 use Rattle.table_format.specs.Decode.{Decoded, sound}
+use Rattle.contracts.specs.State.{State, ownTables}
 use Rattle.contracts.specs.declared.Improved.{Improved}
 use Rattle.contracts.specs.ImproveCall.{Improves}
 
@@ -17,19 +18,17 @@ pub record SameFirst (n : ℕ) (l l′ : List ℕ) : Type 0 where
   pub enough : ltb (length l) n ≡ ltb (length l′) n
 
 -- The tables of two calls that agree on the plan's own masks and cells and on being long enough for them.
-pub record SameTables (P : Plan) (masks masks′ cells cells′ : List ℕ) : Type 0 where
-  pub same-masks : SameFirst (ownMasks P) masks masks′
-  pub same-cells : SameFirst (ownCells P) cells cells′
+pub record SameTables (P : Plan) (s s′ : State) : Type 0 where
+  pub same-masks : SameFirst (ownMasks P) (s .masks) (s′ .masks)
+  pub same-cells : SameFirst (ownCells P) (s .cells) (s′ .cells)
 
--- The answer r with the plan's own parts of masks₁ and cells₁ afterwards is one that improve may give over these tables.
-pub record Allows (d : Decoded) (kinds : ℕ) (masks cells scratch : List ℕ) (r : Improved) (masks₁ cells₁ : List ℕ) : Type 0 where
-  pub masks-left : List ℕ
-  pub cells-left : List ℕ
-  pub allowed : Improves d kinds masks cells (length scratch) r masks-left cells-left
-  pub own-masks : (P : Plan) → d ≡ sound P → take (ownMasks P) masks-left ≡ take (ownMasks P) masks₁
-  pub own-cells : (P : Plan) → d ≡ sound P → take (ownCells P) cells-left ≡ take (ownCells P) cells₁
+-- The answer r with the plan's own part of s₁ afterwards is one that improve may give over these tables.
+pub record Allows (d : Decoded) (kinds : ℕ) (s : State) (scratch : List ℕ) (r : Improved) (s₁ : State) : Type 0 where
+  pub left : State
+  pub allowed : Improves d kinds s (length scratch) r left
+  pub own : (P : Plan) → d ≡ sound P → ownTables P left ≡ ownTables P s₁
 
 -- The tables of two calls that are lent scratch: of scratch only that both have enough or neither has.
-pub record SameLent (P : Plan) (masks masks′ cells cells′ scratch scratch′ : List ℕ) : Type 0 where
-  pub tables : SameTables P masks masks′ cells cells′
+pub record SameLent (P : Plan) (s s′ : State) (scratch scratch′ : List ℕ) : Type 0 where
+  pub same : SameTables P s s′
   pub enough : ltb (length scratch) (ownCells P) ≡ ltb (length scratch′) (ownCells P)

@@ -10,23 +10,24 @@ use Rattle.logic.specs.Configuration.{ownMasks}
 use Rattle.logic.specs.Cells.{ownCells}
 use Rattle.logic.specs.Moves.{refusal}
 use Rattle.table_format.specs.Decode.{Decoded, broken, sound}
+use Rattle.contracts.specs.State.{State, ownTables}
 use Rattle.contracts.specs.declared.Moved.{Moved}
 use Rattle.contracts.specs.declared.Moved.the-variants.{Refused}
 use Rattle.contracts.specs.MoveCall.{moveCallGrounds, moveAnswer}
 
-unfoldable pub trialOr : ℕ → Plan → Move → List ℕ → List ℕ → Moved
-trialOr zero P m own before = moveAnswer P m own before
-trialOr (suc g) P m own before = Refused (suc g)
+unfoldable pub trialOr : ℕ → Plan → Move → State → Moved
+trialOr zero P m own = moveAnswer P m (own .masks) (own .cells)
+trialOr (suc g) P m own = Refused (suc g)
 
--- The answer over the plan's own parts and the lengths of the tables.
-unfoldable pub trialPlan : Plan → Move → List ℕ → List ℕ → ℕ → ℕ → ℕ → Moved
-trialPlan P m own before masks-length cells-length scratch-length =
-    trialOr (refusal (moveCallGrounds P own masks-length (cells-length ∷ scratch-length ∷ []) m)) P m own before
+-- The answer over the tables and the length of scratch.
+unfoldable pub trialPlan : Plan → Move → State → ℕ → Moved
+trialPlan P m s scratch-length =
+    trialOr (refusal (moveCallGrounds P (take (ownMasks P) (s .masks)) (length (s .masks)) (length (s .cells) ∷ scratch-length ∷ []) m)) P m
+    (ownTables P s)
 
-unfoldable pub trials : Decoded → Move → List ℕ → List ℕ → ℕ → Moved
-trials broken m masks cells scratch-length = Refused 11
-trials (sound P) m masks cells scratch-length =
-    trialPlan P m (take (ownMasks P) masks) (take (ownCells P) cells) (length masks) (length cells) scratch-length
+unfoldable pub trials : Decoded → Move → State → ℕ → Moved
+trials broken m s scratch-length = Refused 11
+trials (sound P) m s scratch-length = trialPlan P m s scratch-length
 
 -- How many cells of scratch an accepted call may write.
 unfoldable pub scratchOwn : Decoded → ℕ

@@ -18,6 +18,7 @@ use Rattle.contracts.specs.NodeCells.{nodeCells}
 use Rattle.call_list.proofs.Scratch.{scratch-length, scratch-past}
 use Rattle.contracts.proofs.NodeAnswers.{node-own}
 use Rattle.contracts.specs.declared.Improved.{Improved}
+use Rattle.contracts.specs.State.{State, ownTables}
 use Rattle.contracts.specs.MoveCall.{moves}
 use Rattle.contracts.specs.TrialCall.{scratchOwn, trials}
 use Rattle.contracts.specs.ImproveCall.{Improves}
@@ -58,64 +59,55 @@ node-own-parts l l′ xs xs′ node b same = go (decode l) refl ∙ ap (λ (d : 
 
 -- Two moves whose tables agree on the plan's own bytes, masks and cells, and on being long enough for them, have the same answer and
 -- leave the same own masks and cells.
-pub move-own-parts : (l l′ masks masks′ cells cells′ : List ℕ) (m : Move) → SameFirst (ownBytes l) l l′
-    → ((P : Plan) → decode l ≡ sound P → SameTables P masks masks′ cells cells′)
-    → (moves (decode l) m masks cells .0 ≡ moves (decode l′) m masks′ cells′ .0)
-    × ((P : Plan) → decode l ≡ sound P
-    → (take (ownMasks P) (moves (decode l) m masks cells .1) ≡ take (ownMasks P) (moves (decode l′) m masks′ cells′ .1))
-    × (take (ownCells P) (moves (decode l) m masks cells .2) ≡ take (ownCells P) (moves (decode l′) m masks′ cells′ .2)))
+pub move-own-parts : (l l′ : List ℕ) (s s′ : State) (m : Move) → SameFirst (ownBytes l) l l′ → ((P : Plan) → decode l ≡ sound P → SameTables P s s′)
+    → (moves (decode l) m s .0 ≡ moves (decode l′) m s′ .0)
+    × ((P : Plan) → decode l ≡ sound P → ownTables P (moves (decode l) m s .1) ≡ ownTables P (moves (decode l′) m s′ .1))
 unfolding moves
-move-own-parts l l′ masks masks′ cells cells′ m b same = (
-  go (decode l) refl ∙ ap (λ (d : Decoded). moves d m masks′ cells′ .0) agree,
-  λ P e. let q = move-sound P masks masks′ cells cells′ (same P e) m in (
-    ap (λ (d : Decoded). take (ownMasks P) (moves d m masks cells .1)) e ∙ q .1
-        ∙ ap (λ (d : Decoded). take (ownMasks P) (moves d m masks′ cells′ .1)) (sym e ∙ agree),
-    ap (λ (d : Decoded). take (ownCells P) (moves d m masks cells .2)) e ∙ q .2
-        ∙ ap (λ (d : Decoded). take (ownCells P) (moves d m masks′ cells′ .2)) (sym e ∙ agree),
-  ),
+move-own-parts l l′ s s′ m b same = (
+  go (decode l) refl ∙ ap (λ (d : Decoded). moves d m s′ .0) agree,
+  λ P e. ap (λ (d : Decoded). ownTables P (moves d m s .1)) e ∙ move-sound P s s′ (same P e) m .1
+      ∙ ap (λ (d : Decoded). ownTables P (moves d m s′ .1)) (sym e ∙ agree),
 )
   where
     agree : decode l ≡ decode l′
     agree = own-agree l l′ (b .entries) (b .enough)
 
-    go : (d : Decoded) → decode l ≡ d → moves d m masks cells .0 ≡ moves d m masks′ cells′ .0
+    go : (d : Decoded) → decode l ≡ d → moves d m s .0 ≡ moves d m s′ .0
     go broken e = refl
-    go (sound P) e = move-sound P masks masks′ cells cells′ (same P e) m .0
+    go (sound P) e = move-sound P s s′ (same P e) m .0
 
 -- The same of trials, whatever scratch holds.
-pub trial-own-parts : (l l′ masks masks′ cells cells′ scratch scratch′ : List ℕ) (m : Move) → SameFirst (ownBytes l) l l′
-    → ((P : Plan) → decode l ≡ sound P → SameLent P masks masks′ cells cells′ scratch scratch′)
-    → trials (decode l) m masks cells (length scratch) ≡ trials (decode l′) m masks′ cells′ (length scratch′)
+pub trial-own-parts : (l l′ : List ℕ) (s s′ : State) (scratch scratch′ : List ℕ) (m : Move) → SameFirst (ownBytes l) l l′
+    → ((P : Plan) → decode l ≡ sound P → SameLent P s s′ scratch scratch′)
+    → trials (decode l) m s (length scratch) ≡ trials (decode l′) m s′ (length scratch′)
 unfolding trials
-trial-own-parts l l′ masks masks′ cells cells′ scratch scratch′ m b same =
-    go (decode l) refl ∙ ap (λ (d : Decoded). trials d m masks′ cells′ (length scratch′)) (own-agree l l′ (b .entries) (b .enough))
+trial-own-parts l l′ s s′ scratch scratch′ m b same =
+    go (decode l) refl ∙ ap (λ (d : Decoded). trials d m s′ (length scratch′)) (own-agree l l′ (b .entries) (b .enough))
   where
-    go : (d : Decoded) → decode l ≡ d → trials d m masks cells (length scratch) ≡ trials d m masks′ cells′ (length scratch′)
+    go : (d : Decoded) → decode l ≡ d → trials d m s (length scratch) ≡ trials d m s′ (length scratch′)
     go broken e = refl
-    go (sound P) e = trial-sound P masks masks′ cells cells′ (same P e .tables) m scratch scratch′ (same P e .enough)
+    go (sound P) e = trial-sound P s s′ (same P e .same) m scratch scratch′ (same P e .enough)
 
 -- The same of improve: over both tables the same answers are allowed, with the same own masks and cells afterwards.
-pub improve-own-parts : (l l′ masks masks′ cells cells′ scratch scratch′ : List ℕ) (kinds : ℕ) → SameFirst (ownBytes l) l l′
-    → ((P : Plan) → decode l ≡ sound P → SameLent P masks masks′ cells cells′ scratch scratch′) → (r : Improved) (masks₁ cells₁ : List ℕ)
-    → (Improves (decode l) kinds masks cells (length scratch) r masks₁ cells₁ → Allows (decode l′) kinds masks′ cells′ scratch′ r masks₁ cells₁)
-    × (Improves (decode l′) kinds masks′ cells′ (length scratch′) r masks₁ cells₁ → Allows (decode l) kinds masks cells scratch r masks₁ cells₁)
-improve-own-parts l l′ masks masks′ cells cells′ scratch scratch′ kinds b same r masks₁ cells₁ = (
-  (λ x. subst (λ (d : Decoded). Allows d kinds masks′ cells′ scratch′ r masks₁ cells₁) agree
-      (improve-any (decode l) masks masks′ cells cells′ scratch scratch′ kinds same r masks₁ cells₁ x)),
-  (λ x. improve-any (decode l) masks′ masks cells′ cells scratch′ scratch kinds
-      (λ P e. record { tables = same-back P masks masks′ cells cells′ (same P e .tables); enough = sym (same P e .enough) })
-      r masks₁ cells₁
-      (subst (λ (d : Decoded). Improves d kinds masks′ cells′ (length scratch′) r masks₁ cells₁) (sym agree) x)),
+pub improve-own-parts : (l l′ : List ℕ) (s s′ : State) (scratch scratch′ : List ℕ) (kinds : ℕ) → SameFirst (ownBytes l) l l′
+    → ((P : Plan) → decode l ≡ sound P → SameLent P s s′ scratch scratch′) → (r : Improved) (s₁ : State)
+    → (Improves (decode l) kinds s (length scratch) r s₁ → Allows (decode l′) kinds s′ scratch′ r s₁)
+    × (Improves (decode l′) kinds s′ (length scratch′) r s₁ → Allows (decode l) kinds s scratch r s₁)
+improve-own-parts l l′ s s′ scratch scratch′ kinds b same r s₁ = (
+  (λ x. subst (λ (d : Decoded). Allows d kinds s′ scratch′ r s₁) agree (improve-any (decode l) s s′ scratch scratch′ kinds same r s₁ x)),
+  (λ x. improve-any (decode l) s′ s scratch′ scratch kinds
+      (λ P e. record { same = same-back P s s′ (same P e .same); enough = sym (same P e .enough) })
+      r s₁ (subst (λ (d : Decoded). Improves d kinds s′ (length scratch′) r s₁) (sym agree) x)),
 )
   where
     agree : decode l ≡ decode l′
     agree = own-agree l l′ (b .entries) (b .enough)
 
 -- Whatever the list, no cell of scratch past the plan's own is written, and none at all where the table is broken.
-pub work-past : (bytes calls masks cells scratch answers : List ℕ) (count : ℕ) (masks′ cells′ scratch′ answers′ : List ℕ)
-    → Worked bytes calls masks cells scratch answers count masks′ cells′ scratch′ answers′
+pub work-past : (bytes calls : List ℕ) (s : State) (scratch answers : List ℕ) (count : ℕ) (s′ : State) (scratch′ answers′ : List ℕ)
+    → Worked bytes calls s scratch answers count s′ scratch′ answers′
     → (length scratch′ ≡ length scratch) × (drop (scratchOwn (decode bytes)) scratch′ ≡ drop (scratchOwn (decode bytes)) scratch)
-work-past bytes calls masks cells scratch answers count masks′ cells′ scratch′ answers′ w = (
+work-past bytes calls s scratch answers count s′ scratch′ answers′ w = (
   scratch-length (decode bytes) scratch scratch′ (w .exchanges) (w .scratch-run),
   scratch-past (decode bytes) scratch scratch′ (w .exchanges) (w .scratch-run),
 )

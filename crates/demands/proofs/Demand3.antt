@@ -6,10 +6,10 @@ use mathlib.Core.Bool.{true}
 use mathlib.Core.List.{List}
 use Prim.Native.Nat.{ℕ, _≤_}
 use native.Mathlib.Omega.{arith}
-use lib.ListN.{take, drop}
+use lib.ListN.{drop}
 use Rattle.logic.specs.declared.Move.{Move}
 use Rattle.logic.specs.Formula.{Plan}
-use Rattle.logic.specs.Configuration.{Sets, inMasks, ownMasks}
+use Rattle.logic.specs.Configuration.{Sets, ownMasks}
 use Rattle.logic.specs.Cells.{ownCells}
 use Rattle.logic.specs.Moves.{legal, ofKinds}
 use Rattle.call_list.specs.Working.{Worked}
@@ -17,7 +17,9 @@ use Rattle.table_format.specs.Decode.{Decoded, sound, decode}
 use Rattle.contracts.specs.declared.Loaded.the-variants.{Accepted}
 use Rattle.contracts.specs.Load.{loads}
 use Rattle.contracts.specs.declared.Improved.{Improved}
-use Rattle.contracts.specs.Lists.{Exchange, State, Run, bookAfter, bookRoot, bookMade, ImprovedRight, AllRight, Kept}
+use Rattle.contracts.specs.State.{State, tables}
+use Rattle.contracts.specs.Book.{firstBook, bookMade}
+use Rattle.contracts.specs.Lists.{Exchange, Run, bookAfter, bookRoot, ImprovedRight, AllRight, Kept}
 use Rattle.contracts.proofs.Lists.{load-holds, run-right}
 use Rattle.contracts.specs.declared.Improved.the-variants as improved
 
@@ -25,14 +27,13 @@ use Rattle.contracts.specs.declared.Improved.the-variants as improved
 -- allow: each answer is right under the book's sets before its call; afterwards the masks are the book's sets, each cell is
 -- Definition 5's penalty under them, and what is past the plan's own is as it was.
 pub lists-right : (bytes masks before cells : List ℕ) (root total : ℕ) → loads (decode bytes) masks before ≡ (Accepted root total, cells)
-    → (P : Plan) → decode bytes ≡ sound P → (xs : List Exchange) (s : State)
-    → Run bytes record { masks = masks; cells = cells } xs s
-    → AllRight P (inMasks (take (ownMasks P) masks)) xs
-    × Kept P (bookAfter P (inMasks (take (ownMasks P) masks)) xs) (drop (ownMasks P) masks) (drop (ownCells P) before) s
+    → (P : Plan) → decode bytes ≡ sound P → (xs : List Exchange) (s : State) → Run bytes (tables masks cells) xs s
+    → AllRight P (firstBook P (tables masks cells)) xs
+    × Kept P (bookAfter P (firstBook P (tables masks cells)) xs) (drop (ownMasks P) masks) (drop (ownCells P) before) s
 lists-right bytes masks before cells root total h P d xs s r =
     let l = sym (ap (λ (x : Decoded). loads x masks before) d) ∙ h in
-    let q = run-right bytes P d (inMasks (take (ownMasks P) masks)) (drop (ownMasks P) masks) (drop (ownCells P) before)
-    record { masks = masks; cells = cells } xs s (load-holds P masks before cells root total l) r in
+    let q = run-right bytes P d (firstBook P (tables masks cells)) (drop (ownMasks P) masks) (drop (ownCells P) before)
+    (tables masks cells) xs s (load-holds P masks before cells root total l) r in
     (q .0, q .1 .kept)
 
 isNoBetter : Improved → Type 0
@@ -54,11 +55,9 @@ no-better-exactly P k kinds (improved.Refused number) x = absurd x
 -- After an accepted load every answer that `work` writes is right under the book's sets before its call, and it leaves the masks
 -- as the book's sets and each cell as Definition 5's penalty under them, with what is past the plan's own as it was.
 pub work-right : (bytes masks before cells : List ℕ) (root total : ℕ) → loads (decode bytes) masks before ≡ (Accepted root total, cells)
-    → (P : Plan) → decode bytes ≡ sound P
-    → (calls scratch answers : List ℕ) (count : ℕ) (masks′ cells′ scratch′ answers′ : List ℕ)
-    → (w : Worked bytes calls masks cells scratch answers count masks′ cells′ scratch′ answers′)
-    → AllRight P (inMasks (take (ownMasks P) masks)) (w .exchanges)
-    × Kept P (bookAfter P (inMasks (take (ownMasks P) masks)) (w .exchanges)) (drop (ownMasks P) masks) (drop (ownCells P) before)
-    record { masks = masks′; cells = cells′ }
-work-right bytes masks before cells root total h P d calls scratch answers count masks′ cells′ scratch′ answers′ w =
-    lists-right bytes masks before cells root total h P d (w .exchanges) record { masks = masks′; cells = cells′ } (w .run)
+    → (P : Plan) → decode bytes ≡ sound P → (calls scratch answers : List ℕ) (count : ℕ) (s : State) (scratch′ answers′ : List ℕ)
+    → (w : Worked bytes calls (tables masks cells) scratch answers count s scratch′ answers′)
+    → AllRight P (firstBook P (tables masks cells)) (w .exchanges)
+    × Kept P (bookAfter P (firstBook P (tables masks cells)) (w .exchanges)) (drop (ownMasks P) masks) (drop (ownCells P) before) s
+work-right bytes masks before cells root total h P d calls scratch answers count s scratch′ answers′ w =
+    lists-right bytes masks before cells root total h P d (w .exchanges) s (w .run)

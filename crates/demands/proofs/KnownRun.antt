@@ -19,13 +19,15 @@ use Rattle.table_format.specs.Bytes.{encoding}
 use Rattle.table_format.specs.Rules.{everyNode, treeCount, arityRule, mayNest, nestingRule, depthRule, literalRule, innerRule, nodeRule, formulaRule, mostCells, planRule}
 use Rattle.table_format.specs.Decode.{Decoded, sound, decode}
 use Rattle.table_format.proofs.Encoding.{decode-complete}
+use Rattle.contracts.specs.State.{State, tables, ownTables, withRest}
+use Rattle.contracts.specs.Book.{firstBook}
 use Rattle.contracts.specs.Load.{loadGrounds, loadOr, loadPlan, loads}
 use Rattle.contracts.specs.declared.Moved.{Moved}
 use Rattle.contracts.specs.declared.Improved.{Improved}
-use Rattle.contracts.specs.MoveCall.{tableGrounds, moveCallGrounds, cellsAfter, moveAnswer, moveOr, movePlan, moves}
+use Rattle.contracts.specs.MoveCall.{tableGrounds, moveCallGrounds, cellsAfter, moveAnswer, tablesAfter, moveOr, movePlan, moves}
 use Rattle.contracts.specs.TrialCall.{trialOr, trialPlan, trials}
 use Rattle.contracts.specs.ImproveCall.{improveGrounds, rootNow, rootAfter, Chosen, ImprovesOr, ImprovesPlan, Improves}
-use Rattle.contracts.specs.Lists.{Exchange, moveCall, trialCall, improveCall, State, Step, Run, ended, called, bookAfter, AllRight, Kept}
+use Rattle.contracts.specs.Lists.{Exchange, moveCall, trialCall, improveCall, Step, Run, ended, called, bookAfter, AllRight, Kept}
 use Rattle.demands.proofs.Demand3.{lists-right}
 use Rattle.contracts.specs.declared.Moved.the-variants as moved
 use Rattle.contracts.specs.declared.Loaded.the-variants as loaded
@@ -33,7 +35,7 @@ use Rattle.contracts.specs.declared.Improved.the-variants as improved
 
 -- what computes here
 computing : Unit {0}
-unfolding kindNumber nodeCount childDepth indicator portsIn configuration configured inMask inMasks ownMasks spelled withinPorts enter leave portOf compare sizePenalty literalPenalty sum least copy combine eachPort below penalties penalty cellCount placeOf tupleAt tabulate siblingFirst layout ownCells cells rootPenalty moveKind fieldsKnown fieldsFit known fits legal refusal moveGrounds kindMasks moveMasks kindPairs movePairs kindWeight kindsKnown ofKinds someOf pairsChange memberHit hit nodeHit forestHit touched modulus differences newNumbers renew cellOf renewals newCell newCells differing literal over plan planA move everyNode treeCount arityRule mayNest nestingRule depthRule literalRule innerRule nodeRule formulaRule mostCells planRule allWithin loadGrounds loadOr loadPlan loads tableGrounds moveCallGrounds cellsAfter moveAnswer moveOr movePlan moves trialOr trialPlan trials improveGrounds rootNow rootAfter Chosen ImprovesOr ImprovesPlan Improves Step
+unfolding kindNumber nodeCount childDepth indicator portsIn configuration configured inMask inMasks ownMasks spelled withinPorts enter leave portOf compare sizePenalty literalPenalty sum least copy combine eachPort below penalties penalty cellCount placeOf tupleAt tabulate siblingFirst layout ownCells cells rootPenalty moveKind fieldsKnown fieldsFit known fits legal refusal moveGrounds kindMasks moveMasks kindPairs movePairs kindWeight kindsKnown ofKinds someOf pairsChange memberHit hit nodeHit forestHit touched modulus differences newNumbers renew cellOf renewals newCell newCells differing literal over plan planA move everyNode treeCount arityRule mayNest nestingRule depthRule literalRule innerRule nodeRule formulaRule mostCells planRule allWithin loadGrounds loadOr loadPlan loads tableGrounds moveCallGrounds cellsAfter moveAnswer moveOr movePlan moves trialOr trialPlan trials improveGrounds rootNow rootAfter Chosen ImprovesOr ImprovesPlan Improves Step ownTables withRest tablesAfter
 computing = tt
 
 -- plan A's cells under its masks, and after each of four moves
@@ -59,12 +61,12 @@ masksWith S T I = S ∷ T ∷ I ∷ 255 ∷ []
 abbrev lent : List ℕ → List ℕ
 lent own = own ++ 77 ∷ []
 
-abbrev outcome : Moved → List ℕ → List ℕ → Moved × List ℕ × List ℕ
-outcome r masks cells = (r, masks, cells)
+abbrev outcome : Moved → List ℕ → List ℕ → Moved × State
+outcome r masks cells = (r, tables masks cells)
 
 -- one move over plan A's tables as the load leaves them
-abbrev moved-A : ℕ → ℕ → ℕ → ℕ → ℕ → Moved × List ℕ × List ℕ
-moved-A kind s t p q = moves (sound planA) (move kind s t p q) (masksWith 3 7 1) (lent cellsA)
+abbrev moved-A : ℕ → ℕ → ℕ → ℕ → ℕ → Moved × State
+moved-A kind s t p q = moves (sound planA) (move kind s t p q) (tables (masksWith 3 7 1) (lent cellsA))
 
 -- S has ports 0 and 1, T 0 to 2, I 0. Add 2 to I; drop 1 from T; transfer 2 from T to I; swap 0 and 2 in I.
 pub known-moves : (moved-A 1 2 0 2 0 ≡ outcome (moved.Accepted 1 3 8) (masksWith 3 7 5) (lent cellsAdd))
@@ -76,7 +78,7 @@ known-moves = (refl, refl, refl, refl)
 
 -- Add 0 to S, drop 2 from S, transfer 0 from T to S, swap 0 and 1 in S: each breaks its condition. A field that the kind doesn't use
 -- is not 0; kinds 0 and 5; a fourth set, a fourth port.
-abbrev refused-A : ℕ → Moved × List ℕ × List ℕ
+abbrev refused-A : ℕ → Moved × State
 refused-A number = outcome (moved.Refused number) (masksWith 3 7 1) (lent cellsA)
 
 pub known-refusals : (moved-A 1 0 0 0 0 ≡ refused-A 15)
@@ -95,9 +97,9 @@ unfolding computing
 known-refusals = (refl, refl, refl, refl, refl, refl, refl, refl, refl, refl, refl, refl)
 
 -- 12 before 13: a mask short; a cell short; then a mask of the plan's own with port 3.
-pub known-tables : (moves (sound planA) (move 1 0 0 0 0) (8 ∷ 7 ∷ []) (lent cellsA) ≡ outcome (moved.Refused 12) (8 ∷ 7 ∷ []) (lent cellsA))
-    × (moves (sound planA) (move 1 0 0 0 0) (masksWith 8 7 1) (0 ∷ []) ≡ outcome (moved.Refused 12) (masksWith 8 7 1) (0 ∷ []))
-    × (moves (sound planA) (move 0 0 0 0 0) (masksWith 8 7 1) (lent cellsA) ≡ outcome (moved.Refused 13) (masksWith 8 7 1) (lent cellsA))
+pub known-tables : (moves (sound planA) (move 1 0 0 0 0) (tables (8 ∷ 7 ∷ []) (lent cellsA)) ≡ outcome (moved.Refused 12) (8 ∷ 7 ∷ []) (lent cellsA))
+    × (moves (sound planA) (move 1 0 0 0 0) (tables (masksWith 8 7 1) (0 ∷ [])) ≡ outcome (moved.Refused 12) (masksWith 8 7 1) (0 ∷ []))
+    × (moves (sound planA) (move 0 0 0 0 0) (tables (masksWith 8 7 1) (lent cellsA)) ≡ outcome (moved.Refused 13) (masksWith 8 7 1) (lent cellsA))
 unfolding computing
 known-tables = (refl, refl, refl)
 
@@ -147,7 +149,7 @@ unfolding computing
 known-load = ap (λ (d : Decoded). loads d (masksWith 3 7 1) (lent (replicate 34 4294967295))) decode-A
 
 abbrev state : List ℕ → List ℕ → State
-state masks own = record { masks = masks; cells = lent own }
+state masks own = tables masks (lent own)
 
 -- Scratch that is long enough and holds anything, and scratch that is too short.
 abbrev scratch : List ℕ
@@ -159,24 +161,26 @@ short = replicate 33 0
 from-zero : (n : ℕ) → 0 ≤ n
 from-zero n = omega arith
 
+abbrev stateA : State
+stateA = state (masksWith 3 7 1) cellsA
+
+abbrev stateDrop : State
+stateDrop = state (masksWith 3 5 1) cellsDrop
+
 -- once the root is 0 no move leaves a smaller one
-none-better : Improves (sound planA) 15 (masksWith 3 5 1) (lent cellsDrop) (length scratch) (improved.NoBetter 0) (masksWith 3 5 1) (lent cellsDrop)
+none-better : Improves (sound planA) 15 stateDrop (length scratch) (improved.NoBetter 0) stateDrop
 unfolding computing
 none-better = record {
-  own-masks = 3 ∷ 5 ∷ 1 ∷ [];
-  own-cells = cellsDrop;
-  improves = record { none-smaller = λ m c. from-zero _; root-is = refl; masks-kept = refl; cells-kept = refl };
-  masks-are = refl;
-  cells-are = refl;
+  own = tables (3 ∷ 5 ∷ 1 ∷ []) cellsDrop;
+  improves = record { none-smaller = λ m c. from-zero _; root-is = refl; tables-kept = refl };
+  tables-are = refl;
 }
 
 -- B's drop leaves the root 0, and no move leaves a smaller one
-drop-best : Improves (sound planA) 15 (masksWith 3 7 1) (lent cellsA) (length scratch)
-    (improved.Made (move 2 1 0 1 0) 1 0 8) (masksWith 3 5 1) (lent cellsDrop)
+drop-best : Improves (sound planA) 15 stateA (length scratch) (improved.Made (move 2 1 0 1 0) 1 0 8) stateDrop
 unfolding computing
 drop-best = record {
-  own-masks = 3 ∷ 5 ∷ 1 ∷ [];
-  own-cells = cellsDrop;
+  own = tables (3 ∷ 5 ∷ 1 ∷ []) cellsDrop;
   improves = record {
     candidate = record { of-kinds = refl; is-legal = refl };
     smaller = omega arith;
@@ -184,46 +188,34 @@ drop-best = record {
     before-is = refl;
     after-is = refl;
     changed-is = refl;
-    masks-are = refl;
-    cells-are = refl;
+    tables-are = refl;
   };
-  masks-are = refl;
-  cells-are = refl;
+  tables-are = refl;
 }
 
 -- refused for scratch that is too short, and for a sum of 0
-improve-short : Improves (sound planA) 15 (masksWith 3 7 1) (lent cellsA) (length short) (improved.Refused 12) (masksWith 3 7 1) (lent cellsA)
+improve-short : Improves (sound planA) 15 stateA (length short) (improved.Refused 12) stateA
 unfolding computing
-improve-short = record { own-masks = 3 ∷ 7 ∷ 1 ∷ []; own-cells = cellsA; improves = (refl, refl, refl); masks-are = refl; cells-are = refl }
+improve-short = record { own = tables (3 ∷ 7 ∷ 1 ∷ []) cellsA; improves = (refl, refl); tables-are = refl }
 
-improve-none : Improves (sound planA) 0 (masksWith 3 7 1) (lent cellsA) (length scratch) (improved.Refused 14) (masksWith 3 7 1) (lent cellsA)
+improve-none : Improves (sound planA) 0 stateA (length scratch) (improved.Refused 14) stateA
 unfolding computing
-improve-none = record { own-masks = 3 ∷ 7 ∷ 1 ∷ []; own-cells = cellsA; improves = (refl, refl, refl); masks-are = refl; cells-are = refl }
-
-abbrev stateA : State
-stateA = state (masksWith 3 7 1) cellsA
-
-abbrev stateDrop : State
-stateDrop = state (masksWith 3 5 1) cellsDrop
+improve-none = record { own = tables (3 ∷ 7 ∷ 1 ∷ []) cellsA; improves = (refl, refl); tables-are = refl }
 
 -- one call of a list over plan A's table
-move-called : (m : Move) (r : Moved) (s s′ : State) → (r, s′ .masks, s′ .cells) ≡ moves (sound planA) m (s .masks) (s .cells)
-    → Step bytesA s (moveCall m r) s′
+move-called : (m : Move) (r : Moved) (s s′ : State) → (r, s′) ≡ moves (sound planA) m s → Step bytesA s (moveCall m r) s′
 unfolding Step
-move-called m r s s′ e = e ∙ ap (λ (d : Decoded). moves d m (s .masks) (s .cells)) (sym decode-A)
+move-called m r s s′ e = e ∙ ap (λ (d : Decoded). moves d m s) (sym decode-A)
 
 trial-called : (m : Move) (lent-scratch : List ℕ) (r : Moved) (s : State)
-    → r ≡ trials (sound planA) m (s .masks) (s .cells) (length lent-scratch) → Step bytesA s (trialCall m lent-scratch r) s
+    → r ≡ trials (sound planA) m s (length lent-scratch) → Step bytesA s (trialCall m lent-scratch r) s
 unfolding Step
-trial-called m lent-scratch r s e =
-    (e ∙ ap (λ (d : Decoded). trials d m (s .masks) (s .cells) (length lent-scratch)) (sym decode-A), refl, refl)
+trial-called m lent-scratch r s e = (e ∙ ap (λ (d : Decoded). trials d m s (length lent-scratch)) (sym decode-A), refl)
 
 improve-called : (kinds : ℕ) (lent-scratch : List ℕ) (r : Improved) (s s′ : State)
-    → Improves (sound planA) kinds (s .masks) (s .cells) (length lent-scratch) r (s′ .masks) (s′ .cells)
-    → Step bytesA s (improveCall kinds lent-scratch r) s′
+    → Improves (sound planA) kinds s (length lent-scratch) r s′ → Step bytesA s (improveCall kinds lent-scratch r) s′
 unfolding Step
-improve-called kinds lent-scratch r s s′ x =
-    subst (λ (d : Decoded). Improves d kinds (s .masks) (s .cells) (length lent-scratch) r (s′ .masks) (s′ .cells)) (sym decode-A) x
+improve-called kinds lent-scratch r s s′ x = subst (λ (d : Decoded). Improves d kinds s (length lent-scratch) r s′) (sym decode-A) x
 
 -- A list from the tables as the load leaves them: B's drop (1 before, 0 after, 8 changed), an add that is refused, and "no better
 -- move" of any kind.
@@ -255,8 +247,8 @@ known-run-improve =
     (called (improve-called 15 scratch (improved.NoBetter 0) stateDrop stateDrop none-better) ended))))))
 
 -- Demand 3's theorem at the first list: what it promises of a list that there is.
-pub known-list-right : AllRight planA (inMasks (3 ∷ 7 ∷ 1 ∷ [])) knownExchanges
-    × Kept planA (bookAfter planA (inMasks (3 ∷ 7 ∷ 1 ∷ [])) knownExchanges) (255 ∷ []) (77 ∷ []) stateDrop
+pub known-list-right : AllRight planA (firstBook planA stateA) knownExchanges
+    × Kept planA (bookAfter planA (firstBook planA stateA) knownExchanges) (255 ∷ []) (77 ∷ []) stateDrop
 unfolding ownMasks ownCells cellCount childDepth planA plan over literal
 known-list-right =
     lists-right bytesA (masksWith 3 7 1) (lent (replicate 34 4294967295)) (lent cellsA) 1 34 known-load planA decode-A

@@ -6,12 +6,12 @@ use Prim.Native.Nat.{ℕ, _≤_, _<_}
 use native.Mathlib.Omega.{arith}
 use lib.ListN.{length}
 use Rattle.logic.specs.Formula.{Plan}
-use Rattle.logic.specs.Moves.{moveMasks}
 use Rattle.logic.specs.Change.{differing}
 use Rattle.cells_walk.specs.inner.Visit.{CellsFit, TablesLong}
 use Rattle.call_open.specs.declared.Opened.{Opened}
 use Rattle.call_open.specs.inner.Opening.{OpenPlan}
-use Rattle.contracts.specs.MoveCall.{cellsAfter}
+use Rattle.contracts.specs.State.{tables}
+use Rattle.contracts.specs.MoveCall.{cellsAfter, tablesAfter}
 use Rattle.contracts.specs.ImproveCall.{rootNow, rootAfter, MadeBest, NoneBetter}
 use Rattle.move_best.specs.declared.Choice.{Choice}
 use Rattle.move_best.specs.inner.Choosing.{SearchReady, BestFound, NoneFound, FoundOr}
@@ -43,7 +43,8 @@ module _ (P : Plan) (kinds : ℕ) (own before : List ℕ) (r : Choice) (h : Foun
 
   -- The move call with the chosen move makes the best one.
   pub made-best : r .found ≡ true
-      → MadeBest P kinds own before (r .m) (rootNow before) (rootAfter P (r .m) own before) (differing before (cellsAfter P (r .m) own before)) (moveMasks (r .m) own) (cellsAfter P (r .m) own before)
+      → MadeBest P kinds (tables own before) (r .m) (rootNow before) (rootAfter P (r .m) own before) (differing before (cellsAfter P (r .m) own before))
+      (tablesAfter P (r .m) (tables own before))
   made-best e =
       let B = best-found e in
       record {
@@ -53,12 +54,11 @@ module _ (P : Plan) (kinds : ℕ) (own before : List ℕ) (r : Choice) (h : Foun
         before-is = refl;
         after-is = refl;
         changed-is = refl;
-        masks-are = refl;
-        cells-are = refl;
+        tables-are = refl;
       }
 
   -- If nothing is found, there is no better move, and the root comes with the answer.
-  pub none-better : r .found ≡ false → NoneBetter P kinds own before (r .root) own before
+  pub none-better : r .found ≡ false → NoneBetter P kinds (tables own before) (r .root) (tables own before)
   none-better e =
       let N = none-found e in
-      record { none-smaller = N .none-smaller; root-is = N .root-is; masks-kept = refl; cells-kept = refl }
+      record { none-smaller = N .none-smaller; root-is = N .root-is; tables-kept = refl }

@@ -29,13 +29,14 @@ use Rattle.call_open.specs.declared.Opened.{Opened}
 use Rattle.call_open.specs.inner.Opening.{openNumber, OpenPlan}
 use Rattle.move_legal.specs.inner.Legal.{tEnd, Fields, LegalOver, MoveNumber, MoveReady}
 use Rattle.move_legal.proofs.Known.{known-fields}
+use Rattle.contracts.specs.State.{State, tables, ownTables, withRest}
 use Rattle.contracts.specs.declared.Moved.{Moved}
 use Rattle.contracts.specs.declared.Moved.the-variants.{Accepted}
-use Rattle.contracts.specs.MoveCall.{cellsAfter, moveAnswer, moveOr, moves}
+use Rattle.contracts.specs.MoveCall.{cellsAfter, moveAnswer, tablesAfter, moveOr, moves}
 use Rattle.contracts.proofs.Steps.{grounds-legal}
 use Rattle.contracts.proofs.Within.{move-within, move-length}
 use Rattle.move_make.specs.inner.Judged.{Carried, Carries}
-use Rattle.move_make.proofs.Answering.{move-opened}
+use Rattle.move_make.proofs.Answering.{moveWhole, move-opened}
 
 -- a plan whose tables are open, and a move to which neither 14 nor 15 applies
 module _ (bytes masks : List ℕ) (shortest : ℕ) (o : Opened) (firsts ends uses : List ℕ) (opened : OpenPlan bytes masks shortest o firsts ends uses) where
@@ -222,10 +223,10 @@ carried bytes masks cells P d m r new ys rest a c y t Q e =
 -- the whole answer of a move
 pub move-made : (bytes masks cells : List ℕ) (P : Plan) → decode bytes ≡ sound P → (m : Move) (r : After) (masks′ cells′ : List ℕ)
     → refusal (moveGrounds P (inMasks (take (ownMasks P) masks)) m) ≡ 0 → openNumber (decode bytes) masks (length cells) ≡ 0 → Carries bytes masks cells m r masks′ cells′
-    → _≡_ {A = Moved × List ℕ × List ℕ} (Accepted (r .old) (r .value) (r .changed), masks′, cells′) (moves (decode bytes) m masks cells)
-unfolding moveOr Carries
+    → _≡_ {A = Moved × State} (Accepted (r .old) (r .value) (r .changed), tables masks′ cells′) (moves (decode bytes) m (tables masks cells))
+unfolding moveOr moveWhole tablesAfter ownTables withRest Carries
 move-made bytes masks cells P d m r masks′ cells′ none open-is carries =
     let c = carries P d in
-    (λ i. (c .answer-is i, c .masks-are i, c .cells-are i))
+    (λ i. (c .answer-is i, tables (c .masks-are i) (c .cells-are i)))
     ∙ move-opened P m masks cells 0 (ap (λ (x : Decoded). openNumber x masks (length cells)) (sym d) ∙ open-is) (sym none)
-    ∙ ap (λ (x : Decoded). moves x m masks cells) (sym d)
+    ∙ ap (λ (x : Decoded). moves x m (tables masks cells)) (sym d)

@@ -1,12 +1,12 @@
 -- The answers of trial and move, by the grounds in the order in which the code tries them. Assumes nothing.
 use mathlib.Core.Path.{_≡_, refl, sym, ap, _∙_}
 use mathlib.Core.Bool.{Bool, true, false, cond, not, _||_}
-use mathlib.Core.List.{List, [], _∷_, _++_}
+use mathlib.Core.List.{List, [], _∷_}
 use Prim.Native.Nat.{ℕ, zero, suc, _≤_, min}
 use native.Mathlib.Omega.{arith}
 use native.Mathlib.Decide.{decLe}
 use lib.Dec.{ltb}
-use lib.ListN.{length, take, drop, take-append-drop}
+use lib.ListN.{length, take, take-append-drop}
 use borrow.Author.Tests.{lt-ltb, le-ltb}
 use Rattle.logic.specs.declared.Move.{Move}
 use Rattle.logic.specs.Formula.{Plan}
@@ -15,6 +15,7 @@ use Rattle.logic.specs.Cells.{ownCells}
 use Rattle.logic.specs.Moves.{refusal, moveGrounds}
 use Rattle.logic.specs.Change.{someOf}
 use Rattle.table_format.specs.Decode.{Decoded, broken, sound}
+use Rattle.contracts.specs.State.{State, tables, ownTables, withRest}
 use Rattle.contracts.specs.declared.Moved.{Moved}
 use Rattle.contracts.specs.declared.Moved.the-variants.{Refused}
 use Rattle.contracts.specs.MoveCall.{tableGrounds, moveCallGrounds, moveAnswer, moveOr, movePlan, moves}
@@ -77,81 +78,81 @@ unfolding someOf
 one-length P x = shortest-of-one x (ownCells P)
 
 -- trial
-pub trial-closed : (d : Decoded) (m : Move) (masks cells : List ℕ) (s g : ℕ) → suc g ≡ openNumber d masks (min (length cells) s) → Refused (suc g) ≡ trials d m masks cells s
+pub trial-closed : (d : Decoded) (m : Move) (masks cells : List ℕ) (s g : ℕ) → suc g ≡ openNumber d masks (min (length cells) s)
+    → Refused (suc g) ≡ trials d m (tables masks cells) s
 unfolding openNumber trials trialPlan trialOr
 trial-closed broken m masks cells s g h = ap Refused h
 trial-closed (sound P) m masks cells s g h =
-    sym (ap (λ (n : ℕ). trialOr n P m (take (ownMasks P) masks) (take (ownCells P) cells))
+    sym (ap (λ (n : ℕ). trialOr n P m (ownTables P (tables masks cells)))
     (closed-first P m (take (ownMasks P) masks) (length masks) (min (length cells) s) (length cells ∷ s ∷ []) (two-lengths P (length cells) s) g h))
 
 pub trial-opened : (P : Plan) (m : Move) (masks cells : List ℕ) (s n : ℕ) → openNumber (sound P) masks (min (length cells) s) ≡ 0
-    → n ≡ refusal (moveGrounds P (inMasks (take (ownMasks P) masks)) m) → trialOr n P m (take (ownMasks P) masks) (take (ownCells P) cells) ≡ trials (sound P) m masks cells s
+    → n ≡ refusal (moveGrounds P (inMasks (take (ownMasks P) masks)) m)
+    → trialOr n P m (ownTables P (tables masks cells)) ≡ trials (sound P) m (tables masks cells) s
 unfolding openNumber trials trialPlan
 trial-opened P m masks cells s n h q =
-    ap (λ (x : ℕ). trialOr x P m (take (ownMasks P) masks) (take (ownCells P) cells))
+    ap (λ (x : ℕ). trialOr x P m (ownTables P (tables masks cells)))
     (q ∙ sym (open-then P m (take (ownMasks P) masks) (length masks) (min (length cells) s) (length cells ∷ s ∷ []) (two-lengths P (length cells) s) h))
 
--- a move
-abbrev Result : Type 0
-Result = Moved × List ℕ × List ℕ
-
-pub move-closed : (d : Decoded) (m : Move) (masks cells : List ℕ) (g : ℕ) → suc g ≡ openNumber d masks (length cells)
-    → _≡_ {A = Moved × List ℕ × List ℕ} (Refused (suc g), masks, cells) (moves d m masks cells)
-unfolding openNumber moves movePlan moveOr
-move-closed broken m masks cells g h = ap (λ (x : ℕ). (Refused x, masks, cells)) h
-move-closed (sound P) m masks cells g h =
-    sym (λ i. (Refused (suc g), take-append-drop (ownMasks P) masks i, take-append-drop (ownCells P) cells i))
-    ∙ sym (ap whole (closed-first P m (take (ownMasks P) masks) (length masks) (length cells) (length cells ∷ []) (one-length P (length cells)) g h))
-  where
-    whole : ℕ → Result
-    whole n = let r = moveOr n P m (take (ownMasks P) masks) (take (ownCells P) cells) in (r .0, r .1 ++ drop (ownMasks P) masks, r .2 ++ drop (ownCells P) cells)
+-- a move over the tables, by the first ground that applies
+unfoldable pub moveWhole : ℕ → Plan → Move → State → Moved × State
+moveWhole n P m s =
+    let r = moveOr n P m (ownTables P s) in
+    (r .0, withRest P (r .1) s)
 
 -- the tables of a refused move are as they were
-refused-whole : (P : Plan) (m : Move) (masks cells : List ℕ) (g : ℕ)
-    → _≡_ {A = Moved × List ℕ × List ℕ} (Refused (suc g), masks, cells)
-    (Refused (suc g), take (ownMasks P) masks ++ drop (ownMasks P) masks, take (ownCells P) cells ++ drop (ownCells P) cells)
-refused-whole P m masks cells g = sym (λ i. (Refused (suc g), take-append-drop (ownMasks P) masks i, take-append-drop (ownCells P) cells i))
+refused-whole : (P : Plan) (m : Move) (s : State) (g : ℕ) → _≡_ {A = Moved × State} (Refused (suc g), s) (moveWhole (suc g) P m s)
+unfolding moveWhole moveOr ownTables withRest
+refused-whole P m s g =
+    sym (λ i. (Refused (suc g), tables (take-append-drop (ownMasks P) (s .masks) i) (take-append-drop (ownCells P) (s .cells) i)))
+
+pub move-closed : (d : Decoded) (m : Move) (masks cells : List ℕ) (g : ℕ) → suc g ≡ openNumber d masks (length cells)
+    → _≡_ {A = Moved × State} (Refused (suc g), tables masks cells) (moves d m (tables masks cells))
+unfolding openNumber moves movePlan moveWhole
+move-closed broken m masks cells g h = ap (λ (x : ℕ). (Refused x, tables masks cells)) h
+move-closed (sound P) m masks cells g h =
+    refused-whole P m (tables masks cells) g
+    ∙ sym (ap (λ (n : ℕ). moveWhole n P m (tables masks cells))
+    (closed-first P m (take (ownMasks P) masks) (length masks) (length cells) (length cells ∷ []) (one-length P (length cells)) g h))
 
 pub move-opened : (P : Plan) (m : Move) (masks cells : List ℕ) (n : ℕ) → openNumber (sound P) masks (length cells) ≡ 0
     → n ≡ refusal (moveGrounds P (inMasks (take (ownMasks P) masks)) m)
-    → (let r = moveOr n P m (take (ownMasks P) masks) (take (ownCells P) cells) in
-    _≡_ {A = Moved × List ℕ × List ℕ} (r .0, r .1 ++ drop (ownMasks P) masks, r .2 ++ drop (ownCells P) cells) (moves (sound P) m masks cells))
-unfolding openNumber moves movePlan
+    → moveWhole n P m (tables masks cells) ≡ moves (sound P) m (tables masks cells)
+unfolding openNumber moves movePlan moveWhole
 move-opened P m masks cells n h q =
-    ap (λ (x : ℕ). (let r = moveOr x P m (take (ownMasks P) masks) (take (ownCells P) cells) in (r .0, r .1 ++ drop (ownMasks P) masks, r .2 ++ drop (ownCells P) cells)))
+    ap (λ (x : ℕ). moveWhole x P m (tables masks cells))
     (q ∙ sym (open-then P m (take (ownMasks P) masks) (length masks) (length cells) (length cells ∷ []) (one-length P (length cells)) h))
 
 pub move-refused : (P : Plan) (m : Move) (masks cells : List ℕ) (g : ℕ) → openNumber (sound P) masks (length cells) ≡ 0
     → suc g ≡ refusal (moveGrounds P (inMasks (take (ownMasks P) masks)) m)
-    → _≡_ {A = Moved × List ℕ × List ℕ} (Refused (suc g), masks, cells) (moves (sound P) m masks cells)
-unfolding moveOr
-move-refused P m masks cells g h q = refused-whole P m masks cells g ∙ move-opened P m masks cells (suc g) h q
+    → _≡_ {A = Moved × State} (Refused (suc g), tables masks cells) (moves (sound P) m (tables masks cells))
+move-refused P m masks cells g h q = refused-whole P m (tables masks cells) g ∙ move-opened P m masks cells (suc g) h q
 
 -- the same by a number that is not 0
 pub move-shut : (d : Decoded) (m : Move) (masks cells : List ℕ) (n : ℕ) → (n ≡ 0 → ⊥) → n ≡ openNumber d masks (length cells)
-    → _≡_ {A = Moved × List ℕ × List ℕ} (Refused n, masks, cells) (moves d m masks cells)
+    → _≡_ {A = Moved × State} (Refused n, tables masks cells) (moves d m (tables masks cells))
 move-shut d m masks cells zero h q = absurd (h refl)
 move-shut d m masks cells (suc g) h q = move-closed d m masks cells g q
 
-pub trial-shut : (d : Decoded) (m : Move) (masks cells : List ℕ) (s n : ℕ) → (n ≡ 0 → ⊥) → n ≡ openNumber d masks (min (length cells) s) → Refused n ≡ trials d m masks cells s
+pub trial-shut : (d : Decoded) (m : Move) (masks cells : List ℕ) (s n : ℕ) → (n ≡ 0 → ⊥) → n ≡ openNumber d masks (min (length cells) s) → Refused n ≡ trials d m (tables masks cells) s
 trial-shut d m masks cells s zero h q = absurd (h refl)
 trial-shut d m masks cells s (suc g) h q = trial-closed d m masks cells s g q
 
 pub move-barred : (d : Decoded) (P : Plan) → d ≡ sound P → (m : Move) (masks cells : List ℕ) (n : ℕ) → (n ≡ 0 → ⊥) → openNumber d masks (length cells) ≡ 0
-    → n ≡ refusal (moveGrounds P (inMasks (take (ownMasks P) masks)) m) → _≡_ {A = Moved × List ℕ × List ℕ} (Refused n, masks, cells) (moves d m masks cells)
+    → n ≡ refusal (moveGrounds P (inMasks (take (ownMasks P) masks)) m) → _≡_ {A = Moved × State} (Refused n, tables masks cells) (moves d m (tables masks cells))
 move-barred d P e m masks cells zero h o q = absurd (h refl)
 move-barred d P e m masks cells (suc g) h o q =
-    move-refused P m masks cells g (ap (λ (x : Decoded). openNumber x masks (length cells)) (sym e) ∙ o) q ∙ ap (λ (x : Decoded). moves x m masks cells) (sym e)
+    move-refused P m masks cells g (ap (λ (x : Decoded). openNumber x masks (length cells)) (sym e) ∙ o) q ∙ ap (λ (x : Decoded). moves x m (tables masks cells)) (sym e)
 
 pub trial-barred : (d : Decoded) (P : Plan) → d ≡ sound P → (m : Move) (masks cells : List ℕ) (s n : ℕ) → (n ≡ 0 → ⊥) → openNumber d masks (min (length cells) s) ≡ 0
-    → n ≡ refusal (moveGrounds P (inMasks (take (ownMasks P) masks)) m) → Refused n ≡ trials d m masks cells s
+    → n ≡ refusal (moveGrounds P (inMasks (take (ownMasks P) masks)) m) → Refused n ≡ trials d m (tables masks cells) s
 unfolding trialOr
 trial-barred d P e m masks cells s zero h o q = absurd (h refl)
 trial-barred d P e m masks cells s (suc g) h o q =
-    trial-opened P m masks cells s (suc g) (ap (λ (x : Decoded). openNumber x masks (min (length cells) s)) (sym e) ∙ o) q ∙ ap (λ (x : Decoded). trials x m masks cells s) (sym e)
+    trial-opened P m masks cells s (suc g) (ap (λ (x : Decoded). openNumber x masks (min (length cells) s)) (sym e) ∙ o) q ∙ ap (λ (x : Decoded). trials x m (tables masks cells) s) (sym e)
 
 pub trial-made : (d : Decoded) (P : Plan) → d ≡ sound P → (m : Move) (masks cells : List ℕ) (s n : ℕ) (r : Moved) → n ≡ 0 → openNumber d masks (min (length cells) s) ≡ 0
-    → n ≡ refusal (moveGrounds P (inMasks (take (ownMasks P) masks)) m) → r ≡ moveAnswer P m (take (ownMasks P) masks) (take (ownCells P) cells) → r ≡ trials d m masks cells s
-unfolding trialOr
+    → n ≡ refusal (moveGrounds P (inMasks (take (ownMasks P) masks)) m) → r ≡ moveAnswer P m (take (ownMasks P) masks) (take (ownCells P) cells) → r ≡ trials d m (tables masks cells) s
+unfolding trialOr ownTables
 trial-made d P e m masks cells s n r z o q a =
-    a ∙ trial-opened P m masks cells s 0 (ap (λ (x : Decoded). openNumber x masks (min (length cells) s)) (sym e) ∙ o) (sym z ∙ q) ∙ ap (λ (x : Decoded). trials x m masks cells s) (sym e)
+    a ∙ trial-opened P m masks cells s 0 (ap (λ (x : Decoded). openNumber x masks (min (length cells) s)) (sym e) ∙ o) (sym z ∙ q) ∙ ap (λ (x : Decoded). trials x m (tables masks cells) s) (sym e)

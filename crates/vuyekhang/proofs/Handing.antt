@@ -6,6 +6,7 @@ use lib.ListN.{length}
 use Rattle.table_format.specs.Decode.{Decoded}
 use Rattle.contracts.specs.declared.Answer.{Answer}
 use Rattle.contracts.specs.declared.Loaded.{Loaded}
+use Rattle.contracts.specs.State.{State}
 use Rattle.contracts.specs.declared.Moved.{Moved}
 use Rattle.contracts.specs.declared.Improved.{Improved}
 use Rattle.contracts.specs.MoveCall.{movedNumber}
@@ -27,31 +28,30 @@ pub load-gives : (a : Loaded) (t : List ℕ) (given : Loaded × List ℕ) (r : L
 load-gives a t given r e f =
     record { fields = subst (λ (x : Loaded × List ℕ). LoadFields (x .0) r) e f; cells-are = ap (λ (x : Loaded × List ℕ). x .1) e }
 
-pub move-gives : (given : Moved × List ℕ × List ℕ) (masks′ cells′ : List ℕ) (a : Moved) (r : MoveAnswer)
-    → (a, masks′, cells′) ≡ given → MoveFields a r → MoveGives given r masks′ cells′
-move-gives given masks′ cells′ a r e f =
+pub move-gives : (given : Moved × State) (s′ : State) (a : Moved) (r : MoveAnswer)
+    → (a, s′) ≡ given → MoveFields a r → MoveGives given r s′
+move-gives given s′ a r e f =
     record {
-      fields = subst (λ (x : Moved × List ℕ × List ℕ). MoveFields (x .0) r) e f;
-      masks-are = ap (λ (x : Moved × List ℕ × List ℕ). x .1) e;
-      cells-are = ap (λ (x : Moved × List ℕ × List ℕ). x .2) e;
+      fields = subst (λ (x : Moved × State). MoveFields (x .0) r) e f;
+      tables-are = ap (λ (x : Moved × State). x .1) e;
     }
 
 -- the number that scratch is held to is the struct's own
 pub trial-gives : (d : Decoded) (given : Moved) (scratch scratch′ : List ℕ) (a : Moved) (r : MoveAnswer)
     → a ≡ given → ScratchAfter d (movedNumber a) scratch scratch′ → MoveFields a r → TrialGives d given r scratch scratch′
-trial-gives d given scratch scratch′ a r e s f =
+trial-gives d given scratch scratch′ a r e w f =
     record {
       fields = subst (λ (x : Moved). MoveFields x r) e f;
-      scratch-is = subst (λ (x : ℕ). ScratchAfter d x scratch scratch′) (sym (f .number-is)) s;
+      scratch-is = subst (λ (x : ℕ). ScratchAfter d x scratch scratch′) (sym (f .number-is)) w;
     }
 
-pub improve-gives : (d : Decoded) (kinds : ℕ) (masks cells scratch masks′ cells′ scratch′ : List ℕ) (a : Improved) (r : ImproveAnswer)
-    → Improves d kinds masks cells (length scratch) a masks′ cells′ → ScratchAfter d (improvedNumber a) scratch scratch′ → ImproveFields a r
-    → ImproveGives d kinds masks cells scratch r masks′ cells′ scratch′
-improve-gives d kinds masks cells scratch masks′ cells′ scratch′ a r i s f =
+pub improve-gives : (d : Decoded) (kinds : ℕ) (s : State) (scratch : List ℕ) (s′ : State) (scratch′ : List ℕ) (a : Improved) (r : ImproveAnswer)
+    → Improves d kinds s (length scratch) a s′ → ScratchAfter d (improvedNumber a) scratch scratch′ → ImproveFields a r
+    → ImproveGives d kinds s scratch r s′ scratch′
+improve-gives d kinds s scratch s′ scratch′ a r i w f =
     record {
       answer = a;
       fields = f;
       improves = i;
-      scratch-is = subst (λ (x : ℕ). ScratchAfter d x scratch scratch′) (sym (f .number-is)) s;
+      scratch-is = subst (λ (x : ℕ). ScratchAfter d x scratch scratch′) (sym (f .number-is)) w;
     }

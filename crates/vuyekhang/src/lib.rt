@@ -21,6 +21,7 @@ ghost use lib.ListN.{length};
 ghost use Rattle.table_format.specs.Decode.{decode};
 ghost use Rattle.contracts.specs.Read.{reads};
 ghost use Rattle.contracts.specs.Load.{loads};
+ghost use Rattle.contracts.specs.State.{tables};
 ghost use Rattle.contracts.specs.MoveCall.{moves};
 ghost use Rattle.contracts.specs.TrialCall.{trials};
 ghost use Rattle.contracts.specs.NodeCells.{PartGives};
@@ -56,7 +57,7 @@ pub extern "C" fn vk_node_cells(table: &[u8], cells: &[u32], node: usize) -> Par
 // Makes a move: writes its masks and the touched cells in place.
 #[no_mangle]
 pub extern "C" fn vk_move(table: &[u8], masks: &mut [u64], cells: &mut [u32], m: Move) -> MoveAnswer
-    ensures { λ r. ⌜ MoveGives (moves (decode (now (table .entry))) m (now (masks .entry)) (now (cells .entry))) r (now (masks .exit)) (now (cells .exit)) ⌝ }
+    ensures { λ r. ⌜ MoveGives (moves (decode (now (table .entry))) m (tables (now (masks .entry)) (now (cells .entry)))) r (tables (now (masks .exit)) (now (cells .exit))) ⌝ }
 {
     let a = make_move(table, masks, cells, m);
     move_fields(a)
@@ -71,7 +72,7 @@ pub extern "C" fn vk_trial(
     scratch: &mut [u32],
     m: Move,
 ) -> MoveAnswer
-    ensures { λ r. ⌜ TrialGives (decode (now (table .entry))) (trials (decode (now (table .entry))) m (now (masks .entry)) (now (cells .entry)) (length (now (scratch .entry)))) r (now (scratch .entry)) (now (scratch .exit)) ⌝ }
+    ensures { λ r. ⌜ TrialGives (decode (now (table .entry))) (trials (decode (now (table .entry))) m (tables (now (masks .entry)) (now (cells .entry))) (length (now (scratch .entry)))) r (now (scratch .entry)) (now (scratch .exit)) ⌝ }
 {
     let a = trial(table, masks, cells, scratch, m);
     move_fields(a)
@@ -86,7 +87,7 @@ pub extern "C" fn vk_improve(
     scratch: &mut [u32],
     kinds: u32,
 ) -> ImproveAnswer
-    ensures { λ r. ⌜ ImproveGives (decode (now (table .entry))) kinds (now (masks .entry)) (now (cells .entry)) (now (scratch .entry)) r (now (masks .exit)) (now (cells .exit)) (now (scratch .exit)) ⌝ }
+    ensures { λ r. ⌜ ImproveGives (decode (now (table .entry))) kinds (tables (now (masks .entry)) (now (cells .entry))) (now (scratch .entry)) r (tables (now (masks .exit)) (now (cells .exit))) (now (scratch .exit)) ⌝ }
 {
     let a = improve(table, masks, cells, scratch, kinds);
     improve_fields(a)

@@ -3,43 +3,44 @@ use Prim.Native.Nat.{_-_, _*_}
 use native.Mathlib.Omega.{arith}
 use lib.ListN.{length}
 use borrow.Author.Tests.{not-true, not-false}
+use Rattle.contracts.specs.State.{tables}
 use Rattle.call_list.proofs.Extending.{Going, outset, within, one-ready, goes-on, worked-there, unknown-there, answers-there, ends-there, same-answers, same-scratch, fits-true}
 use Rattle.call_list.proofs.work.Statement.{statement}
 use Rattle.call_list.proofs.work.Tie as tie
 
 abbrev Inv-loop : tie.InvT-loop
-Inv-loop table masks₀ cells₀ scratch₀ calls answers₀ worked₀ masks cells scratch answers worked = Going table calls masks₀ cells₀ scratch₀ answers₀ worked masks cells scratch answers
+Inv-loop table masks₀ cells₀ scratch₀ calls answers₀ worked₀ masks cells scratch answers worked = Going table calls (tables masks₀ cells₀) scratch₀ answers₀ worked (tables masks cells) scratch answers
 
 abbrev μ-loop : tie.MeasureT-loop
 μ-loop table masks₀ cells₀ scratch₀ calls answers₀ worked₀ masks cells scratch answers worked = length calls - 7 * worked
 
 loop-holds : tie.Need-loop-holds Inv-loop μ-loop
 loop-holds c =
-    outset _ _ _ _ _ _
+    outset _ _ _ _ _
 
 next-fits-requires : tie.Need-next-fits-requires Inv-loop μ-loop
 next-fits-requires c κs =
-    within _ _ _ _ _ _ _ _ _ _ _ (c .before .loop .inv)
+    within _ _ _ _ _ _ _ _ _ (c .before .loop .inv)
 
 mul-at : tie.Need-mul-at Inv-loop μ-loop
 mul-at c =
-    let f = within _ _ _ _ _ _ _ _ _ _ _ (c .before .before .before .loop .inv) in omega (arith, f .0, c .before .before .before .before .before .before .before .before .before .before .good)
+    let f = within _ _ _ _ _ _ _ _ _ (c .before .before .before .loop .inv) in omega (arith, f .0, c .before .before .before .before .before .before .before .before .before .before .good)
 
 mul-to : tie.Need-mul-to Inv-loop μ-loop
 mul-to c =
-    let f = within _ _ _ _ _ _ _ _ _ _ _ (c .before .before .before .loop .inv) in omega (arith, f .1, c .before .before .before .before .before .before .before .before .before .before .good)
+    let f = within _ _ _ _ _ _ _ _ _ (c .before .before .before .loop .inv) in omega (arith, f .1, c .before .before .before .before .before .before .before .before .before .before .good)
 
 mul-work-one : tie.Need-mul-work-one Inv-loop μ-loop
 mul-work-one c =
-    let f = within _ _ _ _ _ _ _ _ _ _ _ (c .before .before .before .before .before .before .loop .inv) in omega (arith, f .0, c .before .before .before .before .before .before .before .before .before .before .before .before .before .good)
+    let f = within _ _ _ _ _ _ _ _ _ (c .before .before .before .before .before .before .loop .inv) in omega (arith, f .0, c .before .before .before .before .before .before .before .before .before .before .before .before .before .good)
 
 sub-work-one : tie.Need-sub-work-one Inv-loop μ-loop
 sub-work-one c =
-    within _ _ _ _ _ _ _ _ _ _ _ (c .before .before .before .before .before .before .loop .inv) .0
+    within _ _ _ _ _ _ _ _ _ (c .before .before .before .before .before .before .loop .inv) .0
 
 part-work-one-start : tie.Need-part-work-one-start Inv-loop μ-loop
 part-work-one-start c =
-    let f = within _ _ _ _ _ _ _ _ _ _ _ (c .before .before .before .before .before .before .loop .inv) in omega (arith, f .0)
+    let f = within _ _ _ _ _ _ _ _ _ (c .before .before .before .before .before .before .loop .inv) in omega (arith, f .0)
 
 part-work-one-end : tie.Need-part-work-one-end Inv-loop μ-loop
 part-work-one-end c =
@@ -47,15 +48,15 @@ part-work-one-end c =
 
 mul-work-one-2 : tie.Need-mul-work-one-2 Inv-loop μ-loop
 mul-work-one-2 c =
-    let f = within _ _ _ _ _ _ _ _ _ _ _ (c .before .before .before .before .before .before .before .loop .inv) in omega (arith, f .1, c .before .before .before .before .before .before .before .before .before .before .before .before .before .before .good)
+    let f = within _ _ _ _ _ _ _ _ _ (c .before .before .before .before .before .before .before .loop .inv) in omega (arith, f .1, c .before .before .before .before .before .before .before .before .before .before .before .before .before .before .good)
 
 sub-work-one-2 : tie.Need-sub-work-one-2 Inv-loop μ-loop
 sub-work-one-2 c =
-    within _ _ _ _ _ _ _ _ _ _ _ (c .before .before .before .before .before .before .before .loop .inv) .1
+    within _ _ _ _ _ _ _ _ _ (c .before .before .before .before .before .before .before .loop .inv) .1
 
 part-work-one-start-2 : tie.Need-part-work-one-start-2 Inv-loop μ-loop
 part-work-one-start-2 c =
-    let f = within _ _ _ _ _ _ _ _ _ _ _ (c .before .before .before .before .before .before .before .loop .inv) in omega (arith, f .1)
+    let f = within _ _ _ _ _ _ _ _ _ (c .before .before .before .before .before .before .before .loop .inv) in omega (arith, f .1)
 
 part-work-one-end-2 : tie.Need-part-work-one-end-2 Inv-loop μ-loop
 part-work-one-end-2 c =
@@ -63,7 +64,7 @@ part-work-one-end-2 c =
 
 work-one-requires : tie.Need-work-one-requires Inv-loop μ-loop
 work-one-requires c κs =
-    let f = fits-true _ _ _ _ (c .before .before .before .before .before .if1 .taken) (c .before .before .before .before .before .before .next-fits .ensures) in one-ready _ _ _ _ _ _ _ _ _ _ _ (c .before .before .before .before .before .before .before .before .loop .inv) (f .0) (f .1)
+    let f = fits-true _ _ _ _ (c .before .before .before .before .before .if1 .taken) (c .before .before .before .before .before .before .next-fits .ensures) in one-ready _ _ _ _ _ _ _ _ _ (c .before .before .before .before .before .before .before .before .loop .inv) (f .0) (f .1)
 
 same-length : tie.Need-same-length Inv-loop μ-loop
 same-length c =
@@ -75,15 +76,15 @@ same-length-2 c =
 
 same-length-3 : tie.Need-same-length-3 Inv-loop μ-loop
 same-length-3 c =
-    c .before .before .before .before .before .before .before .before .before .work-one .kept .1 .1 .1 .0 ∙ same-scratch _ _ _ _ _ _ _ _ _ _ _ (c .before .before .before .before .before .before .before .before .before .before .before .before .before .before .before .before .before .before .loop .inv)
+    c .before .before .before .before .before .before .before .before .before .work-one .kept .1 .1 .1 .0 ∙ same-scratch _ _ _ _ _ _ _ _ _ (c .before .before .before .before .before .before .before .before .before .before .before .before .before .before .before .before .before .before .loop .inv)
 
 same-length-4 : tie.Need-same-length-4 Inv-loop μ-loop
 same-length-4 c =
-    answers-there _ _ _ _ _ _ _ _ _ _ _ (c .before .before .before .before .before .before .before .before .before .before .before .before .before .before .before .before .before .before .loop .inv) _ _ _ _ _ (c .before .before .before .before .before .before .before .before .before .work-one .ensures) (fits-true _ _ _ _ (c .before .before .before .before .before .before .before .before .before .before .before .before .before .before .before .if1 .taken) (c .before .before .before .before .before .before .before .before .before .before .before .before .before .before .before .before .next-fits .ensures)) (not-true _ (c .if2 .taken))
+    answers-there _ _ _ _ _ _ _ _ _ (c .before .before .before .before .before .before .before .before .before .before .before .before .before .before .before .before .before .before .loop .inv) _ _ _ _ (c .before .before .before .before .before .before .before .before .before .work-one .ensures) (fits-true _ _ _ _ (c .before .before .before .before .before .before .before .before .before .before .before .before .before .before .before .if1 .taken) (c .before .before .before .before .before .before .before .before .before .before .before .before .before .before .before .before .next-fits .ensures)) (not-true _ (c .if2 .taken))
 
 returns : tie.Need-returns Inv-loop μ-loop
 returns c =
-    (worked-there _ _ _ _ _ _ _ _ _ _ _ (c .before .before .before .before .before .before .before .before .before .before .before .before .before .before .before .before .before .before .loop .inv) _ _ _ _ _ (c .before .before .before .before .before .before .before .before .before .work-one .ensures) (fits-true _ _ _ _ (c .before .before .before .before .before .before .before .before .before .before .before .before .before .before .before .if1 .taken) (c .before .before .before .before .before .before .before .before .before .before .before .before .before .before .before .before .next-fits .ensures)) (not-true _ (c .if2 .taken)), unknown-there _ _ _ _ _ _ _ _ _ _ _ (c .before .before .before .before .before .before .before .before .before .before .before .before .before .before .before .before .before .before .loop .inv) _ _ _ _ _ (c .before .before .before .before .before .before .before .before .before .work-one .ensures) (fits-true _ _ _ _ (c .before .before .before .before .before .before .before .before .before .before .before .before .before .before .before .if1 .taken) (c .before .before .before .before .before .before .before .before .before .before .before .before .before .before .before .before .next-fits .ensures)) (not-true _ (c .if2 .taken)))
+    (worked-there _ _ _ _ _ _ _ _ _ (c .before .before .before .before .before .before .before .before .before .before .before .before .before .before .before .before .before .before .loop .inv) _ _ _ _ (c .before .before .before .before .before .before .before .before .before .work-one .ensures) (fits-true _ _ _ _ (c .before .before .before .before .before .before .before .before .before .before .before .before .before .before .before .if1 .taken) (c .before .before .before .before .before .before .before .before .before .before .before .before .before .before .before .before .next-fits .ensures)) (not-true _ (c .if2 .taken)), unknown-there _ _ _ _ _ _ _ _ _ (c .before .before .before .before .before .before .before .before .before .before .before .before .before .before .before .before .before .before .loop .inv) _ _ _ _ (c .before .before .before .before .before .before .before .before .before .work-one .ensures) (fits-true _ _ _ _ (c .before .before .before .before .before .before .before .before .before .before .before .before .before .before .before .if1 .taken) (c .before .before .before .before .before .before .before .before .before .before .before .before .before .before .before .before .next-fits .ensures)) (not-true _ (c .if2 .taken)))
 
 add-worked : tie.Need-add-worked Inv-loop μ-loop
 add-worked c =
@@ -95,7 +96,7 @@ loop-less c =
 
 loop-again : tie.Need-loop-again Inv-loop μ-loop
 loop-again c =
-    goes-on _ _ _ _ _ _ _ _ _ _ _ (c .before .before .before .before .before .before .before .before .before .before .before .before .before .before .before .before .before .before .loop .inv) _ _ _ _ _ (c .before .before .before .before .before .before .before .before .before .work-one .ensures) (fits-true _ _ _ _ (c .before .before .before .before .before .before .before .before .before .before .before .before .before .before .before .if1 .taken) (c .before .before .before .before .before .before .before .before .before .before .before .before .before .before .before .before .next-fits .ensures)) (not-false _ (c .if2 .left)) (c .before .before .before .before .before .before .before .before .before .work-one .kept .1 .0) (c .before .before .before .before .before .before .before .before .before .work-one .kept .1 .1 .0)
+    goes-on _ _ _ _ _ _ _ _ _ (c .before .before .before .before .before .before .before .before .before .before .before .before .before .before .before .before .before .before .loop .inv) _ _ _ _ (c .before .before .before .before .before .before .before .before .before .work-one .ensures) (fits-true _ _ _ _ (c .before .before .before .before .before .before .before .before .before .before .before .before .before .before .before .if1 .taken) (c .before .before .before .before .before .before .before .before .before .before .before .before .before .before .before .before .next-fits .ensures)) (not-false _ (c .if2 .left)) (c .before .before .before .before .before .before .before .before .before .work-one .kept .1 .0) (c .before .before .before .before .before .before .before .before .before .work-one .kept .1 .1 .0)
 
 same-length-5 : tie.Need-same-length-5 Inv-loop μ-loop
 same-length-5 c =
@@ -107,15 +108,15 @@ same-length-6 c =
 
 same-length-7 : tie.Need-same-length-7 Inv-loop μ-loop
 same-length-7 c =
-    same-scratch _ _ _ _ _ _ _ _ _ _ _ (c .before .before .before .loop .inv)
+    same-scratch _ _ _ _ _ _ _ _ _ (c .before .before .before .loop .inv)
 
 same-length-8 : tie.Need-same-length-8 Inv-loop μ-loop
 same-length-8 c =
-    same-answers _ _ _ _ _ _ _ _ _ _ _ (c .before .before .before .loop .inv)
+    same-answers _ _ _ _ _ _ _ _ _ (c .before .before .before .loop .inv)
 
 returns-2 : tie.Need-returns-2 Inv-loop μ-loop
 returns-2 c =
-    (c .before .before .before .loop .inv .so-far, ends-there _ _ _ _ _ _ _ _ _ _ _ (c .before .before .before .loop .inv) _ (c .if1 .left) (c .before .next-fits .ensures))
+    (c .before .before .before .loop .inv .so-far, ends-there _ _ _ _ _ _ _ _ _ (c .before .before .before .loop .inv) _ (c .if1 .left) (c .before .next-fits .ensures))
 
 pub work-spec : {M : Type 1} → statement M
 work-spec =

@@ -77,7 +77,7 @@ same-length-7 c = search needs
 returns-2 : tie.Need-returns-2
 unfolding OneAfter Says tag Step answerNumbers cellsLent lentTo answerNumber
 returns-2 c =
-    record { exchange = trialCall (c .before .before .before .before .before .before .before .before .before .before .before .before .before .before .before .move-of .result) (take (c .before .before .before .before .before .before .before .before .before .before .before .before .lesser .result - 0) (c .before .before .before .before .before .before .before .before .before .before .before .before .before .before .before .before .before .before .before .before .before .before .before .args .scratch .now)) (c .before .before .before .before .before .before .trial .result); says = (c .before .before .before .before .before .before .before .before .before .before .if2 .taken, c .before .before .before .before .before .before .before .before .before .before .before .before .before .before .before .move-of .ensures, scratch-lent (c .before .before .before .before .before .before .before .before .before .before .before .before .before .before .before .before .before .before .before .before .before .before .before .args .scratch .now) _ (c .before .before .before .before .before .before .before .before .before .before .before .before .before .wide .result) (c .before .before .before .before .before .before .before .before .before .before .before .before .lesser .result) (c .before .before .before .before .before .before .before .before .before .before .before .before .before .wide .ensures) (c .before .before .before .before .before .before .before .before .before .before .before .before .lesser .ensures)); step = (c .before .before .before .before .before .before .trial .ensures .0, refl, refl); scratch-step = front-lent _ _ _ (c .before .before .before .before .before .before .before .before .before .before .before .before .lesser .result - 0) _ refl (c .before .before .before .before .before .before .trial .ensures .1); answer-is = c .before .before .tell-moved2 .ensures }
+    record { exchange = trialCall (c .before .before .before .before .before .before .before .before .before .before .before .before .before .before .before .move-of .result) (take (c .before .before .before .before .before .before .before .before .before .before .before .before .lesser .result - 0) (c .before .before .before .before .before .before .before .before .before .before .before .before .before .before .before .before .before .before .before .before .before .before .before .args .scratch .now)) (c .before .before .before .before .before .before .trial .result); says = (c .before .before .before .before .before .before .before .before .before .before .if2 .taken, c .before .before .before .before .before .before .before .before .before .before .before .before .before .before .before .move-of .ensures, scratch-lent (c .before .before .before .before .before .before .before .before .before .before .before .before .before .before .before .before .before .before .before .before .before .before .before .args .scratch .now) _ (c .before .before .before .before .before .before .before .before .before .before .before .before .before .wide .result) (c .before .before .before .before .before .before .before .before .before .before .before .before .lesser .result) (c .before .before .before .before .before .before .before .before .before .before .before .before .before .wide .ensures) (c .before .before .before .before .before .before .before .before .before .before .before .before .lesser .ensures)); step = (c .before .before .before .before .before .before .trial .ensures .0, refl); scratch-step = front-lent _ _ _ (c .before .before .before .before .before .before .before .before .before .before .before .before .lesser .result - 0) _ refl (c .before .before .before .before .before .before .trial .ensures .1); answer-is = c .before .before .tell-moved2 .ensures }
 
 sub-improve : tie.Need-sub-improve
 sub-improve c = search needs
@@ -114,7 +114,7 @@ returns-3 c =
 returns-4 : tie.Need-returns-4
 unfolding OneAfter tag
 returns-4 c =
-    record { unknown = record { no-move = c .before .before .if1 .left; no-trial = c .before .if2 .left; no-improve = c .if3 .left }; masks-kept = refl; cells-kept = refl; scratch-kept = refl; answer-kept = refl }
+    record { unknown = record { no-move = c .before .before .if1 .left; no-trial = c .before .if2 .left; no-improve = c .if3 .left }; tables-kept = refl; scratch-kept = refl; answer-kept = refl }
 
 pub work-one-spec : {M : Type 1} → statement M
 work-one-spec =

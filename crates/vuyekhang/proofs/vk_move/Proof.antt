@@ -17,7 +17,7 @@ same-length-2 c = search needs
 
 returns : tie.Need-returns
 returns c =
-    move-gives _ _ _ _ _ (c .before .before .before .before .before .make-move .ensures) (c .move-fields .ensures)
+    move-gives _ _ _ _ (c .before .before .before .before .before .make-move .ensures) (c .move-fields .ensures)
 
 pub vk-move-spec : {M : Type 1} → statement M
 vk-move-spec =
