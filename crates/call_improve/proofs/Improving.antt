@@ -1,29 +1,32 @@
 -- The answers of improve, by the grounds in the order in which the code tries them. Assumes nothing.
 use mathlib.Core.Path.{_≡_, refl, sym, ap, ap₂, _∙_, subst}
-use mathlib.Core.Bool.{Bool, true, false, cond, not, _||_}
+use mathlib.Core.Bool.{Bool, true, false, cond, not, _&&_, _||_}
 use mathlib.Core.List.{List, [], _∷_}
-use Prim.Native.Nat.{ℕ, zero, suc, min}
+use Prim.Native.Nat.{ℕ, zero, suc, min, _≤_}
 use native.Mathlib.Omega.{arith}
 use lib.Dec.{ltb}
-use lib.ListN.{length, take, take-append-drop}
+use lib.ListN.{length, getD, take, take-append-drop}
+use lib.Seq.{getD-take}
+use borrow.Author.Tests.{ltb-true}
 use Rattle.logic.specs.Formula.{Plan}
 use Rattle.logic.specs.Configuration.{inMasks, ownMasks, allWithin}
 use Rattle.logic.specs.Cells.{ownCells}
 use Rattle.logic.specs.Moves.{refusal, moveGrounds, known, legal, kindsKnown}
-use Rattle.logic.proofs.Lists.{and-left}
-use Rattle.table_format.specs.Decode.{Decoded, broken, sound}
+use Rattle.logic.proofs.Lists.{and-left, and-right}
+use Rattle.table_format.specs.Decode.{Decoded, broken, sound, decode}
 use Rattle.contracts.specs.State.{State, tables, ownTables, withRest}
 use Rattle.contracts.specs.declared.Improved.{Improved}
 use Rattle.contracts.specs.declared.Improved.the-variants.{Made, NoBetter, Refused}
 use Rattle.contracts.specs.MoveCall.{tableGrounds, moveAnswer, tablesAfter, movedBefore, movedAfter, movedChanged}
-use Rattle.contracts.specs.ImproveCall.{improveGrounds, rootNow, rootAfter, Chosen, ImprovesOr, ImprovesPlan, OwnAfter, Improves}
+use Rattle.contracts.specs.ImproveCall.{improveGrounds, rootNow, rootAfter, Candidate, Chosen, ImprovesOr, ImprovesPlan, OwnAfter, Improves}
 use Rattle.cells_sum.specs.declared.After.{After}
 use Rattle.call_open.specs.inner.Opening.{openGrounds, openNumber}
 use Rattle.move_make.specs.inner.Judged.{Carried}
 use Rattle.move_make.proofs.Answering.{two-lengths}
 use Rattle.move_best.specs.declared.Choice.{Choice}
-use Rattle.move_best.specs.inner.Choosing.{FoundOr}
-use Rattle.move_best.proofs.Answering.{best-found, made-best, none-better}
+use Rattle.move_best.specs.inner.Choosing.{BestFound, FoundOr}
+use Rattle.move_best.proofs.Trying.{root-cell}
+use Rattle.move_best.proofs.Answering.{best-found, none-lower}
 
 module _ (P : Plan) (kinds : ℕ) (own : List ℕ) (masks-length x y : ℕ) where
   abbrev short : Bool
@@ -111,33 +114,44 @@ module _ (d : Decoded) (P : Plan) (e : d ≡ sound P) (kinds : ℕ) (masks cells
         tables-are = t;
       }
 
-  module _ (known-kinds : kindsKnown kinds ≡ true) (c : Choice) (chooses : FoundOr (c .found) P kinds own before c) where
-    pub improve-none : c .found ≡ false → Improves d kinds (tables masks cells) s (NoBetter (c .root)) (tables masks cells)
+  -- the best of the candidates and the root now
+  module _ (known-kinds : kindsKnown kinds ≡ true) (c : Choice) (chooses : FoundOr (c .found) (Candidate P kinds own) P own before c) (root : ℕ) (root-is : root ≡ rootNow before) where
+    pub improve-none : (c .found && ltb (c .numbers .value) root) ≡ false → Improves d kinds (tables masks cells) s (NoBetter root) (tables masks cells)
     unfolding Chosen ownTables
     improve-none f =
-        accepted known-kinds (NoBetter (c .root)) (tables own before) (tables masks cells) (none-better P kinds own before c chooses f)
+        accepted known-kinds (NoBetter root) (tables own before) (tables masks cells)
+        record { none-smaller = none-lower P kinds own before c chooses root root-is f; root-is = root-is; tables-kept = refl }
         (own-whole P (tables masks cells))
 
-    -- the chosen move meets neither 14 nor 15
-    pub chosen-free : c .found ≡ true → refusal (moveGrounds P (inMasks own) (c .m)) ≡ 0
-    unfolding refusal moveGrounds legal
-    chosen-free f =
-        let l = best-found P kinds own before c chooses f .candidate .is-legal in
-        ap₂ (λ (a b : Bool). cond (not a) 14 (cond (not b) 15 0)) (and-left (known P (c .m)) _ l) l
+    module _ (f : (c .found && ltb (c .numbers .value) root) ≡ true) where
+      best : BestFound (Candidate P kinds own) P own before c
+      best = best-found P kinds own before c chooses (and-left (c .found) _ f)
 
-    pub improve-made : c .found ≡ true → (r : After) (masks′ cells′ : List ℕ) → Carried P (c .m) masks cells r masks′ cells′
-        → Improves d kinds (tables masks cells) s (Made (c .m) (r .old) (r .value) (r .changed)) (tables masks′ cells′)
-    unfolding Chosen moveAnswer rootNow rootAfter movedBefore movedAfter movedChanged tablesAfter withRest
-    improve-made f r masks′ cells′ carried =
-        let b = made-best P kinds own before c chooses f in
-        let a = carried .answer-is in
-        accepted known-kinds (Made (c .m) (r .old) (r .value) (r .changed)) (tablesAfter P (c .m) (tables own before)) (tables masks′ cells′)
-        record {
-          candidate = b .candidate;
-          smaller = b .smaller;
-          least = b .least;
-          before-is = ap movedBefore a;
-          after-is = ap movedAfter a;
-          changed-is = ap movedChanged a;
-          tables-are = refl;
-        } (λ i. tables (carried .masks-are i) (carried .cells-are i))
+      -- the chosen move meets neither 14 nor 15
+      pub chosen-free : refusal (moveGrounds P (inMasks own) (c .m)) ≡ 0
+      unfolding refusal moveGrounds legal
+      chosen-free =
+          let l = best .candidate .is-legal in
+          ap₂ (λ (a b : Bool). cond (not a) 14 (cond (not b) 15 0)) (and-left (known P (c .m)) _ l) l
+
+      pub improve-made : (r : After) (masks′ cells′ : List ℕ) → Carried P (c .m) masks cells r masks′ cells′
+          → Improves d kinds (tables masks cells) s (Made (c .m) (r .old) (r .value) (r .changed)) (tables masks′ cells′)
+      unfolding Chosen moveAnswer rootNow rootAfter movedBefore movedAfter movedChanged tablesAfter withRest
+      improve-made r masks′ cells′ carried =
+          let a = carried .answer-is in
+          let l = ltb-true (c .numbers .value) root (and-right (c .found) _ f) in
+          accepted known-kinds (Made (c .m) (r .old) (r .value) (r .changed)) (tablesAfter P (c .m) (tables own before)) (tables masks′ cells′)
+          record {
+            candidate = best .candidate;
+            smaller = omega (arith, l, best .numbers .after-is, root-is);
+            least = λ m x. subst (λ (y : ℕ). y ≤ rootAfter P m own before) (best .numbers .after-is) (best .least m x);
+            before-is = ap movedBefore a;
+            after-is = ap movedAfter a;
+            changed-is = ap movedChanged a;
+            tables-are = refl;
+          } (λ i. tables (carried .masks-are i) (carried .cells-are i))
+
+-- the first of the cells is the root's
+pub root-now : (bytes : List ℕ) (P : Plan) → decode bytes ≡ sound P → (cells : List ℕ) → getD cells 0 0 ≡ rootNow (take (ownCells P) cells)
+unfolding rootNow
+root-now bytes P d cells = sym (getD-take (ownCells P) cells 0 0 (root-cell bytes P d))

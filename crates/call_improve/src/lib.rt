@@ -3,9 +3,12 @@ use answers::made;
 use call_open::lesser;
 use call_open::open_tables;
 use contracts::Improved;
+use move_best::Choice;
 use move_best::choose;
 use move_make::carry;
 ghost use mathlib.Core.Path.{_≡_};
+ghost use mathlib.Core.Bool.{_&&_};
+ghost use lib.Dec.{ltb};
 ghost use lib.ListN.{length};
 ghost use Rattle.logic.specs.Moves.{kindsKnown};
 ghost use Rattle.table_format.specs.Decode.{decode};
@@ -23,7 +26,17 @@ fn kinds_known(kinds: u32) -> bool
     false
 }
 
-// Improve: tries 11 to 14; chooses and makes.
+// Whether the best candidate, if there is one, leaves a smaller root than now.
+fn lowers(c: Choice, root: u32) -> bool
+    ensures { λ r. ⌜ r ≡ (c .found && ltb (c .numbers .value) root) ⌝ }
+{
+    if c.found {
+        return c.numbers.value < root;
+    }
+    false
+}
+
+// Improve: tries 11 to 14; chooses, and makes what lowers the root.
 pub fn improve(
     table: &[u8],
     masks: &mut [u64],
@@ -63,8 +76,9 @@ pub fn improve(
         o.sets,
         kinds,
     );
-    if !c.found {
-        return Improved::NoBetter { root: c.root };
+    let root = cells[0];
+    if !lowers(c, root) {
+        return Improved::NoBetter { root: root };
     }
     made(
         c.m,

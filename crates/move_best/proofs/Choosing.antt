@@ -1,16 +1,18 @@
 -- The fold over the candidates: what holds of the best so far at each step. Assumes nothing.
 use mathlib.Core.Path.{_≡_, refl, sym, ap, _∙_, subst}
-use mathlib.Core.Bool.{Bool, true, false, cond, true≢false, false≢true}
+use mathlib.Core.Bool.{Bool, true, false, cond, _&&_, true≢false, false≢true}
 use mathlib.Core.List.{List}
 use Prim.Native.Nat.{ℕ, suc, _-_, _≤_, _<_}
 use native.Mathlib.Omega.{arith}
 use native.Mathlib.Decide.{decLt}
-use lib.Dec.{ltb}
-use borrow.Author.Tests.{lt-ltb, le-ltb}
+use lib.Dec.{leb}
+use borrow.Author.Tests.{leb-true, leb-false}
 use Rattle.logic.specs.declared.Move.{Move}
 use Rattle.logic.specs.Formula.{Plan}
 use Rattle.logic.specs.Configuration.{inMasks}
-use Rattle.contracts.specs.ImproveCall.{rootNow, rootAfter, Candidate}
+use Rattle.logic.proofs.Lists.{and-left, and-right}
+use Rattle.cells_sum.specs.declared.After.{After}
+use Rattle.contracts.specs.ImproveCall.{rootAfter, Candidate}
 use Rattle.move_order.specs.declared.Next.{Next}
 use Rattle.move_order.specs.inner.Stepping.{place, outset, NextOr}
 use Rattle.move_order.specs.Candidates.{fieldsAre}
@@ -18,20 +20,37 @@ use Rattle.move_legal.specs.inner.Legal.{Sized}
 use Rattle.move_order.proofs.Order.{place-same}
 use Rattle.move_order.proofs.Listing.{candidate-fields, candidate-low, past-outset}
 use Rattle.move_best.specs.declared.Choice.{Choice}
-use Rattle.move_best.specs.inner.Choosing.{FoundOr, choiceOf}
+use Rattle.move_best.specs.inner.Choosing.{NumbersAre, FoundOr, choiceOf, noNumbers}
 
 -- the best of the candidates passed
 unfoldable pub BestSo : Bool → Plan → ℕ → List ℕ → List ℕ → Choice → Type 0
 BestSo true P kinds own before b =
-    Candidate P kinds own (b .m) × (b .root ≡ rootAfter P (b .m) own before) × (b .root < rootNow before)
-    × ((n : Move) → Candidate P kinds own n → place n < place (b .m) → b .root < rootAfter P n own before)
-BestSo false P kinds own before b = b .root ≡ rootNow before
+    Candidate P kinds own (b .m) × NumbersAre P own before (b .m) (b .numbers)
+    × ((n : Move) → Candidate P kinds own n → place n < place (b .m) → b .numbers .value < rootAfter P n own before)
+BestSo false P kinds own before b = b .found ≡ false
+
+-- a root that the best so far beats or equals; before the first candidate none was passed
+unfoldable pub Beats : Bool → ℕ → ℕ → Type 0
+Beats true x y = x ≤ y
+Beats false x y = ⊥
 
 -- The state of a search that stands at a candidate, or has passed them all.
 pub record Sought (P : Plan) (kinds : ℕ) (own before : List ℕ) (best : Choice) (at : Next) : Type 0 where
   pub best-so : BestSo (best .found) P kinds own before best
   pub here : at .found ≡ true → Candidate P kinds own (at .m)
-  pub least : (m : Move) → Candidate P kinds own m → (at .found ≡ true → place m < place (at .m)) → best .root ≤ rootAfter P m own before
+  pub passed : (m : Move) → Candidate P kinds own m → (at .found ≡ true → place m < place (at .m))
+      → Beats (best .found) (best .numbers .value) (rootAfter P m own before)
+
+-- what the choice between the best so far and a candidate's root leaves
+beaten : (f : Bool) (x a y : ℕ) → (f && leb x a) ≡ false → Beats f x y → a < y
+unfolding Beats
+beaten true x a y e b = let l = leb-false x a e in omega (arith, l, b)
+beaten false x a y e b = absurd b
+
+unbeaten : (f : Bool) (x a y : ℕ) → (f && leb x a) ≡ true → Beats f x y → x ≤ y
+unfolding Beats
+unbeaten true x a y e b = b
+unbeaten false x a y e b = absurd b
 
 -- how much of the order is left
 unfoldable pub left : Bool → ℕ → ℕ
@@ -59,62 +78,64 @@ module _ (P : Plan) (Z : Sized (P .ports) (P .sets)) (kinds : ℕ) (own before :
   left-less true m x F h = let l = F .later in omega (arith, l, h)
   left-less false m x N h = omega arith
 
-  best-low : (f : Bool) (b : Choice) → BestSo f P kinds own before b → b .root ≤ rootNow before
-  unfolding BestSo
-  best-low true b h = let l = h .2 in omega (arith, l)
-  best-low false b e = omega (arith, e)
-
   -- before the first candidate
-  pub sought-first : (root : ℕ) (at : Next) → root ≡ rootNow before → NextOr (at .found) P kinds own outset (at .m)
-      → Sought P kinds own before (choiceOf false outset root) at
+  pub sought-first : (at : Next) → NextOr (at .found) P kinds own outset (at .m) → Sought P kinds own before (choiceOf false outset noNumbers) at
   unfolding choiceOf BestSo outset fieldsAre place
-  sought-first root at e N = record {
-    best-so = e;
+  sought-first at N = record {
+    best-so = refl;
     here = next-here (at .found) outset (at .m) N;
-    least = λ n c h.
+    passed = λ n c h.
         let a = passed-le (at .found) outset (at .m) N n c h in
         let b = past-outset P Z n (candidate-fields P (inMasks own) n (c .is-legal) .kind-low) in
         absurd (omega (arith, a, b));
   }
 
   -- from one candidate to the next, with a choice that beats the old one and this one
-  sought-on : (best new : Choice) (at next : Next) (root : ℕ) → Sought P kinds own before best at → at .found ≡ true
-      → root ≡ rootAfter P (at .m) own before → NextOr (next .found) P kinds own (at .m) (next .m)
-      → BestSo (new .found) P kinds own before new → new .root ≤ best .root → new .root ≤ root → Sought P kinds own before new next
-  sought-on best new at next root S t e N B l h = record {
+  sought-on : (best new : Choice) (at next : Next) → Sought P kinds own before best at → at .found ≡ true → NextOr (next .found) P kinds own (at .m) (next .m)
+      → BestSo (new .found) P kinds own before new → new .found ≡ true → new .numbers .value ≤ rootAfter P (at .m) own before
+      → ((y : ℕ) → Beats (best .found) (best .numbers .value) y → new .numbers .value ≤ y) → Sought P kinds own before new next
+  unfolding Beats
+  sought-on best new at next S t N B f l h = record {
     best-so = B;
     here = next-here (next .found) (at .m) (next .m) N;
-    least = λ n c g. go n c (passed-le (next .found) (at .m) (next .m) N n c g) (decLt (place n) (place (at .m)));
+    passed = λ n c g. subst (λ (x : Bool). Beats x (new .numbers .value) (rootAfter P n own before)) (sym f)
+        (go n c (passed-le (next .found) (at .m) (next .m) N n c g) (decLt (place n) (place (at .m))));
   }
     where
-      go : (n : Move) → Candidate P kinds own n → place n ≤ place (at .m) → Dec (place n < place (at .m)) → new .root ≤ rootAfter P n own before
-      go n c a (yes b) = let x = S .least n c (λ y. b) in omega (arith, x, l)
+      go : (n : Move) → Candidate P kinds own n → place n ≤ place (at .m) → Dec (place n < place (at .m)) → new .numbers .value ≤ rootAfter P n own before
+      go n c a (yes b) = h (rootAfter P n own before) (S .passed n c (λ y. b))
       go n c a (no b) =
           let same : at .m ≡ n = place-same (at .m) n (candidate-low P Z (inMasks own) (at .m) (S .here t .is-legal)) (candidate-low P Z (inMasks own) n (c .is-legal)) (omega arith) in
-          let x = e ∙ ap (λ (y : Move). rootAfter P y own before) same in
-          omega (arith, x, h)
+          subst (λ (y : Move). new .numbers .value ≤ rootAfter P y own before) same l
 
-  pub sought-next : (best new : Choice) (at next : Next) (root : ℕ) → Sought P kinds own before best at → at .found ≡ true
-      → root ≡ rootAfter P (at .m) own before → new ≡ cond (ltb root (best .root)) (choiceOf true (at .m) root) best
+  pub sought-next : (best new : Choice) (at next : Next) (a : After) → Sought P kinds own before best at → at .found ≡ true → NumbersAre P own before (at .m) a
+      → new ≡ cond (best .found && leb (best .numbers .value) (a .value)) best (choiceOf true (at .m) a)
       → NextOr (next .found) P kinds own (at .m) (next .m) → Sought P kinds own before new next
   unfolding choiceOf BestSo
-  sought-next best new at next root S t e b N = go (decLt root (best .root))
+  sought-next best new at next a S t e b N = go (best .found && leb (best .numbers .value) (a .value)) refl
     where
-      go : Dec (root < best .root) → Sought P kinds own before new next
-      go (yes l) =
-          let x = best-low (best .found) best (S .best-so) in
-          subst (λ (y : Choice). Sought P kinds own before y next) (sym (b ∙ ap (λ (f : Bool). cond f (choiceOf true (at .m) root) best) (lt-ltb root (best .root) l)))
-          (sought-on best (choiceOf true (at .m) root) at next root S t e N (S .here t, e, omega (arith, l, x), (λ n c h. let y = S .least n c (λ z. h) in omega (arith, y, l))) (omega (arith, l)) (omega arith))
-      go (no n) =
-          subst (λ (y : Choice). Sought P kinds own before y next) (sym (b ∙ ap (λ (f : Bool). cond f (choiceOf true (at .m) root) best) (le-ltb root (best .root) (omega arith))))
-          (sought-on best best at next root S t e N (S .best-so) (omega arith) (omega arith))
+      settled : (c : Bool) → (best .found && leb (best .numbers .value) (a .value)) ≡ c → cond c best (choiceOf true (at .m) a) ≡ new
+      settled c q = sym (b ∙ ap (λ (f : Bool). cond f best (choiceOf true (at .m) a)) q)
 
-  found-or : (f : Bool) (b : Choice) → BestSo f P kinds own before b → ((m : Move) → Candidate P kinds own m → b .root ≤ rootAfter P m own before)
-      → FoundOr f P kinds own before b
-  unfolding BestSo FoundOr
-  found-or true b h l = record { candidate = h .0; root-is = h .1; smaller = h .2; least = l; earliest = h .3 }
-  found-or false b e l = record { root-is = e; none-smaller = λ m c. let x = l m c in omega (arith, x, e) }
+      go : (c : Bool) → (best .found && leb (best .numbers .value) (a .value)) ≡ c → Sought P kinds own before new next
+      go true q =
+          let l = leb-true (best .numbers .value) (a .value) (and-right (best .found) _ q) in
+          subst (λ (y : Choice). Sought P kinds own before y next) (settled true q)
+          (sought-on best best at next S t N (S .best-so) (and-left (best .found) _ q) (omega (arith, l, e .after-is))
+          (λ y h. unbeaten (best .found) (best .numbers .value) (a .value) y q h))
+      go false q =
+          subst (λ (y : Choice). Sought P kinds own before y next) (settled false q)
+          (sought-on best (choiceOf true (at .m) a) at next S t N
+          (S .here t, e, (λ n c h. beaten (best .found) (best .numbers .value) (a .value) (rootAfter P n own before) q (S .passed n c (λ z. h)))) refl
+          (omega (arith, e .after-is)) (λ y h. let l = beaten (best .found) (best .numbers .value) (a .value) y q h in omega (arith, l)))
+
+  found-or : (f : Bool) (b : Choice) → BestSo f P kinds own before b → ((m : Move) → Candidate P kinds own m → Beats f (b .numbers .value) (rootAfter P m own before))
+      → FoundOr f (Candidate P kinds own) P own before b
+  unfolding BestSo FoundOr Beats
+  found-or true b h l = record { candidate = h .0; numbers = h .1; least = l; earliest = h .2 }
+  found-or false b e l = l
 
   -- past the last
-  pub sought-end : (best : Choice) (at : Next) → Sought P kinds own before best at → at .found ≡ false → FoundOr (best .found) P kinds own before best
-  sought-end best at S e = found-or (best .found) best (S .best-so) (λ m c. S .least m c (λ t. absurd (true≢false (sym t ∙ e))))
+  pub sought-end : (best : Choice) (at : Next) → Sought P kinds own before best at → at .found ≡ false
+      → FoundOr (best .found) (Candidate P kinds own) P own before best
+  sought-end best at S e = found-or (best .found) best (S .best-so) (λ m c. S .passed m c (λ t. absurd (true≢false (sym t ∙ e))))

@@ -1,24 +1,23 @@
 -- The search over the tables: its state at each candidate, for the plan that the bytes spell. Assumes nothing.
 use mathlib.Core.Path.{_≡_, sym, _∙_, subst}
-use mathlib.Core.Bool.{Bool, true, false, cond}
+use mathlib.Core.Bool.{Bool, true, false, cond, _&&_}
 use mathlib.Core.List.{List}
 use Prim.Native.Nat.{ℕ, _<_}
-use lib.Dec.{ltb}
-use lib.ListN.{length, getD, take}
-use lib.Seq.{getD-take}
+use lib.Dec.{leb}
+use lib.ListN.{length, take}
 use Rattle.logic.specs.Formula.{Plan}
 use Rattle.logic.specs.Configuration.{inMasks, ownMasks}
 use Rattle.logic.specs.Cells.{ownCells}
 use Rattle.logic.specs.Moves.{legal}
 use Rattle.table_format.specs.Decode.{sound, decode}
-use Rattle.contracts.specs.ImproveCall.{rootNow}
+use Rattle.cells_sum.specs.declared.After.{After}
 use Rattle.move_order.specs.declared.Next.{Next}
 use Rattle.move_order.specs.inner.Stepping.{place, outset, BeginsOver, GivesNext}
 use Rattle.move_order.proofs.Listing.{candidate-high}
 use Rattle.move_best.specs.declared.Choice.{Choice}
-use Rattle.move_best.specs.inner.Choosing.{SearchReady, TryReady, RootIs, Chooses, choiceOf}
+use Rattle.move_best.specs.inner.Choosing.{SearchReady, TryReady, GivesNumbers, Chooses, choiceOf, noNumbers}
 use Rattle.move_best.proofs.Choosing.{Sought, left, left-less, sought-first, sought-next, sought-end}
-use Rattle.move_best.proofs.Trying.{sized-of, gives-here, begins-over, root-cell}
+use Rattle.move_best.proofs.Trying.{sized-of, gives-here, begins-over}
 
 pub record Searching (bytes masks cells : List ℕ) (kinds sets : ℕ) (work : List ℕ) (best : Choice) (at : Next) : Type 0 where
   pub work-long : length work ≡ sets
@@ -26,15 +25,13 @@ pub record Searching (bytes masks cells : List ℕ) (kinds sets : ℕ) (work : L
 
 module _ (ports sets : ℕ) (bytes firsts ends uses masks cells : List ℕ) (ready : SearchReady ports sets bytes firsts ends uses masks cells)
     (kinds u n : ℕ) (ports-is : u ≡ ports) (sets-is : n ≡ sets) where
-  pub search-starts : (work : List ℕ) (best : Choice) (at : Next) → length work ≡ sets → best ≡ choiceOf false outset (getD cells 0 0)
+  pub search-starts : (work : List ℕ) (best : Choice) (at : Next) → length work ≡ sets → best ≡ choiceOf false outset noNumbers
       → GivesNext u n kinds masks outset at → Searching bytes masks cells kinds sets work best at
-  unfolding rootNow
   search-starts work best at l b g = record {
     work-long = l;
     sought = λ Q d.
         subst (λ (x : Choice). Sought Q kinds (take (ownMasks Q) masks) (take (ownCells Q) cells) x at) (sym b)
-        (sought-first Q (sized-of bytes Q d) kinds (take (ownMasks Q) masks) (take (ownCells Q) cells) (getD cells 0 0) at
-        (sym (getD-take (ownCells Q) cells 0 0 (root-cell bytes Q d)))
+        (sought-first Q (sized-of bytes Q d) kinds (take (ownMasks Q) masks) (take (ownCells Q) cells) at
         (gives-here ports sets bytes firsts ends uses masks cells ready u n ports-is sets-is kinds outset at g Q d));
   }
 
@@ -48,13 +45,13 @@ module _ (ports sets : ℕ) (bytes firsts ends uses masks cells : List ℕ) (rea
     pub search-begins : BeginsOver u n (at .m) masks
     search-begins = begins-over ports sets bytes firsts ends uses masks cells ready u n ports-is sets-is (at .m) here-legal
 
-    pub search-goes-on : (work′ : List ℕ) (new : Choice) (next : Next) (root : ℕ) → length work′ ≡ length work → RootIs bytes masks cells (at .m) root
-        → new ≡ cond (ltb root (best .root)) (choiceOf true (at .m) root) best → GivesNext u n kinds masks (at .m) next
+    pub search-goes-on : (work′ : List ℕ) (new : Choice) (next : Next) (a : After) → length work′ ≡ length work → GivesNumbers bytes masks cells (at .m) a
+        → new ≡ cond (best .found && leb (best .numbers .value) (a .value)) best (choiceOf true (at .m) a) → GivesNext u n kinds masks (at .m) next
         → Searching bytes masks cells kinds sets work′ new next
-    unfolding RootIs
-    search-goes-on work′ new next root l r b g = record {
+    unfolding GivesNumbers
+    search-goes-on work′ new next a l r b g = record {
       work-long = l ∙ S .work-long;
-      sought = λ Q d. sought-next Q (sized-of bytes Q d) kinds (take (ownMasks Q) masks) (take (ownCells Q) cells) best new at next root (S .sought Q d) t (r Q d) b
+      sought = λ Q d. sought-next Q (sized-of bytes Q d) kinds (take (ownMasks Q) masks) (take (ownCells Q) cells) best new at next a (S .sought Q d) t (r Q d) b
           (gives-here ports sets bytes firsts ends uses masks cells ready u n ports-is sets-is kinds (at .m) next g Q d);
     }
 

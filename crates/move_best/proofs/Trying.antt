@@ -1,4 +1,4 @@
--- One candidate tried: what its masks and the walk ask, and the root that it would leave. Assumes nothing.
+-- One candidate tried: what its masks and the walk ask, and its three numbers. Assumes nothing.
 use mathlib.Core.Path.{_≡_, sym, ap, _∙_, subst}
 use mathlib.Core.Bool.{true}
 use mathlib.Core.List.{List}
@@ -12,7 +12,7 @@ use Rattle.logic.specs.Formula.{Forest, Plan}
 use Rattle.logic.specs.Configuration.{inMasks, ownMasks, spelled, allWithin}
 use Rattle.logic.specs.Cells.{cellCount, ownCells}
 use Rattle.logic.specs.Moves.{moveMasks, movePairs, known, fits, legal}
-use Rattle.logic.specs.Change.{pairsChange, newCells}
+use Rattle.logic.specs.Change.{pairsChange, newCells, differing}
 use Rattle.logic.proofs.Lists.{and-left, and-right}
 use Rattle.logic.proofs.Within.{within-at}
 use Rattle.table_format.specs.Decode.{sound, decode}
@@ -26,14 +26,14 @@ use Rattle.cells_walk.specs.inner.Visit.{MasksSettled}
 use Rattle.cells_walk.specs.inner.Root.{RootReady, RootGives}
 use Rattle.cells_walk.proofs.Rooting.{formula-is}
 use Rattle.contracts.specs.MoveCall.{cellsAfter}
-use Rattle.contracts.specs.ImproveCall.{rootAfter}
+use Rattle.contracts.specs.ImproveCall.{rootNow, rootAfter}
 use Rattle.contracts.proofs.Within.{move-within, move-length}
 use Rattle.move_order.specs.declared.Next.{Next}
 use Rattle.move_legal.specs.inner.Legal.{Fields, Sized, LegalOver}
 use Rattle.move_order.specs.inner.Stepping.{Begins, BeginsOver, SizedOver, NextOr, GivesNext}
 use Rattle.move_legal.proofs.Known.{known-fields}
 use Rattle.move_order.proofs.Listing.{candidate-begins}
-use Rattle.move_best.specs.inner.Choosing.{SearchReady, RootIs}
+use Rattle.move_best.specs.inner.Choosing.{SearchReady, NumbersAre, GivesNumbers}
 
 pub facts-of : (bytes : List ℕ) (P : Plan) → decode bytes ≡ sound P → PlanFacts P
 facts-of bytes P d = plan-facts P (decode-sound bytes P d .rules)
@@ -173,17 +173,22 @@ module _ (ports sets : ℕ) (bytes firsts ends uses masks cells : List ℕ) (rea
       own-cells = ready .own-cells;
     }
 
-    -- the walk's new root is the one that the move would leave
-    root-here : (c : Changed) → Tells m c → (after : List ℕ) → after ≡ moveMasks m (take sets masks) → (r : After)
-        → RootGives ports c bytes after cells r → r .value ≡ rootAfter P m own (take (ownCells P) cells)
-    unfolding Tells ownMasks RootGives rootAfter cellsAfter
-    root-here c tells after e r gives =
-        gives P (pairsChange (movePairs m)) (ready .decodes) (rw (ready .ports-are) (tells P (facts .sets16) is-known)) .new-is
-        ∙ ap (λ (ms : List ℕ). getD (newCells P (spelled P ms) (pairsChange (movePairs m)) (take (ownCells P) cells)) 0 0)
-        (e ∙ ap (λ (j : ℕ). moveMasks m (take j masks)) (ready .sets-are))
+    -- the walk's three numbers are those of the move
+    numbers-here : (c : Changed) → Tells m c → (after : List ℕ) → after ≡ moveMasks m (take sets masks) → (r : After)
+        → RootGives ports c bytes after cells r → NumbersAre P own (take (ownCells P) cells) m r
+    unfolding Tells ownMasks RootGives rootNow rootAfter cellsAfter
+    numbers-here c tells after e r gives =
+        let g = gives P (pairsChange (movePairs m)) (ready .decodes) (rw (ready .ports-are) (tells P (facts .sets16) is-known)) in
+        let q = e ∙ ap (λ (j : ℕ). moveMasks m (take j masks)) (ready .sets-are) in
+        record {
+          before-is = g .old-is;
+          after-is = g .new-is ∙ ap (λ (ms : List ℕ). getD (newCells P (spelled P ms) (pairsChange (movePairs m)) (take (ownCells P) cells)) 0 0) q;
+          changed-is = g .changed-is
+              ∙ ap (λ (ms : List ℕ). differing (take (ownCells P) cells) (newCells P (spelled P ms) (pairsChange (movePairs m)) (take (ownCells P) cells))) q;
+        }
 
-    pub root-is : (c : Changed) → Tells m c → (after : List ℕ) → after ≡ moveMasks m (take sets masks) → (r : After)
-        → RootGives ports c bytes after cells r → RootIs bytes masks cells m (r .value)
-    unfolding RootIs
-    root-is c tells after e r gives = λ Q d.
-        subst (λ (X : Plan). r .value ≡ rootAfter X m (take (ownMasks X) masks) (take (ownCells X) cells)) (same-plan Q d) (root-here c tells after e r gives)
+    pub numbers-are : (c : Changed) → Tells m c → (after : List ℕ) → after ≡ moveMasks m (take sets masks) → (r : After)
+        → RootGives ports c bytes after cells r → GivesNumbers bytes masks cells m r
+    unfolding GivesNumbers
+    numbers-are c tells after e r gives = λ Q d.
+        subst (λ (X : Plan). NumbersAre X (take (ownMasks X) masks) (take (ownCells X) cells) m r) (same-plan Q d) (numbers-here c tells after e r gives)

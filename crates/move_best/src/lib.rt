@@ -1,5 +1,6 @@
-// The choice of improve: the best of all candidates, by the root that each would leave. Nothing is written but the masks that a
+// The best of all candidates, by the root that each would leave. Nothing is written but the masks that a
 // candidate would leave, in a table of this crate's own. Paper 01, section One move.
+use cells_sum::After;
 use cells_touch::change_of;
 use cells_try::root_after;
 use logic::Move;
@@ -9,20 +10,20 @@ use move_masks::masks_after;
 use move_order::first_candidate;
 use move_order::next_candidate;
 ghost use mathlib.Core.Path.{_≡_};
-ghost use mathlib.Core.Bool.{true, false, cond};
-ghost use lib.Dec.{ltb};
+ghost use mathlib.Core.Bool.{true, false, cond, _&&_};
+ghost use lib.Dec.{leb};
 ghost use Rattle.move_order.specs.inner.Stepping.{outset};
-ghost use Rattle.move_best.specs.inner.Choosing.{SearchReady, SearchRoom, TryReady, RootIs, Chooses, choiceOf};
+ghost use Rattle.move_best.specs.inner.Choosing.{SearchReady, SearchRoom, TryReady, GivesNumbers, Chooses, choiceOf, noNumbers};
 
-// The best so far: found once a candidate leaves a smaller root than now. Its root is the one to beat.
+// The best so far, once there is a candidate, with its three numbers.
 pub struct Choice {
     pub found: bool,
     pub m: Move,
-    pub root: u32,
+    pub numbers: After,
 }
 
-// The root that a legal move would leave.
-fn root_of(
+// The three numbers of a legal move.
+fn numbers_of(
     table: &[u8],
     firsts: &[u32],
     ends: &[u16],
@@ -33,13 +34,13 @@ fn root_of(
     sets: usize,
     m: Move,
     work: &mut [u64],
-) -> u32
+) -> After
     requires { ⌜ TryReady ports sets (now table) (now firsts) (now ends) (now uses) (now masks) (now cells) m (now work) ⌝ }
-    ensures { λ r. ⌜ RootIs (now (table .entry)) (now (masks .entry)) (now (cells .entry)) m r ⌝ }
+    ensures { λ r. ⌜ GivesNumbers (now (table .entry)) (now (masks .entry)) (now (cells .entry)) m r ⌝ }
 {
     copy_masks(masks, sets, work);
     masks_after(m, narrow(ports), narrow(sets), work);
-    let r = root_after(
+    root_after(
         table,
         firsts,
         ends,
@@ -49,13 +50,12 @@ fn root_of(
         ports,
         sets,
         change_of(m),
-    );
-    r.value
+    )
 }
 
-// The root to beat, before any candidate.
-fn none_yet(root: u32) -> Choice
-    ensures { λ r. ⌜ r ≡ choiceOf false outset root ⌝ }
+// Before any candidate.
+fn none_yet() -> Choice
+    ensures { λ r. ⌜ r ≡ choiceOf false outset noNumbers ⌝ }
 {
     Choice {
         found: false,
@@ -66,22 +66,28 @@ fn none_yet(root: u32) -> Choice
             p: 0,
             q: 0,
         },
-        root: root,
+        numbers: After {
+            old: 0,
+            value: 0,
+            changed: 0,
+        },
     }
 }
 
 // The better of the best so far and a candidate; the earlier of two that are equal.
-fn better(best: Choice, m: Move, root: u32) -> Choice
-    ensures { λ r. ⌜ r ≡ cond (ltb root (best .root)) (choiceOf true m root) best ⌝ }
+fn better(best: Choice, m: Move, a: After) -> Choice
+    ensures { λ r. ⌜ r ≡ cond (best .found && leb (best .numbers .value) (a .value)) best (choiceOf true m a) ⌝ }
 {
-    if root < best.root {
-        return Choice {
-            found: true,
-            m: m,
-            root: root,
-        };
+    if best.found {
+        if best.numbers.value <= a.value {
+            return best;
+        }
     }
-    best
+    Choice {
+        found: true,
+        m: m,
+        numbers: a,
+    }
 }
 
 // A fold over the candidates.
@@ -102,10 +108,10 @@ fn search(
 {
     let u = narrow(ports);
     let n = narrow(sets);
-    let mut best = none_yet(cells[0]);
+    let mut best = none_yet();
     let mut at = first_candidate(kinds, u, n, masks);
     while at.found {
-        let root = root_of(
+        let a = numbers_of(
             table,
             firsts,
             ends,
@@ -117,13 +123,13 @@ fn search(
             at.m,
             work,
         );
-        best = better(best, at.m, root);
+        best = better(best, at.m, a);
         at = next_candidate(at.m, kinds, u, n, masks);
     }
     best
 }
 
-// The candidate that leaves the least root, the first of them in the order kind, S, T, p, q, if that root is smaller than now.
+// The candidate that leaves the least root, the first of them in the order kind, S, T, p, q; none where there is no candidate.
 pub fn choose(
     table: &[u8],
     firsts: &[u32],

@@ -1,15 +1,16 @@
 use mathlib.Core.Path.{sym, _∙_}
 use native.Mathlib.Omega.{arith}
-use borrow.Author.Needs.{needs}
 use borrow.Author.Tests.{not-true, not-false}
 use Rattle.logic.specs.Change.{modulus}
 use Rattle.cells_walk.specs.inner.Visit.{CellsFit}
 use Rattle.move_best.specs.inner.Choosing.{Chooses}
+use Rattle.move_best.proofs.Trying.{root-cell}
 use Rattle.move_best.proofs.Answering.{search-ready}
 use Rattle.move_make.specs.inner.Judged.{Carries}
 use Rattle.move_make.proofs.Accepting.{reopen}
 use Rattle.contracts.proofs.Scratch.{scratch-kept}
-use Rattle.call_improve.proofs.Improving.{improve-shut, improve-unknown, improve-none, chosen-free, improve-made}
+use Rattle.call_improve.proofs.Improving.{improve-shut, improve-unknown, improve-none, chosen-free, improve-made, root-now}
+use borrow.Author.Needs.{needs}
 use Rattle.call_improve.proofs.improve.Statement.{statement}
 use Rattle.call_improve.proofs.improve.Tie as tie
 
@@ -60,6 +61,14 @@ unfolding CellsFit modulus
 choose-requires c κs =
     search-ready _ _ _ _ _ _ _ _ (c .before .before .before .before .before .before .before .before .before .before .before .before .open-tables .ensures .opens (c .before .before .before .before .before .before .before .if1 .left)) (omega (arith, c .before .before .before .before .before .before .before .before .before .before .before .before .before .before .before .before .before .lesser .ensures)) (λ j. omega (arith, c .before .before .before .before .before .before .before .before .before .before .before .before .before .before .before .before .before .before .before .slice-known2 .given j)) record { firsts-long = omega (arith, c .before .before .before .before .before .before .before .before .before .before .before .before .open-tables .kept .1 .1 .1 .0); ends-long = omega (arith, c .before .before .before .before .before .before .before .before .before .before .before .before .open-tables .kept .1 .1 .1 .1 .0); uses-long = omega (arith, c .before .before .before .before .before .before .before .before .before .before .before .before .open-tables .kept .1 .1 .1 .1 .1 .0) }
 
+slice-read-root : tie.Need-slice-read-root
+slice-read-root c =
+    let o = c .before .before .before .before .before .before .before .before .before .before .before .before .before .before .open-tables .ensures .opens (c .before .before .before .before .before .before .before .before .before .if1 .left) in
+    omega (arith, c .before .before .before .before .before .before .before .before .before .before .before .before .before .before .before .before .before .before .before .lesser .ensures, o .own-cells, root-cell _ (o .plan) (o .decodes))
+
+lowers-requires : tie.Need-lowers-requires
+lowers-requires c κs = search needs
+
 same-length-3 : tie.Need-same-length-3
 same-length-3 c = search needs
 
@@ -69,8 +78,8 @@ same-length-4 c = search needs
 returns-3 : tie.Need-returns-3
 unfolding Chooses
 returns-3 c =
-    let o = c .before .before .before .before .before .before .before .before .before .before .before .before .before .before .before .open-tables .ensures .opens (c .before .before .before .before .before .before .before .before .before .before .if1 .left) in
-    (improve-none _ (o .plan) (o .decodes) _ _ _ _ (sym (rw (c .before .before .before .before .before .before .before .before .before .before .before .before .before .before .before .before .before .before .before .before .lesser .ensures) at (c .before .before .before .before .before .before .before .before .before .before .before .before .before .before .before .open-tables .ensures .number-is)) ∙ c .before .before .before .before .before .before .before .before .before .before .if1 .left) (sym (c .before .before .before .before .before .before .before .before .before .kinds-known .ensures) ∙ not-false _ (c .before .before .before .before .before .before .before .before .if2 .left)) _ (c .before .before .choose .ensures (o .plan) (o .decodes)) (not-true _ (c .if3 .taken)), scratch-kept _ _ _)
+    let o = c .before .before .before .before .before .before .before .before .before .before .before .before .before .before .before .before .open-tables .ensures .opens (c .before .before .before .before .before .before .before .before .before .before .before .if1 .left) in
+    (improve-none _ (o .plan) (o .decodes) _ _ _ _ (sym (rw (c .before .before .before .before .before .before .before .before .before .before .before .before .before .before .before .before .before .before .before .before .before .lesser .ensures) at (c .before .before .before .before .before .before .before .before .before .before .before .before .before .before .before .before .open-tables .ensures .number-is)) ∙ c .before .before .before .before .before .before .before .before .before .before .before .if1 .left) (sym (c .before .before .before .before .before .before .before .before .before .before .kinds-known .ensures) ∙ not-false _ (c .before .before .before .before .before .before .before .before .before .if2 .left)) _ (c .before .before .before .choose .ensures (o .plan) (o .decodes)) _ (root-now _ (o .plan) (o .decodes) _) (sym (c .before .lowers .ensures) ∙ not-true _ (c .if3 .taken)), scratch-kept _ _ _)
 
 slice-aggregate-carry : tie.Need-slice-aggregate-carry
 slice-aggregate-carry c = search needs
@@ -84,8 +93,15 @@ slice-aggregate-carry-3 c = search needs
 carry-requires : tie.Need-carry-requires
 unfolding CellsFit modulus reopen Chooses
 carry-requires c κs =
-    let o = c .before .before .before .before .before .before .before .before .before .before .before .before .before .before .before .before .before .before .before .before .open-tables .ensures .opens (c .before .before .before .before .before .before .before .before .before .before .before .before .before .before .before .if1 .left) in
-    record { shortest = _; opened = reopen _ _ _ _ _ _ _ o; room = omega (arith, c .before .before .before .before .before .before .before .before .before .before .before .before .before .before .before .before .before .before .before .before .before .before .before .before .before .lesser .ensures); fit = (λ j. omega (arith, c .before .before .before .before .before .before .before .before .before .before .before .before .before .before .before .before .before .before .before .before .before .before .before .before .before .before .before .slice-known2 .given j)); long = record { firsts-long = omega (arith, c .before .before .before .before .before .before .before .before .before .before .before .before .before .before .before .before .before .before .before .before .open-tables .kept .1 .1 .1 .0); ends-long = omega (arith, c .before .before .before .before .before .before .before .before .before .before .before .before .before .before .before .before .before .before .before .before .open-tables .kept .1 .1 .1 .1 .0); uses-long = omega (arith, c .before .before .before .before .before .before .before .before .before .before .before .before .before .before .before .before .before .before .before .before .open-tables .kept .1 .1 .1 .1 .1 .0) }; free = chosen-free _ (o .plan) (o .decodes) _ _ _ _ (sym (rw (c .before .before .before .before .before .before .before .before .before .before .before .before .before .before .before .before .before .before .before .before .before .before .before .before .before .lesser .ensures) at (c .before .before .before .before .before .before .before .before .before .before .before .before .before .before .before .before .before .before .before .before .open-tables .ensures .number-is)) ∙ c .before .before .before .before .before .before .before .before .before .before .before .before .before .before .before .if1 .left) (sym (c .before .before .before .before .before .before .before .before .before .before .before .before .before .before .kinds-known .ensures) ∙ not-false _ (c .before .before .before .before .before .before .before .before .before .before .before .before .before .if2 .left)) _ (c .before .before .before .before .before .before .before .choose .ensures (o .plan) (o .decodes)) (not-false _ (c .before .before .before .before .before .if3 .left)) }
+    let o = c .before .before .before .before .before .before .before .before .before .before .before .before .before .before .before .before .before .before .before .before .before .open-tables .ensures .opens (c .before .before .before .before .before .before .before .before .before .before .before .before .before .before .before .before .if1 .left) in
+    record {
+      shortest = _;
+      opened = reopen _ _ _ _ _ _ _ o;
+      room = omega (arith, c .before .before .before .before .before .before .before .before .before .before .before .before .before .before .before .before .before .before .before .before .before .before .before .before .before .before .lesser .ensures);
+      fit = (λ j. omega (arith, c .before .before .before .before .before .before .before .before .before .before .before .before .before .before .before .before .before .before .before .before .before .before .before .before .before .before .before .before .slice-known2 .given j));
+      long = record { firsts-long = omega (arith, c .before .before .before .before .before .before .before .before .before .before .before .before .before .before .before .before .before .before .before .before .before .open-tables .kept .1 .1 .1 .0); ends-long = omega (arith, c .before .before .before .before .before .before .before .before .before .before .before .before .before .before .before .before .before .before .before .before .before .open-tables .kept .1 .1 .1 .1 .0); uses-long = omega (arith, c .before .before .before .before .before .before .before .before .before .before .before .before .before .before .before .before .before .before .before .before .before .open-tables .kept .1 .1 .1 .1 .1 .0) };
+      free = chosen-free _ (o .plan) (o .decodes) _ _ _ _ (sym (rw (c .before .before .before .before .before .before .before .before .before .before .before .before .before .before .before .before .before .before .before .before .before .before .before .before .before .before .lesser .ensures) at (c .before .before .before .before .before .before .before .before .before .before .before .before .before .before .before .before .before .before .before .before .before .open-tables .ensures .number-is)) ∙ c .before .before .before .before .before .before .before .before .before .before .before .before .before .before .before .before .if1 .left) (sym (c .before .before .before .before .before .before .before .before .before .before .before .before .before .before .before .kinds-known .ensures) ∙ not-false _ (c .before .before .before .before .before .before .before .before .before .before .before .before .before .before .if2 .left)) _ (c .before .before .before .before .before .before .before .before .choose .ensures (o .plan) (o .decodes)) _ (root-now _ (o .plan) (o .decodes) _) (sym (c .before .before .before .before .before .before .lowers .ensures) ∙ not-false _ (c .before .before .before .before .before .if3 .left));
+    }
 
 made-requires : tie.Need-made-requires
 made-requires c κs = search needs
@@ -99,8 +115,8 @@ same-length-6 c = search needs
 returns-4 : tie.Need-returns-4
 unfolding Chooses Carries
 returns-4 c =
-    let o = c .before .before .before .before .before .before .before .before .before .before .before .before .before .before .before .before .before .before .before .before .before .before .before .before .before .before .open-tables .ensures .opens (c .before .before .before .before .before .before .before .before .before .before .before .before .before .before .before .before .before .before .before .before .before .if1 .left) in
-    rw (c .made .ensures) (improve-made _ (o .plan) (o .decodes) _ _ _ _ (sym (rw (c .before .before .before .before .before .before .before .before .before .before .before .before .before .before .before .before .before .before .before .before .before .before .before .before .before .before .before .before .before .before .before .lesser .ensures) at (c .before .before .before .before .before .before .before .before .before .before .before .before .before .before .before .before .before .before .before .before .before .before .before .before .before .before .open-tables .ensures .number-is)) ∙ c .before .before .before .before .before .before .before .before .before .before .before .before .before .before .before .before .before .before .before .before .before .if1 .left) (sym (c .before .before .before .before .before .before .before .before .before .before .before .before .before .before .before .before .before .before .before .before .kinds-known .ensures) ∙ not-false _ (c .before .before .before .before .before .before .before .before .before .before .before .before .before .before .before .before .before .before .before .if2 .left)) _ (c .before .before .before .before .before .before .before .before .before .before .before .before .before .choose .ensures (o .plan) (o .decodes)) (not-false _ (c .before .before .before .before .before .before .before .before .before .before .before .if3 .left)) _ _ _ (c .before .before .before .before .before .carry .ensures (o .plan) (o .decodes)), scratch-kept _ _ _)
+    let o = c .before .before .before .before .before .before .before .before .before .before .before .before .before .before .before .before .before .before .before .before .before .before .before .before .before .before .before .open-tables .ensures .opens (c .before .before .before .before .before .before .before .before .before .before .before .before .before .before .before .before .before .before .before .before .before .before .if1 .left) in
+    rw (c .made .ensures) (improve-made _ (o .plan) (o .decodes) _ _ _ _ (sym (rw (c .before .before .before .before .before .before .before .before .before .before .before .before .before .before .before .before .before .before .before .before .before .before .before .before .before .before .before .before .before .before .before .before .lesser .ensures) at (c .before .before .before .before .before .before .before .before .before .before .before .before .before .before .before .before .before .before .before .before .before .before .before .before .before .before .before .open-tables .ensures .number-is)) ∙ c .before .before .before .before .before .before .before .before .before .before .before .before .before .before .before .before .before .before .before .before .before .before .if1 .left) (sym (c .before .before .before .before .before .before .before .before .before .before .before .before .before .before .before .before .before .before .before .before .before .kinds-known .ensures) ∙ not-false _ (c .before .before .before .before .before .before .before .before .before .before .before .before .before .before .before .before .before .before .before .before .if2 .left)) _ (c .before .before .before .before .before .before .before .before .before .before .before .before .before .before .choose .ensures (o .plan) (o .decodes)) _ (root-now _ (o .plan) (o .decodes) _) (sym (c .before .before .before .before .before .before .before .before .before .before .before .before .lowers .ensures) ∙ not-false _ (c .before .before .before .before .before .before .before .before .before .before .before .if3 .left)) _ _ _ (c .before .before .before .before .before .carry .ensures (o .plan) (o .decodes)), scratch-kept _ _ _)
 
 pub improve-spec : {M : Type 1} → statement M
 improve-spec =
@@ -120,6 +136,8 @@ improve-spec =
     slice-aggregate-choose-2
     slice-aggregate-choose-3
     choose-requires
+    slice-read-root
+    lowers-requires
     same-length-3
     same-length-4
     returns-3

@@ -1,5 +1,4 @@
 use native.Mathlib.Omega.{arith}
-use denote.Ref.{now}
 use borrow.Author.Needs.{needs}
 use Rattle.move_best.proofs.Trying.{sets-fit}
 use Rattle.move_best.proofs.choose.Statement.{statement}
@@ -13,7 +12,7 @@ part-work-start c = search needs
 
 part-work-end : tie.Need-part-work-end
 part-work-end c =
-    omega (arith, sets-fit (c .before .before .before .before .before .before .args .ports) (c .before .before .before .before .before .before .args .sets) (now (c .before .before .before .before .before .before .args .table)) (now (c .before .before .before .before .before .before .args .firsts)) (now (c .before .before .before .before .before .before .args .ends)) (now (c .before .before .before .before .before .before .args .uses)) (now (c .before .before .before .before .before .before .args .masks)) (now (c .before .before .before .before .before .before .args .cells)) (c .before .before .before .before .before .before .pre))
+    omega (arith, sets-fit _ _ _ _ _ _ _ _ (c .before .before .before .before .before .before .pre))
 
 search-requires : tie.Need-search-requires
 search-requires c κs = search needs

@@ -9,9 +9,13 @@ use Rattle.logic.specs.Formula.{Plan}
 use Rattle.logic.specs.Configuration.{inMasks, ownMasks, allWithin}
 use Rattle.logic.specs.Cells.{ownCells}
 use Rattle.logic.specs.Moves.{legal}
+use Rattle.logic.specs.Change.{differing}
 use Rattle.table_format.specs.Decode.{sound, decode}
 use Rattle.cells_walk.specs.inner.Visit.{CellsFit, TablesLong}
 use Rattle.cells_walk.specs.inner.Root.{Indexed}
+use Rattle.cells_sum.specs.declared.After.{After}
+use Rattle.contracts.specs.Least.{NoneBelow}
+use Rattle.contracts.specs.MoveCall.{cellsAfter}
 use Rattle.contracts.specs.ImproveCall.{rootNow, rootAfter, Candidate}
 use Rattle.move_order.specs.inner.Stepping.{place}
 use Rattle.move_best.specs.declared.Choice.{Choice}
@@ -39,33 +43,37 @@ pub record TryReady (ports sets : ℕ) (bytes firsts ends uses masks cells : Lis
   pub room : SearchRoom ports sets bytes firsts ends uses masks cells work
   pub is-legal : legal (room .ready .plan) (inMasks (take (ownMasks (room .ready .plan)) masks)) m ≡ true
 
--- The root that the move would leave.
-unfoldable pub RootIs : List ℕ → List ℕ → List ℕ → Move → ℕ → Type 0
-RootIs bytes masks cells m r =
-    (P : Plan) → decode bytes ≡ sound P → r ≡ rootAfter P m (take (ownMasks P) masks) (take (ownCells P) cells)
+-- "root before, root after, and how many cells differ from before": the three numbers that the move call would answer.
+pub record NumbersAre (P : Plan) (own before : List ℕ) (m : Move) (a : After) : Type 0 where
+  pub before-is : a .old ≡ rootNow before
+  pub after-is : a .value ≡ rootAfter P m own before
+  pub changed-is : a .changed ≡ differing before (cellsAfter P m own before)
 
--- "If a legal move of these kinds leaves a smaller root than now, it makes one that leaves the least"
-pub record BestFound (P : Plan) (kinds : ℕ) (own before : List ℕ) (r : Choice) : Type 0 where
-  pub candidate : Candidate P kinds own (r .m)
-  pub root-is : r .root ≡ rootAfter P (r .m) own before
-  pub smaller : r .root < rootNow before
-  pub least : (m : Move) → Candidate P kinds own m → r .root ≤ rootAfter P m own before
+unfoldable pub GivesNumbers : List ℕ → List ℕ → List ℕ → Move → After → Type 0
+GivesNumbers bytes masks cells m a = (P : Plan) → decode bytes ≡ sound P → NumbersAre P (take (ownMasks P) masks) (take (ownCells P) cells) m a
+
+-- The best of the moves of which something holds: it leaves the least root, with its three numbers.
+pub record BestFound (Is : Move → Type 0) (P : Plan) (own before : List ℕ) (r : Choice) : Type 0 where
+  pub candidate : Is (r .m)
+  pub numbers : NumbersAre P own before (r .m) (r .numbers)
+  pub least : NoneBelow Is (λ x. rootAfter P x own before) (r .numbers .value)
   -- Which of equally good moves is left free; this one is the first in the order, as paper 02's request 2026-01 will ask.
-  pub earliest : (m : Move) → Candidate P kinds own m → place m < place (r .m) → r .root < rootAfter P m own before
+  pub earliest : (m : Move) → Is m → place m < place (r .m) → r .numbers .value < rootAfter P m own before
 
--- "Otherwise it answers "no better move" with the root"
-pub record NoneFound (P : Plan) (kinds : ℕ) (own before : List ℕ) (r : Choice) : Type 0 where
-  pub root-is : r .root ≡ rootNow before
-  pub none-smaller : (m : Move) → Candidate P kinds own m → rootNow before ≤ rootAfter P m own before
+-- Found exactly when there is one.
+unfoldable pub FoundOr : Bool → (Move → Type 0) → Plan → List ℕ → List ℕ → Choice → Type 0
+FoundOr true Is P own before r = BestFound Is P own before r
+FoundOr false Is P own before r = (m : Move) → Is m → ⊥
 
-unfoldable pub FoundOr : Bool → Plan → ℕ → List ℕ → List ℕ → Choice → Type 0
-FoundOr true P kinds own before r = BestFound P kinds own before r
-FoundOr false P kinds own before r = NoneFound P kinds own before r
-
+-- The choice among the candidates: the legal moves of the kinds.
 unfoldable pub Chooses : List ℕ → List ℕ → List ℕ → ℕ → Choice → Type 0
 Chooses bytes masks cells kinds r =
-    (P : Plan) → decode bytes ≡ sound P → FoundOr (r .found) P kinds (take (ownMasks P) masks) (take (ownCells P) cells) r
+    (P : Plan) → decode bytes ≡ sound P
+    → FoundOr (r .found) (Candidate P kinds (take (ownMasks P) masks)) P (take (ownMasks P) masks) (take (ownCells P) cells) r
 
--- A choice with its fields.
-unfoldable pub choiceOf : Bool → Move → ℕ → Choice
-choiceOf found m root = record { found = found; m = m; root = root }
+-- A choice with its fields, and the numbers of none.
+unfoldable pub choiceOf : Bool → Move → After → Choice
+choiceOf found m a = record { found = found; m = m; numbers = a }
+
+unfoldable pub noNumbers : After
+noNumbers = record { old = 0; value = 0; changed = 0 }
