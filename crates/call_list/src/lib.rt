@@ -21,6 +21,7 @@ const CALL: usize = 7;
 
 const ANSWER: usize = 10;
 
+// What stands in an answer that has no move.
 fn no_move() -> Move
     ensures { λ r. ⌜ r ≡ noMove ⌝ }
 {
@@ -50,6 +51,7 @@ fn tell(number: u32, found: u32, m: Move, before: u32, after: u32, changed: u32,
     answer[9] = changed;
 }
 
+// The answer to a move or a trial: no move is told.
 fn tell_moved(r: Moved, answer: &mut [u32])
     requires { ⌜ 10 ≤ length (now answer) ⌝ }
     ensures { λ _. ⌜ now (answer .exit) ≡ movedNumbers r ++ drop 10 (now (answer .entry)) ⌝ }
@@ -64,6 +66,7 @@ fn tell_moved(r: Moved, answer: &mut [u32])
     }
 }
 
+// The answer to improve: the chosen move is told.
 fn tell_improved(r: Improved, answer: &mut [u32])
     requires { ⌜ 10 ≤ length (now answer) ⌝ }
     ensures { λ _. ⌜ now (answer .exit) ≡ improvedNumbers r ++ drop 10 (now (answer .entry)) ⌝ }
@@ -94,6 +97,7 @@ fn move_of(call: &[u32]) -> Move
     }
 }
 
+// A length that a call gives.
 fn wide(x: u32) -> usize
     ensures { λ r. ⌜ r ≡ x ⌝ }
 {

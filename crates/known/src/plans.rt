@@ -15,158 +15,37 @@ fn say(table: &[u8], masks: &[u64], cells: &mut [u32]) {
     say_loaded(load(table, masks, cells));
 }
 
-// Plan A.
-fn table_a() -> [u8; 121] {
-    [
-        80,
-        76,
-        78,
-        1,
-        0,
-        3,
-        3,
-        14,
-        0,
-        0,
-        0,
-        0,
-        0,
-        255,
-        255,
-        14,
-        0,
-        3,
-        0,
-        0,
-        0,
-        0,
-        0,
-        14,
-        0,
-        1,
-        0,
-        0,
-        0,
-        1,
-        0,
-        13,
-        0,
-        3,
-        0,
-        0,
-        0,
-        2,
-        0,
-        13,
-        0,
-        4,
-        0,
-        0,
-        0,
-        3,
-        0,
-        9,
-        0,
-        6,
-        0,
-        0,
-        2,
-        4,
-        0,
-        6,
-        0,
-        3,
-        0,
-        0,
-        0,
-        4,
-        0,
-        9,
-        0,
-        5,
-        0,
-        0,
-        0,
-        6,
-        0,
-        8,
-        0,
-        5,
-        0,
-        0,
-        1,
-        6,
-        0,
-        9,
-        0,
-        4,
-        0,
-        0,
-        0,
-        3,
-        0,
-        13,
-        0,
-        5,
-        0,
-        0,
-        2,
-        9,
-        0,
-        11,
-        0,
-        6,
-        0,
-        0,
-        0,
-        9,
-        0,
-        12,
-        0,
-        6,
-        0,
-        0,
-        1,
-        9,
-        0,
-        13,
-        0,
-        8,
-        1,
-        2,
-        1,
-        1,
-        0,
-        14,
-        0,
-    ]
+// Loads the first n bytes of a table.
+fn say_short(table: &[u8], n: usize, masks: &[u64], cells: &mut [u32]) {
+    if table.len() < n {
+        return;
+    }
+    say(&table[0..n], masks, cells);
 }
 
 // Plan A: its 34 cells and two past them, then the cells of some nodes.
-fn plan_a() {
-    let table = table_a();
+fn plan_a(table: &[u8]) {
     let masks = [3u64, 7, 1];
     let mut cells = [9u32; 36];
-    say(&table, &masks, &mut cells);
+    say(table, &masks, &mut cells);
     show(&cells);
-    show_node(&table, &cells, 0);
-    show_node(&table, &cells, 3);
-    show_node(&table, &cells, 13);
-    show_node(&table, &cells, 14);
+    show_node(table, &cells, 0);
+    show_node(table, &cells, 3);
+    show_node(table, &cells, 13);
+    show_node(table, &cells, 14);
 }
 
 // Each way to be refused: a cell too few, a mask too few, a port too many, a table one byte short.
-fn refusals() {
-    let table = table_a();
+fn refusals(table: &[u8]) {
     let masks = [3u64, 7, 1];
     let mut few = [9u32; 33];
-    say(&table, &masks, &mut few);
+    say(table, &masks, &mut few);
     let mut cells = [9u32; 36];
     let two = [3u64, 7];
-    say(&table, &two, &mut cells);
+    say(table, &two, &mut cells);
     let stray = [3u64, 15, 1];
-    say(&table, &stray, &mut cells);
-    say(&table[0..120], &stray, &mut few);
+    say(table, &stray, &mut cells);
+    say_short(table, 120, &stray, &mut few);
     show(&few);
 }
 
@@ -213,9 +92,16 @@ pub fn large_plans(cells: &mut [u32]) {
     );
 }
 
+// Plan A's table, accepted and refused.
+fn known_a(table: &[u8]) {
+    plan_a(table);
+    refusals(table);
+}
+
 // The small tables.
 pub fn all() {
-    plan_a();
-    refusals();
+    known_a(
+        b"\x50\x4c\x4e\x01\x00\x03\x03\x0e\x00\x00\x00\x00\x00\xff\xff\x0e\x00\x03\x00\x00\x00\x00\x00\x0e\x00\x01\x00\x00\x00\x01\x00\x0d\x00\x03\x00\x00\x00\x02\x00\x0d\x00\x04\x00\x00\x00\x03\x00\x09\x00\x06\x00\x00\x02\x04\x00\x06\x00\x03\x00\x00\x00\x04\x00\x09\x00\x05\x00\x00\x00\x06\x00\x08\x00\x05\x00\x00\x01\x06\x00\x09\x00\x04\x00\x00\x00\x03\x00\x0d\x00\x05\x00\x00\x02\x09\x00\x0b\x00\x06\x00\x00\x00\x09\x00\x0c\x00\x06\x00\x00\x01\x09\x00\x0d\x00\x08\x01\x02\x01\x01\x00\x0e\x00",
+    );
     small_plans();
 }

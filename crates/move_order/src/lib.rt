@@ -32,6 +32,7 @@ fn of_kinds(kinds: u32, kind: u32) -> bool
     }
 }
 
+// The move with these fields.
 fn at_fields(kind: u32, s: u32, t: u32, p: u32, q: u32) -> Move
     ensures { λ r. ⌜ r ≡ fieldsAre kind s t p q ⌝ }
 {

@@ -27,6 +27,7 @@ fn pass_input(masks: &mut [u64], text: &mut [u8]) -> Scan
     s
 }
 
+// `penalty P cells C`.
 fn penalty(root: u32, cells: u32) {
     io::write_all(1, b"penalty ");
     io::print_decimal(1, root as u64);
@@ -35,12 +36,14 @@ fn penalty(root: u32, cells: u32) {
     io::write_all(1, b"\n");
 }
 
+// `refused N`.
 fn refused(number: u8) {
     io::write_all(1, b"refused ");
     io::print_decimal(1, number as u64);
     io::write_all(1, b"\n");
 }
 
+// Prints a line.
 fn say(line: Line) {
     match line {
         Line::Penalty { root, cells } => penalty(root, cells),
@@ -53,6 +56,7 @@ fn room() -> [u32; 16384] {
     [0; 16384]
 }
 
+// A text of 4,097 bytes is one too long, so more of it need not be kept.
 fn main() {
     let mut masks = [0u64; 16];
     let mut text = [0u8; 4097];

@@ -15,6 +15,7 @@ pub enum Line {
     Refusal(u8),
 }
 
+// Load's answer as a line.
 fn load_line(answer: Loaded) -> Line
     ensures { λ r. ⌜ r ≡ loadLine answer ⌝ }
 {
