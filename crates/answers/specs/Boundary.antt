@@ -8,6 +8,7 @@ use lib.ListN.{length, getD, take, drop}
 use Rattle.logic.specs.Formula.{nodeCount}
 use Rattle.logic.specs.Cells.{ownCells, firstCells}
 use Rattle.table_format.specs.Decode.{Decoded, broken, sound}
+use Rattle.contracts.specs.State.{State}
 use Rattle.contracts.specs.declared.Answer.{Answer}
 use Rattle.contracts.specs.Read.{readNumber, readNodes, readTotal}
 use Rattle.contracts.specs.declared.Loaded.{Loaded}
@@ -28,15 +29,15 @@ pub record ReadGives (given : Answer × List ℕ) (r : ReadAnswer) (table : List
   pub fields : ReadFields (given .0) r
   pub table-is : table ≡ given .1
 
--- The same of load, with every cell afterwards.
+-- The same of load, with every mask and every cell afterwards.
 pub record LoadFields (a : Loaded) (r : LoadAnswer) : Type 0 where
   pub number-is : r .number ≡ loadNumber a
   pub root-is : r .root ≡ loadRoot a
   pub cells-are : r .cells ≡ loadTotal a
 
-pub record LoadGives (given : Loaded × List ℕ) (r : LoadAnswer) (cells : List ℕ) : Type 0 where
+pub record LoadGives (given : Loaded × State) (r : LoadAnswer) (s′ : State) : Type 0 where
   pub fields : LoadFields (given .0) r
-  pub cells-are : cells ≡ given .1
+  pub tables-are : s′ ≡ given .1
 
 -- Where a node's part of a cell table of so many cells begins and how many cells it has. "an empty part means that 11, 12 or a
 -- node past the count applies": {0, 0}.

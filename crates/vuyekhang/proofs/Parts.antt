@@ -9,6 +9,7 @@ use Rattle.logic.specs.Formula.{Plan, nodeCount}
 use Rattle.logic.specs.Cells.{ownCells, firstCells}
 use Rattle.table_format.specs.Decode.{Decoded, broken, sound, decode}
 use Rattle.table_format.specs.inner.Index.{laid}
+use Rattle.contracts.specs.State.{State}
 use Rattle.contracts.specs.NodeCells.{widths, nodeCells}
 use Rattle.contracts.proofs.NodeParts.{NodeBounds, node-bounds}
 use Rattle.call_node.proofs.Bounds.{bound-read}
@@ -26,9 +27,9 @@ pub read-gives : (a : Answer) (t : List ℕ) (given : Answer × List ℕ) (r : R
 read-gives a t given r e f =
     record { fields = subst (λ (x : Answer × List ℕ). ReadFields (x .0) r) e f; table-is = ap (λ (x : Answer × List ℕ). x .1) e }
 
-pub load-gives : (a : Loaded) (t : List ℕ) (given : Loaded × List ℕ) (r : LoadAnswer) → (a, t) ≡ given → LoadFields a r → LoadGives given r t
+pub load-gives : (a : Loaded) (t : State) (given : Loaded × State) (r : LoadAnswer) → (a, t) ≡ given → LoadFields a r → LoadGives given r t
 load-gives a t given r e f =
-    record { fields = subst (λ (x : Loaded × List ℕ). LoadFields (x .0) r) e f; cells-are = ap (λ (x : Loaded × List ℕ). x .1) e }
+    record { fields = subst (λ (x : Loaded × State). LoadFields (x .0) r) e f; tables-are = ap (λ (x : Loaded × State). x .1) e }
 
 -- nothing is taken of a part of no cells
 empty-part : (bytes xs : List ℕ) (node : ℕ) → (0, 0) ≡ partOf (decode bytes) (length xs) node → [] ≡ nodeCells (decode bytes) xs node
