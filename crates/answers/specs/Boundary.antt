@@ -2,6 +2,7 @@
 use mathlib.Core.Path.{_≡_}
 use mathlib.Core.List.{List}
 use Prim.Native.Nat.{ℕ}
+use Rattle.contracts.specs.State.{State}
 use Rattle.contracts.specs.declared.Answer.{Answer}
 use Rattle.contracts.specs.Read.{readNumber, readNodes, readTotal}
 use Rattle.contracts.specs.declared.Loaded.{Loaded}
@@ -20,12 +21,12 @@ pub record ReadGives (given : Answer × List ℕ) (r : ReadAnswer) (table : List
   pub fields : ReadFields (given .0) r
   pub table-is : table ≡ given .1
 
--- The same of load, with every cell afterwards.
+-- The same of load, with every mask and every cell afterwards.
 pub record LoadFields (a : Loaded) (r : LoadAnswer) : Type 0 where
   pub number-is : r .number ≡ loadNumber a
   pub root-is : r .root ≡ loadRoot a
   pub cells-are : r .cells ≡ loadTotal a
 
-pub record LoadGives (given : Loaded × List ℕ) (r : LoadAnswer) (cells : List ℕ) : Type 0 where
+pub record LoadGives (given : Loaded × State) (r : LoadAnswer) (s′ : State) : Type 0 where
   pub fields : LoadFields (given .0) r
-  pub cells-are : cells ≡ given .1
+  pub tables-are : s′ ≡ given .1

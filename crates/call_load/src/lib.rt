@@ -4,12 +4,13 @@ use cells_fill::fill;
 use contracts::Loaded;
 use table_check::check;
 ghost use mathlib.Core.Path.{_≡_};
+ghost use Rattle.contracts.specs.State.{tables};
 ghost use Rattle.contracts.specs.Load.{loads};
 ghost use Rattle.table_format.specs.Decode.{decode};
 
 // Load: checks the tables (11, 12, 13) and fills every cell; the answer is root and cell total.
 pub fn load(table: &[u8], masks: &[u64], cells: &mut [u32]) -> Loaded
-    ensures { λ r. ⌜ (r, now (cells .exit)) ≡ loads (decode (now (table .entry))) (now (masks .entry)) (now (cells .entry)) ⌝ }
+    ensures { λ r. ⌜ (r, tables (now (masks .entry)) (now (cells .exit))) ≡ loads (decode (now (table .entry))) (tables (now (masks .entry)) (now (cells .entry))) ⌝ }
 {
     let mut firsts = [0u32; 512];
     let mut ends = [0u16; 512];

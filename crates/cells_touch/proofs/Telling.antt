@@ -12,7 +12,7 @@ use borrow.Author.Tests.{eq-eqb, ne-eqb, ltb-true}
 use Rattle.logic.specs.declared.Move.{Move}
 use Rattle.logic.specs.Formula.{Plan}
 use Rattle.logic.specs.Configuration.{inMask}
-use Rattle.logic.specs.Moves.{MoveKind, add, drop, transfer, swap, unknown, moveKind, fieldsKnown, known, kindPairs, movePairs}
+use Rattle.logic.specs.Moves.{MoveKind, add, drop, transfer, swap, unknown, moveKind, fieldsKnown, known, kindPairs, namedPairs, movePairs}
 use Rattle.logic.specs.Change.{Change, someOf, pairsChange}
 use Rattle.logic.specs.inner.Agreement.{listed}
 use Rattle.logic.proofs.Lists.{and-left, and-right, or-true-left, or-true-right, or-false}
@@ -160,8 +160,8 @@ port-known unknown P m h = absurd (false≢true h)
 
 -- what the code tells of each kind
 pub tells-transfer : (m : Move) → m .kind ≡ 3 → Tells m (changeAt (m .s) (m .t) (m .p) (m .p))
-unfolding Tells known movePairs kindPairs moveKind
-tells-transfer m e P few h =
+unfolding Tells known namedPairs movePairs kindPairs moveKind
+tells-transfer m e P k few h =
     rw e (says-at (P .ports) (m .s) (m .t) (m .p) (m .p) _ (transferred m (P .ports) (port-known (moveKind (m .kind)) P m h)))
 
 other-known : (P : Plan) (m : Move) → fieldsKnown swap P m ≡ true → m .q < P .ports
@@ -169,8 +169,8 @@ unfolding fieldsKnown
 other-known P m h = ltb-true _ _ (and-right (ltb (m .s) (P .sets) && eqb (m .t) 0 && ltb (m .p) (P .ports)) _ h)
 
 pub tells-swap : (m : Move) → m .kind ≡ 4 → Tells m (changeAt (m .s) (m .s) (m .p) (m .q))
-unfolding Tells known movePairs kindPairs moveKind
-tells-swap m e P few h =
+unfolding Tells known namedPairs movePairs kindPairs moveKind
+tells-swap m e P k few h =
     rw e (says-at (P .ports) (m .s) (m .s) (m .p) (m .q) _
     (swapped m (P .ports) (port-known (moveKind (m .kind)) P m h) (other-known P m (ap (λ (k : ℕ). fieldsKnown (moveKind k) P m) (sym e) ∙ h))))
 
@@ -201,5 +201,5 @@ one-says swap P m o h = absurd o
 one-says unknown P m o h = absurd (false≢true h)
 
 pub tells-one : (m : Move) → m .kind ≢ 3 → m .kind ≢ 4 → Tells m (changeAt (m .s) (m .s) (m .p) (m .p))
-unfolding Tells known movePairs
-tells-one m n n′ P few h = one-says (moveKind (m .kind)) P m (one-kind (m .kind) n n′) h
+unfolding Tells known namedPairs movePairs
+tells-one m n n′ P k few h = one-says (moveKind (m .kind)) P m (one-kind (m .kind) n n′) h

@@ -1,5 +1,5 @@
 -- Every run from an accepted load is right, by induction over its calls. Assumes nothing.
-use mathlib.Core.Path.{_≡_, refl, sym, ap, _∙_}
+use mathlib.Core.Path.{_≡_, refl, sym, ap, _∙_, subst}
 use mathlib.Core.Bool.{cond, not, _||_}
 use mathlib.Core.List.{List, _++_}
 use Prim.Native.Nat.{ℕ, zero, suc}
@@ -14,7 +14,7 @@ use Rattle.logic.specs.Cells.{ownCells}
 use Rattle.logic.specs.Moves.{refusal}
 use Rattle.logic.proofs.Lists.{or-left}
 use Rattle.table_format.specs.Decode.{Decoded, broken, sound, decode}
-use Rattle.contracts.specs.State.{State, tables}
+use Rattle.contracts.specs.State.{State, tables, ownTables, withRest}
 use Rattle.contracts.specs.declared.Loaded.{Loaded}
 use Rattle.contracts.specs.declared.Loaded.the-variants.{Accepted, Refused}
 use Rattle.contracts.specs.Load.{loadNumber, loadGrounds, loadOr, loadPlan, loads}
@@ -24,53 +24,60 @@ use Rattle.contracts.specs.Lists.{Exchange, Run, ended, called, feed, bo
 use Rattle.contracts.proofs.Steps.{either-ground, Holds, own-holds, step-right}
 
 -- an accepted load's answer is no refusal
-refused-not : (number root total : ℕ) (xs ys : List ℕ) → _≡_ {A = Loaded × List ℕ} (Refused (suc number), xs) (Accepted root total, ys) → ⊥
+refused-not : (number root total : ℕ) (s s′ : State) → _≡_ {A = Loaded × State} (Refused (suc number), s) (Accepted root total, s′) → ⊥
 unfolding loadNumber
-refused-not number root total xs ys h =
-    let e : suc number ≡ 0 = ap (λ (t : Loaded × List ℕ). loadNumber (t .0)) h in absurd (omega arith)
+refused-not number root total s s′ h =
+    let e : suc number ≡ 0 = ap (λ (t : Loaded × State). loadNumber (t .0)) h in absurd (omega arith)
 
 -- An accepted load implies that the bytes are the table of a plan.
-pub load-decodes : (bytes masks before cells : List ℕ) (root total : ℕ) → loads (decode bytes) masks before ≡ (Accepted root total, cells)
+pub load-decodes : (bytes : List ℕ) (before s : State) (root total : ℕ) → loads (decode bytes) before ≡ (Accepted root total, s)
     → (P : Plan) × (decode bytes ≡ sound P)
 unfolding loads
-load-decodes bytes masks before cells root total h = go (decode bytes) refl
+load-decodes bytes before s root total h = go (decode bytes) refl
   where
     go : (d : Decoded) → decode bytes ≡ d → (P : Plan) × (decode bytes ≡ sound P)
-    go broken e = absurd (refused-not 10 root total before cells (sym (ap (λ (x : Decoded). loads x masks before) e) ∙ h))
+    go broken e = absurd (refused-not 10 root total before s (sym (ap (λ (x : Decoded). loads x before) e) ∙ h))
     go (sound P) e = (P, e)
 
-module _ (P : Plan) (masks before cells : List ℕ) (root total : ℕ) (h : loads (sound P) masks before ≡ (Accepted root total, cells)) where
+module _ (P : Plan) (before s : State) (root total : ℕ) (h : loads (sound P) before ≡ (Accepted root total, s)) where
   abbrev own : List ℕ
-  own = take (ownMasks P) masks
+  own = take (ownMasks P) (before .masks)
+
+  abbrev ground : ℕ
+  ground = refusal (loadGrounds P own (length (before .masks)) (length (before .cells)))
 
   -- and that no ground applies
-  load-free : refusal (loadGrounds P own (length masks) (length before)) ≡ 0
+  load-free : ground ≡ 0
   unfolding loads loadPlan loadOr
-  load-free = go (refusal (loadGrounds P own (length masks) (length before))) refl
+  load-free = go ground refl
     where
-      go : (g : ℕ) → refusal (loadGrounds P own (length masks) (length before)) ≡ g → refusal (loadGrounds P own (length masks) (length before)) ≡ 0
+      go : (g : ℕ) → ground ≡ g → ground ≡ 0
       go zero e = e
       go (suc g) e =
-          absurd (refused-not g root total _ cells
-          (sym (ap (λ (x : ℕ). let r = loadOr x P own (take (ownCells P) before) in (r .0, r .1 ++ drop (ownCells P) before)) e) ∙ h))
+          absurd (refused-not g root total _ s
+          (sym (ap (λ (x : ℕ). let r = loadOr x P (ownTables P before) in (r .0, withRest P (r .1) before)) e) ∙ h))
 
   -- The tables as an accepted load leaves them hold what they must.
-  pub load-holds : Holds P (firstBook P (tables masks cells)) (drop (ownMasks P) masks) (drop (ownCells P) before) (tables masks cells)
+  pub load-holds : Holds P (firstBook P s) (drop (ownMasks P) (before .masks)) (drop (ownCells P) (before .cells)) s
   unfolding loadGrounds refusal bookCells spelled firstBook
   load-holds =
-      let short = ltb (length masks) (ownMasks P) in
-      let few = ltb (length before) (ownCells P) in
+      let short = ltb (length (before .masks)) (ownMasks P) in
+      let few = ltb (length (before .cells)) (ownCells P) in
+      let tail-masks = drop (ownMasks P) (before .masks) in
+      let tail-cells = drop (ownCells P) (before .cells) in
       let g = either-ground (short || few) 11 (cond (not (allWithin (P .ports) own)) 13 0) load-free in
       let w = either-ground (not (allWithin (P .ports) own)) 12 0 (g .1) in
-      own-holds P (firstBook P (tables masks cells)) (drop (ownMasks P) masks) (drop (ownCells P) before) (tables masks cells)
-      (tables own (bookCells P (inMasks own)))
+      let left = tables (before .masks) (bookCells P (inMasks own) ++ tail-cells) in
+      let e : s ≡ left = sym (ap (λ (t : Loaded × State). t .1) h) ∙ load-cells before P load-free in
+      subst (λ (t : State). Holds P (firstBook P t) tail-masks tail-cells t) (sym e)
+      (own-holds P (firstBook P left) tail-masks tail-cells left (tables own (bookCells P (inMasks own)))
       record {
         spells = refl;
-        enough = length-take-le (ownMasks P) masks (ltb-false (length masks) (ownMasks P) (or-left short few (g .0)));
+        enough = length-take-le (ownMasks P) (before .masks) (ltb-false (length (before .masks)) (ownMasks P) (or-left short few (g .0)));
         within = not-false _ (w .0);
         penalties = refl;
       }
-      (λ i. tables (sym (take-append-drop (ownMasks P) masks) i) ((sym (ap (λ (t : Loaded × List ℕ). t .1) h) ∙ load-cells masks before P load-free) i))
+      (λ i. tables (sym (take-append-drop (ownMasks P) (before .masks)) i) (bookCells P (inMasks own) ++ tail-cells)))
 
 -- A list of calls from any tables that hold what they must.
 pub run-right : (bytes : List ℕ) (P : Plan) → decode bytes ≡ sound P → (b : Book) (tail-masks tail-cells : List ℕ)

@@ -1,10 +1,9 @@
 -- Load's answer and cells in each of its cases, and what an accepted load means. Assumes nothing.
 use mathlib.Core.Path.{_≡_, sym, ap, _∙_}
 use mathlib.Core.Logic.{_↔_}
-use mathlib.Core.Bool.{true, false, not, _||_}
-use mathlib.Core.List.{List, [], _∷_, _++_}
+use mathlib.Core.Bool.{true, false}
+use mathlib.Core.List.{List, _++_}
 use Prim.Native.Nat.{ℕ, suc, _≤_, _<_}
-use lib.Dec.{ltb}
 use lib.ListN.{length, getD, take, drop, take-append-drop, List·getD-append}
 use borrow.Author.Tests.{lt-ltb, le-ltb}
 use Rattle.logic.specs.Formula.{Plan}
@@ -14,38 +13,49 @@ use Rattle.logic.specs.Cells.{ownCells, cells, rootPenalty}
 use Rattle.logic.specs.Moves.{refusal}
 use Rattle.logic.proofs.Theorems.{Nonempty, root-zero, length-cells}
 use Rattle.table_format.specs.Decode.{Decoded, broken, sound, decode}
+use Rattle.contracts.specs.State.{State, tables, ownTables, withRest}
 use Rattle.contracts.specs.declared.Loaded.{Loaded}
 use Rattle.contracts.specs.declared.Loaded.the-variants.{Accepted, Refused}
-use Rattle.contracts.specs.Load.{loadGrounds, loadOr, loadPlan, loads, loadRoot}
+use Rattle.contracts.specs.Load.{loadGrounds, loadedMasks, loadedTables, loadOr, loadPlan, loads, loadRoot}
 
-pub load-broken : (bytes masks xs : List ℕ) → decode bytes ≡ broken → _≡_ {A = Loaded × List ℕ} (Refused 11, xs) (loads (decode bytes) masks xs)
+pub load-broken : (bytes masks xs : List ℕ) → decode bytes ≡ broken → _≡_ {A = Loaded × State} (Refused 11, tables masks xs) (loads (decode bytes) (tables masks xs))
 unfolding loads
-load-broken bytes masks xs d = ap (λ (x : Decoded). loads x masks xs) (sym d)
+load-broken bytes masks xs d = ap (λ (x : Decoded). loads x (tables masks xs)) (sym d)
 
 -- the first ground that applies to a plan
 abbrev ground : Plan → List ℕ → List ℕ → ℕ
 ground P masks xs = refusal (loadGrounds P (take (ownMasks P) masks) (length masks) (length xs))
 
+-- load over the tables, by the first ground that applies
+unfoldable loadWhole : ℕ → Plan → State → Loaded × State
+loadWhole n P s =
+    let r = loadOr n P (ownTables P s) in
+    (r .0, withRest P (r .1) s)
+
+by-ground : (bytes : List ℕ) (s : State) (P : Plan) (g : ℕ) → decode bytes ≡ sound P → ground P (s .masks) (s .cells) ≡ g
+    → loads (decode bytes) s ≡ loadWhole g P s
+unfolding loads loadPlan loadWhole
+by-ground bytes s P g d e = ap (λ (x : Decoded). loads x s) d ∙ ap (λ (x : ℕ). loadWhole x P s) e
+
 load-refused : (bytes masks xs : List ℕ) (P : Plan) (g : ℕ) → decode bytes ≡ sound P → ground P masks xs ≡ suc g
-    → _≡_ {A = Loaded × List ℕ} (Refused (suc g), xs) (loads (decode bytes) masks xs)
-unfolding loads loadPlan loadOr
+    → _≡_ {A = Loaded × State} (Refused (suc g), tables masks xs) (loads (decode bytes) (tables masks xs))
+unfolding loadWhole loadOr ownTables withRest
 load-refused bytes masks xs P g d e =
-    sym (ap (λ (x : Decoded). loads x masks xs) d
-    ∙ ap (λ (x : ℕ). let r = loadOr x P (take (ownMasks P) masks) (take (ownCells P) xs) in (r .0, r .1 ++ drop (ownCells P) xs)) e
-    ∙ ap (λ (l : List ℕ). (Refused (suc g), l)) (take-append-drop (ownCells P) xs))
+    sym (by-ground bytes (tables masks xs) P (suc g) d e
+    ∙ (λ i. (Refused (suc g), tables (take-append-drop (ownMasks P) masks i) (take-append-drop (ownCells P) xs i))))
 
 pub load-few-masks : (bytes masks xs : List ℕ) (P : Plan) → decode bytes ≡ sound P → length masks < ownMasks P
-    → _≡_ {A = Loaded × List ℕ} (Refused 12, xs) (loads (decode bytes) masks xs)
+    → _≡_ {A = Loaded × State} (Refused 12, tables masks xs) (loads (decode bytes) (tables masks xs))
 unfolding loadGrounds refusal
 load-few-masks bytes masks xs P d h = load-refused bytes masks xs P 11 d (rw (lt-ltb (length masks) (ownMasks P) h))
 
 pub load-few-cells : (bytes masks xs : List ℕ) (P : Plan) → decode bytes ≡ sound P → ownMasks P ≤ length masks → length xs < ownCells P
-    → _≡_ {A = Loaded × List ℕ} (Refused 12, xs) (loads (decode bytes) masks xs)
+    → _≡_ {A = Loaded × State} (Refused 12, tables masks xs) (loads (decode bytes) (tables masks xs))
 unfolding loadGrounds refusal
 load-few-cells bytes masks xs P d h l = load-refused bytes masks xs P 11 d (rw (le-ltb (length masks) (ownMasks P) h, lt-ltb (length xs) (ownCells P) l))
 
 pub load-not-within : (bytes masks xs : List ℕ) (P : Plan) → decode bytes ≡ sound P → ownMasks P ≤ length masks → ownCells P ≤ length xs
-    → allWithin (P .ports) (take (ownMasks P) masks) ≡ false → _≡_ {A = Loaded × List ℕ} (Refused 13, xs) (loads (decode bytes) masks xs)
+    → allWithin (P .ports) (take (ownMasks P) masks) ≡ false → _≡_ {A = Loaded × State} (Refused 13, tables masks xs) (loads (decode bytes) (tables masks xs))
 unfolding loadGrounds refusal
 load-not-within bytes masks xs P d h l s =
     load-refused bytes masks xs P 12 d (rw (le-ltb (length masks) (ownMasks P) h, le-ltb (length xs) (ownCells P) l, s))
@@ -58,39 +68,30 @@ accepted masks xs P h l s = rw (le-ltb (length masks) (ownMasks P) h, le-ltb (le
 
 pub load-accepts : (bytes masks xs ys : List ℕ) (P : Plan) (r t : ℕ) → decode bytes ≡ sound P → ground P masks xs ≡ 0
     → ys ≡ cells P (spelled P (take (ownMasks P) masks)) ++ drop (ownCells P) xs → 1 ≤ ownCells P → r ≡ getD ys 0 0 → t ≡ ownCells P
-    → _≡_ {A = Loaded × List ℕ} (Accepted r t, ys) (loads (decode bytes) masks xs)
-unfolding loads loadPlan loadOr rootPenalty
+    → _≡_ {A = Loaded × State} (Accepted r t, tables masks ys) (loads (decode bytes) (tables masks xs))
+unfolding loadWhole loadOr loadedMasks loadedTables ownTables withRest rootPenalty
 load-accepts bytes masks xs ys P r t d e y one re te =
     let own = take (ownMasks P) masks in
     let c = cells P (spelled P own) in
     let first : r ≡ getD c 0 0 = re ∙ ap (λ (l : List ℕ). getD l 0 0) y ∙ List·getD-append c (drop (ownCells P) xs) 0 0 (rw (length-cells P (spelled P own)) one) in
-    (λ i. (Accepted (first i) (te i), y i))
-    ∙ sym (ap (λ (x : Decoded). loads x masks xs) d
-    ∙ ap (λ (x : ℕ). let q = loadOr x P own (take (ownCells P) xs) in (q .0, q .1 ++ drop (ownCells P) xs)) e)
+    (λ i. (Accepted (first i) (te i), tables (sym (take-append-drop (ownMasks P) masks) i) (y i)))
+    ∙ sym (by-ground bytes (tables masks xs) P 0 d e)
 
 -- After an accepted load the root is 0 exactly when the formula is true under the plan's own masks (demand 2).
 pub load-zero : (masks xs : List ℕ) (P : Plan) → Nonempty (P .formula) → ground P masks xs ≡ 0
-    → loadRoot (loads (sound P) masks xs .0) ≡ 0 ↔ PlanTrue P (spelled P (take (ownMasks P) masks))
-unfolding loads loadPlan loadOr loadRoot
+    → loadRoot (loads (sound P) (tables masks xs) .0) ≡ 0 ↔ PlanTrue P (spelled P (take (ownMasks P) masks))
+unfolding loads loadPlan loadOr loadedMasks loadRoot ownTables
 load-zero masks xs P n e =
     let own = take (ownMasks P) masks in
-    let r : loadRoot (loads (sound P) masks xs .0) ≡ rootPenalty P (spelled P own) =
-    ap (λ (x : ℕ). loadRoot (loadOr x P own (take (ownCells P) xs) .0)) e in
+    let r : loadRoot (loads (sound P) (tables masks xs) .0) ≡ rootPenalty P (spelled P own) =
+    ap (λ (x : ℕ). loadRoot (loadOr x P (ownTables P (tables masks xs)) .0)) e in
     let z = root-zero P (spelled P own) n in
     ((λ h. z .0 (sym r ∙ h)), (λ t. r ∙ z .1 t))
 
--- After an accepted load each own cell is Definition 5's penalty, and every cell past them is as it was.
-pub load-cells : (masks xs : List ℕ) (P : Plan) → ground P masks xs ≡ 0
-    → loads (sound P) masks xs .1 ≡ cells P (spelled P (take (ownMasks P) masks)) ++ drop (ownCells P) xs
-unfolding loads loadPlan loadOr
-load-cells masks xs P e = ap (λ (x : ℕ). loadOr x P (take (ownMasks P) masks) (take (ownCells P) xs) .1 ++ drop (ownCells P) xs) e
-
--- Two loads that agree on the plan's own masks and cells, and on which tables are long enough, have the same answer and leave the
--- same own cells: nothing past them is read.
-pub load-own : (P : Plan) (masks masks′ xs xs′ : List ℕ) → take (ownMasks P) masks ≡ take (ownMasks P) masks′ → take (ownCells P) xs ≡ take (ownCells P) xs′
-    → ltb (length masks) (ownMasks P) ≡ ltb (length masks′) (ownMasks P) → ltb (length xs) (ownCells P) ≡ ltb (length xs′) (ownCells P)
-    → loadPlan P (take (ownMasks P) masks) (length masks) (length xs) (take (ownCells P) xs)
-    ≡ loadPlan P (take (ownMasks P) masks′) (length masks′) (length xs′) (take (ownCells P) xs′)
-unfolding loadPlan loadGrounds
-load-own P masks masks′ xs xs′ m x lm lx = λ i.
-    loadOr (refusal ((12, lm i || lx i) ∷ (13, not (allWithin (P .ports) (m i))) ∷ [])) P (m i) (x i)
+-- After an accepted load each own cell is Definition 5's penalty, and every mask and every cell past them is as it was.
+pub load-cells : (s : State) (P : Plan) → ground P (s .masks) (s .cells) ≡ 0
+    → loads (sound P) s .1 ≡ tables (s .masks) (cells P (spelled P (take (ownMasks P) (s .masks))) ++ drop (ownCells P) (s .cells))
+unfolding loads loadPlan loadOr loadedMasks loadedTables ownTables withRest
+load-cells s P e =
+    ap (λ (x : ℕ). withRest P (loadOr x P (ownTables P s) .1) s) e
+    ∙ (λ i. tables (take-append-drop (ownMasks P) (s .masks) i) (cells P (spelled P (take (ownMasks P) (s .masks))) ++ drop (ownCells P) (s .cells)))

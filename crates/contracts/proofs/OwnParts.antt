@@ -73,7 +73,7 @@ own-long P s = record { masks-long = refl; cells-long = refl }
 made-long : (P : Plan) (m : Move) (s : State) → ownCells P ≤ length (s .cells) → AsLong P (tablesAfter P m (ownTables P s)) s
 unfolding tablesAfter ownTables
 made-long P m s h =
-    record { masks-long = move-length m (take (ownMasks P) (s .masks)); cells-long = length-after P m (take (ownMasks P) (s .masks)) (s .cells) h }
+    record { masks-long = move-length P m (take (ownMasks P) (s .masks)); cells-long = length-after P m (take (ownMasks P) (s .masks)) (s .cells) h }
 
 -- a move leaves as many own masks and cells as there were
 move-lengths : (g : ℕ) (P : Plan) (m : Move) (s : State) → (g ≡ 0 → ownCells P ≤ length (s .cells)) → AsLong P (moveOr g P m (ownTables P s) .1) s

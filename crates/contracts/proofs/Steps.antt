@@ -86,14 +86,14 @@ scratch-passes P own ml cl scratch gs a b w =
 module _ (P : Plan) (facts : PlanFacts P) where
   -- A legal move leaves the penalties of the sets with its pairs flipped.
   pub made-cells : (m : Move) (own : List ℕ) → legal P (inMasks own) m ≡ true → ownMasks P ≤ length own
-      → cellsAfter P m own (bookCells P (inMasks own)) ≡ bookCells P (bookMade m (inMasks own))
+      → cellsAfter P m own (bookCells P (inMasks own)) ≡ bookCells P (bookMade P m (inMasks own))
   unfolding cellsAfter bookCells bookMade spelled
   made-cells m own h l =
       move-true P (facts .ports1) (facts .ports64) (facts .constants) (facts .cells-most) m own h l
       ∙ ap (planCells P) (move-spells P m own h l)
 
   pub root-made : (m : Move) (own : List ℕ) → legal P (inMasks own) m ≡ true → ownMasks P ≤ length own
-      → rootAfter P m own (bookCells P (inMasks own)) ≡ bookRoot P (bookMade m (inMasks own))
+      → rootAfter P m own (bookCells P (inMasks own)) ≡ bookRoot P (bookMade P m (inMasks own))
   unfolding rootAfter bookRoot rootPenalty bookCells
   root-made m own h l = ap (λ (c : List ℕ). getD c 0 0) (made-cells m own h l)
 
@@ -109,15 +109,15 @@ module _ (P : Plan) (facts : PlanFacts P) where
         after-right = root-made m own h l;
         changed-right = ap (differing b) (made-cells m own h l);
         changed-touched =
-            changed.changed-touched P (facts .ports1) (spelled P (moveMasks m own)) (pairsChange (movePairs m)) b (length-cells P _);
+            changed.changed-touched P (facts .ports1) (spelled P (moveMasks P m own)) (pairsChange (movePairs P (inMasks own) m)) b (length-cells P _);
       }
 
   made-kept : (m : Move) (own : List ℕ) → legal P (inMasks own) m ≡ true → length own ≡ ownMasks P → allWithin (P .ports) own ≡ true
-      → OwnKept P (movedBook m (spelt own)) (tablesAfter P m (bookTables P own))
+      → OwnKept P (movedBook P m (spelt own)) (tablesAfter P m (bookTables P own))
   unfolding bookMade movedBook tablesAfter
   made-kept m own h l w = record {
     spells = move-masks P m own h (omega arith);
-    enough = move-length m own ∙ l;
+    enough = move-length P m own ∙ l;
     within = move-within P m own h (omega arith) w;
     penalties = made-cells m own h (omega arith);
   }
@@ -137,7 +137,7 @@ module _ (P : Plan) (facts : PlanFacts P) where
   move-at : (m : Move) (own : List ℕ) → length own ≡ ownMasks P → allWithin (P .ports) own ≡ true
       → (g : ℕ) → refusal (moveGrounds P (inMasks own) m) ≡ g
       → (let r = moveOr g P m (bookTables P own) in
-      MovedRight g P (inMasks own) m (r .0) × OwnKept P (cond (eqb g 0) (movedBook m (spelt own)) (spelt own)) (r .1))
+      MovedRight g P (inMasks own) m (r .0) × OwnKept P (cond (eqb g 0) (movedBook P m (spelt own)) (spelt own)) (r .1))
   unfolding moveOr moveAnswer MovedRight rootNow rootAfter
   move-at m own l w zero e =
       let h = grounds-legal P (inMasks own) m e in (made-numbers m own h (omega arith), made-kept m own h l w)
@@ -151,7 +151,7 @@ module _ (P : Plan) (facts : PlanFacts P) where
   move-own m b own o =
       of-book b own
       (λ j s. let g = refusal (moveGrounds P (j .sets) m) in
-      let r = moveOr g P m s in MovedRight g P (j .sets) m (r .0) × OwnKept P (cond (eqb g 0) (movedBook m j) j) (r .1))
+      let r = moveOr g P m s in MovedRight g P (j .sets) m (r .0) × OwnKept P (cond (eqb g 0) (movedBook P m j) j) (r .1))
       o (move-at m (own .masks) (o .enough) (o .within) (refusal (moveGrounds P (inMasks (own .masks)) m)) refl)
 
   trial-at : (m : Move) (own : List ℕ) → length own ≡ ownMasks P → (g : ℕ) → (g ≡ 0 → legal P (inMasks own) m ≡ true)
@@ -202,7 +202,7 @@ module _ (P : Plan) (facts : PlanFacts P) where
 
   improve-at : (kinds : ℕ) (own : List ℕ) → length own ≡ ownMasks P → allWithin (P .ports) own ≡ true
       → (g : ℕ) (r : Improved) (own′ : State) → ImprovesOr g P kinds (bookTables P own) r own′
-      → ImprovedRight g P (inMasks own) kinds r × OwnKept P (chosenStep (spelt own) r) own′
+      → ImprovedRight g P (inMasks own) kinds r × OwnKept P (chosenStep P (spelt own) r) own′
   unfolding ImprovesOr Chosen ImprovedRight chosenStep
   improve-at kinds own l w zero (improved.Made m b a n) own′ x =
       (best-made kinds own l m b a n own′ x, rw (x .tables-are) (made-kept m own (x .candidate .is-legal) l w))
@@ -212,10 +212,10 @@ module _ (P : Plan) (facts : PlanFacts P) where
 
   -- Improve, over the plan's own parts, for every answer that is allowed.
   pub improve-own : (kinds g : ℕ) (b : Book) (own : State) → OwnKept P b own → (r : Improved) (own′ : State)
-      → ImprovesOr g P kinds own r own′ → ImprovedRight g P (b .sets) kinds r × OwnKept P (chosenStep b r) own′
+      → ImprovesOr g P kinds own r own′ → ImprovedRight g P (b .sets) kinds r × OwnKept P (chosenStep P b r) own′
   improve-own kinds g b own o r own′ =
       of-book b own
-      (λ j s. ImprovesOr g P kinds s r own′ → ImprovedRight g P (j .sets) kinds r × OwnKept P (chosenStep j r) own′)
+      (λ j s. ImprovesOr g P kinds s r own′ → ImprovedRight g P (j .sets) kinds r × OwnKept P (chosenStep P j r) own′)
       o (improve-at kinds (own .masks) (o .enough) (o .within) g r own′)
 
 -- What stands before and after each call of a list: masks and cells are the book's, and no mask has a port of u or more.
@@ -309,7 +309,7 @@ module _ (P : Plan) (facts : PlanFacts P) (b : Book) (tail-masks tail-cells : Li
 
   improve-step : (kinds : ℕ) (scratch : List ℕ) (r : Improved) → Improves (sound P) kinds s (length scratch) r s′
       → ImprovedRight (refusal (scratchGround P scratch ∷ (14, not (kindsKnown kinds)) ∷ [])) P (b .sets) kinds r
-      × Holds P (chosenStep b r) tail-masks tail-cells s′
+      × Holds P (chosenStep P b r) tail-masks tail-cells s′
   unfolding Improves ImprovesPlan improveGrounds
   improve-step kinds scratch r x =
       let own = ownTables P s in
@@ -319,7 +319,7 @@ module _ (P : Plan) (facts : PlanFacts P) (b : Book) (tail-masks tail-cells : Li
       let q = improve-own P facts kinds (refusal (scratchGround P scratch ∷ gs)) b own (holds-own P b tail-masks tail-cells s h) r (x .own)
       (subst (λ (i : ℕ). ImprovesOr i P kinds own r (x .own)) g (x .improves)) in (
         q .0,
-        own-holds P (chosenStep b r) tail-masks tail-cells s′ (x .own) (q .1)
+        own-holds P (chosenStep P b r) tail-masks tail-cells s′ (x .own) (q .1)
             (x .tables-are ∙ rest-is P b tail-masks tail-cells s h (x .own)),
       )
 

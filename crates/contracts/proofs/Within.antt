@@ -11,7 +11,7 @@ use borrow.Author.Tests.{lt-ltb, ne-eqb}
 use Rattle.logic.specs.declared.Move.{Move}
 use Rattle.logic.specs.Formula.{Plan}
 use Rattle.logic.specs.Configuration.{Sets, inMask, inMasks, ownMasks, withinPorts, leave, allWithin}
-use Rattle.logic.specs.Moves.{MoveKind, add, drop, transfer, swap, unknown, moveKind, known, legal, kindMasks, moveMasks, Pair, movePairs, flip, flips}
+use Rattle.logic.specs.Moves.{MoveKind, add, drop, transfer, swap, unknown, moveKind, known, legal, kindMasks, namedMasks, moveMasks, Pair, movePairs, flip, flips}
 use Rattle.logic.proofs.Lists.{and-left, and-right, and-true, and-false}
 use Rattle.logic.proofs.Touched.{PortsBelow}
 use Rattle.logic.proofs.Masks.{within-ports}
@@ -51,12 +51,12 @@ flips-none u [] k h H = H
 flips-none u (q ∷ qs) k h H = flips-none u qs (flip q k) (h .1) (flip-none u q k (h .0) H)
 
 pub move-within : (P : Plan) (m : Move) (own : List ℕ) → legal P (inMasks own) m ≡ true → ownMasks P ≤ length own
-    → allWithin (P .ports) own ≡ true → allWithin (P .ports) (moveMasks m own) ≡ true
+    → allWithin (P .ports) own ≡ true → allWithin (P .ports) (moveMasks P m own) ≡ true
 unfolding legal
 move-within P m own h l w =
-    none-within (P .ports) (moveMasks m own)
+    none-within (P .ports) (moveMasks P m own)
     (rw (move-masks P m own h l)
-    (flips-none (P .ports) (movePairs m) (inMasks own) (known-ports P (movePairs m) (known-pairs P m (and-left (known P m) _ h)))
+    (flips-none (P .ports) (movePairs P (inMasks own) m) (inMasks own) (known-ports P (movePairs P (inMasks own) m) (known-pairs P (inMasks own) m (and-left (known P m) _ h)))
     (within-none (P .ports) own w)))
 
 -- a move keeps the length of the mask table
@@ -69,6 +69,10 @@ kind-length transfer m ms =
 kind-length swap m ms = length-set {A = ℕ} ms (m .s) _
 kind-length unknown m ms = refl
 
-pub move-length : (m : Move) (ms : List ℕ) → length (moveMasks m ms) ≡ length ms
+pub named-length : (m : Move) (ms : List ℕ) → length (namedMasks m ms) ≡ length ms
+unfolding namedMasks
+named-length m ms = kind-length (moveKind (m .kind)) m ms
+
+pub move-length : (P : Plan) (m : Move) (ms : List ℕ) → length (moveMasks P m ms) ≡ length ms
 unfolding moveMasks
-move-length m ms = kind-length (moveKind (m .kind)) m ms
+move-length P m ms = named-length m ms

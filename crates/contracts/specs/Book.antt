@@ -26,22 +26,22 @@ pub data Fed : Type 0 where
   fedImprove : ℕ → Improved → Fed
 
 -- "in each pair (set, port) that the move changes the port enters the set if it was out, and leaves it if it was in"
-unfoldable pub bookMade : Move → Sets → Sets
-bookMade m k = flips (movePairs m) k
+unfoldable pub bookMade : Plan → Move → Sets → Sets
+bookMade P m k = flips (movePairs P k m) k
 
-unfoldable pub movedBook : Move → Book → Book
-movedBook m b = record { sets = bookMade m (b .sets) }
+unfoldable pub movedBook : Plan → Move → Book → Book
+movedBook P m b = record { sets = bookMade P m (b .sets) }
 
 -- "If improve answers a move, that move's pairs change likewise. Any other answer of improve changes nothing."
-unfoldable pub chosenStep : Book → Improved → Book
-chosenStep b (Made chosen before after changed) = movedBook chosen b
-chosenStep b (NoBetter root) = b
-chosenStep b (Refused number) = b
+unfoldable pub chosenStep : Plan → Book → Improved → Book
+chosenStep P b (Made chosen before after changed) = movedBook P chosen b
+chosenStep P b (NoBetter root) = b
+chosenStep P b (Refused number) = b
 
 -- "A move that meets a ground for refusal, the book's sets taken as the masks, changes nothing. For any other add, drop, transfer or
 -- swap" its pairs change. "Trial changes nothing."
 -- Of the grounds only 14 and 15 look at a move and at the sets: the others are of the tables, which the load accepted.
 unfoldable pub bookStep : Plan → Book → Fed → Book
-bookStep P b (fedMove m) = cond (eqb (refusal (moveGrounds P (b .sets) m)) 0) (movedBook m b) b
+bookStep P b (fedMove m) = cond (eqb (refusal (moveGrounds P (b .sets) m)) 0) (movedBook P m b) b
 bookStep P b (fedTrial m) = b
-bookStep P b (fedImprove kinds answer) = chosenStep b answer
+bookStep P b (fedImprove kinds answer) = chosenStep P b answer

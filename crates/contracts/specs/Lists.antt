@@ -62,9 +62,9 @@ bookCells P k = planCells P (configuration P k)
 -- changed if its own penalties under these two configurations differ"; and no more cells change than the move touches.
 pub record NumbersRight (P : Plan) (k : Sets) (m : Move) (before after changed : ℕ) : Type 0 where
   pub before-right : before ≡ bookRoot P k
-  pub after-right : after ≡ bookRoot P (bookMade m k)
-  pub changed-right : changed ≡ differing (bookCells P k) (bookCells P (bookMade m k))
-  pub changed-touched : changed ≤ touchedCount P (pairsChange (movePairs m))
+  pub after-right : after ≡ bookRoot P (bookMade P m k)
+  pub changed-right : changed ≡ differing (bookCells P k) (bookCells P (bookMade P m k))
+  pub changed-touched : changed ≤ touchedCount P (pairsChange (movePairs P k m))
 
 -- A move or a trial that meets a ground answers its number; any other is accepted with right numbers.
 unfoldable pub MovedRight : ℕ → Plan → Sets → Move → Moved → Type 0
@@ -81,12 +81,12 @@ scratchGround P scratch = (12, ltb (length scratch) (ownCells P))
 pub record BestMade (P : Plan) (k : Sets) (kinds : ℕ) (m : Move) (before after changed : ℕ) : Type 0 where
   pub of-kinds : ofKinds kinds m ≡ true
   pub is-legal : legal P k m ≡ true
-  pub lowers : bookRoot P (bookMade m k) < bookRoot P k
-  pub least : (m′ : Move) → ofKinds kinds m′ ≡ true → legal P k m′ ≡ true → bookRoot P (bookMade m k) ≤ bookRoot P (bookMade m′ k)
+  pub lowers : bookRoot P (bookMade P m k) < bookRoot P k
+  pub least : (m′ : Move) → ofKinds kinds m′ ≡ true → legal P k m′ ≡ true → bookRoot P (bookMade P m k) ≤ bookRoot P (bookMade P m′ k)
   pub numbers : NumbersRight P k m before after changed
 
 pub record NoneLowers (P : Plan) (k : Sets) (kinds : ℕ) (root : ℕ) : Type 0 where
-  pub none : (m : Move) → ofKinds kinds m ≡ true → legal P k m ≡ true → bookRoot P k ≤ bookRoot P (bookMade m k)
+  pub none : (m : Move) → ofKinds kinds m ≡ true → legal P k m ≡ true → bookRoot P k ≤ bookRoot P (bookMade P m k)
   pub root-right : root ≡ bookRoot P k
 
 unfoldable pub ImprovedRight : ℕ → Plan → Sets → ℕ → Improved → Type 0

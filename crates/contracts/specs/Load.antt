@@ -1,14 +1,15 @@
 -- Load: "Load checks the tables and fills every cell. It returns root and cell total." (paper 01, sections Penalty and Grounds)
 use mathlib.Core.Bool.{not, _||_}
-use mathlib.Core.List.{List, [], _∷_, _++_}
+use mathlib.Core.List.{List, [], _∷_}
 use Prim.Native.Nat.{ℕ, zero, suc}
 use lib.Dec.{ltb}
-use lib.ListN.{length, take, drop}
+use lib.ListN.{length, take}
 use Rattle.logic.specs.Formula.{Plan}
 use Rattle.logic.specs.Configuration.{ownMasks, spelled, allWithin}
-use Rattle.logic.specs.Cells.{ownCells, cells, rootPenalty}
+use Rattle.logic.specs.Cells.{ownCells, cells as planCells, rootPenalty}
 use Rattle.logic.specs.Moves.{Ground, refusal}
 use Rattle.table_format.specs.Decode.{Decoded, broken, sound}
+use Rattle.contracts.specs.State.{State, ownTables, withRest}
 use Rattle.contracts.specs.declared.Loaded.{Loaded}
 use Rattle.contracts.specs.declared.Loaded.the-variants.{Accepted, Refused}
 
@@ -30,17 +31,25 @@ unfoldable pub loadGrounds : Plan → List ℕ → ℕ → ℕ → List Ground
 loadGrounds P own masks-length cells-length =
     (12, ltb masks-length (ownMasks P) || ltb cells-length (ownCells P)) ∷ (13, not (allWithin (P .ports) own)) ∷ []
 
--- The answer and the plan's own cells afterwards, where the first ground that applies is given, 0 for none.
-unfoldable pub loadOr : ℕ → Plan → List ℕ → List ℕ → Loaded × List ℕ
-loadOr zero P own before = (Accepted (rootPenalty P (spelled P own)) (ownCells P), cells P (spelled P own))
-loadOr (suc g) P own before = (Refused (suc g), before)
+-- The plan's own masks after an accepted load: as they were.
+unfoldable pub loadedMasks : Plan → List ℕ → List ℕ
+loadedMasks P own = own
 
-unfoldable pub loadPlan : Plan → List ℕ → ℕ → ℕ → List ℕ → Loaded × List ℕ
-loadPlan P own masks-length cells-length before = loadOr (refusal (loadGrounds P own masks-length cells-length)) P own before
+-- "fills every cell": the plan's own tables after an accepted load.
+unfoldable pub loadedTables : Plan → State → State
+loadedTables P own = record { masks = loadedMasks P (own .masks); cells = planCells P (spelled P (loadedMasks P (own .masks))) }
 
--- Load as a function of the tables: the answer, and every cell afterwards.
-unfoldable pub loads : Decoded → List ℕ → List ℕ → Loaded × List ℕ
-loads broken masks before = (Refused 11, before)
-loads (sound P) masks before =
-    let r = loadPlan P (take (ownMasks P) masks) (length masks) (length before) (take (ownCells P) before) in
-    (r .0, r .1 ++ drop (ownCells P) before)
+-- The answer and the plan's own tables afterwards, where the first ground that applies is given, 0 for none.
+unfoldable pub loadOr : ℕ → Plan → State → Loaded × State
+loadOr zero P own = (Accepted (rootPenalty P (spelled P (loadedMasks P (own .masks)))) (ownCells P), loadedTables P own)
+loadOr (suc g) P own = (Refused (suc g), own)
+
+unfoldable pub loadPlan : Plan → State → Loaded × State
+loadPlan P s = loadOr (refusal (loadGrounds P (take (ownMasks P) (s .masks)) (length (s .masks)) (length (s .cells)))) P (ownTables P s)
+
+-- Load as a function of the tables: the answer, every mask and every cell afterwards.
+unfoldable pub loads : Decoded → State → Loaded × State
+loads broken s = (Refused 11, s)
+loads (sound P) s =
+    let r = loadPlan P s in
+    (r .0, withRest P (r .1) s)

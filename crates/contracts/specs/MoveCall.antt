@@ -44,7 +44,7 @@ moveCallGrounds P own masks-length lengths m = tableGrounds P own masks-length l
 
 -- "An accepted move writes its masks and touched cells": the plan's own cells afterwards, from its own masks and cells before.
 unfoldable pub cellsAfter : Plan → Move → List ℕ → List ℕ → List ℕ
-cellsAfter P m own before = newCells P (spelled P (moveMasks m own)) (pairsChange (movePairs m)) before
+cellsAfter P m own before = newCells P (spelled P (moveMasks P m own)) (pairsChange (movePairs P (inMasks own) m)) before
 
 -- "and returns root before, root after, and how many cells differ from before".
 unfoldable pub moveAnswer : Plan → Move → List ℕ → List ℕ → Moved
@@ -52,7 +52,7 @@ moveAnswer P m own before = Accepted (getD before 0 0) (getD (cellsAfter P m own
 
 -- "An accepted move writes its masks and touched cells": the plan's own tables afterwards.
 unfoldable pub tablesAfter : Plan → Move → State → State
-tablesAfter P m own = record { masks = moveMasks m (own .masks); cells = cellsAfter P m (own .masks) (own .cells) }
+tablesAfter P m own = record { masks = moveMasks P m (own .masks); cells = cellsAfter P m (own .masks) (own .cells) }
 
 -- The answer and the plan's own tables afterwards, where the first ground that applies is given, 0 for none.
 unfoldable pub moveOr : ℕ → Plan → Move → State → Moved × State

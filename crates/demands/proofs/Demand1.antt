@@ -5,9 +5,8 @@
 use mathlib.Core.Path.{_≡_, refl, sym, ap, _∙_, subst}
 use mathlib.Core.List.{List}
 use Prim.Native.Nat.{ℕ}
-use lib.ListN.{drop, take, length}
+use lib.ListN.{drop, length}
 use Rattle.logic.specs.Formula.{Plan}
-use Rattle.logic.specs.Configuration.{ownMasks}
 use Rattle.logic.specs.Cells.{ownCells}
 use Rattle.logic.specs.declared.Move.{Move}
 use Rattle.table_format.specs.Decode.{Decoded, broken, sound, decode, ownBytes}
@@ -27,25 +26,23 @@ use Rattle.contracts.proofs.LoadParts.{load-sound}
 use Rattle.contracts.proofs.OwnParts.{move-sound, trial-sound, same-back, improve-any}
 
 -- Two loads whose tables agree on the plan's own bytes, masks and cells, and on being long enough for them, have the same answer and
--- leave the same own cells.
-pub load-own-parts : (l l′ masks masks′ xs xs′ : List ℕ) → SameFirst (ownBytes l) l l′
-    → ((P : Plan) → decode l ≡ sound P → SameFirst (ownMasks P) masks masks′ × SameFirst (ownCells P) xs xs′)
-    → (loads (decode l) masks xs .0 ≡ loads (decode l′) masks′ xs′ .0)
-    × ((P : Plan) → decode l ≡ sound P → take (ownCells P) (loads (decode l) masks xs .1) ≡ take (ownCells P) (loads (decode l′) masks′ xs′ .1))
+-- leave the same own masks and cells.
+pub load-own-parts : (l l′ : List ℕ) (s s′ : State) → SameFirst (ownBytes l) l l′ → ((P : Plan) → decode l ≡ sound P → SameTables P s s′)
+    → (loads (decode l) s .0 ≡ loads (decode l′) s′ .0)
+    × ((P : Plan) → decode l ≡ sound P → ownTables P (loads (decode l) s .1) ≡ ownTables P (loads (decode l′) s′ .1))
 unfolding loads
-load-own-parts l l′ masks masks′ xs xs′ b same = (
-  go (decode l) refl ∙ ap (λ (d : Decoded). loads d masks′ xs′ .0) agree,
-  λ P e. ap (λ (d : Decoded). take (ownCells P) (loads d masks xs .1)) e
-      ∙ load-sound P masks masks′ xs xs′ (same P e .0) (same P e .1) .1
-      ∙ ap (λ (d : Decoded). take (ownCells P) (loads d masks′ xs′ .1)) (sym e ∙ agree),
+load-own-parts l l′ s s′ b same = (
+  go (decode l) refl ∙ ap (λ (d : Decoded). loads d s′ .0) agree,
+  λ P e. ap (λ (d : Decoded). ownTables P (loads d s .1)) e ∙ load-sound P s s′ (same P e) .1
+      ∙ ap (λ (d : Decoded). ownTables P (loads d s′ .1)) (sym e ∙ agree),
 )
   where
     agree : decode l ≡ decode l′
     agree = own-agree l l′ (b .entries) (b .enough)
 
-    go : (d : Decoded) → decode l ≡ d → loads d masks xs .0 ≡ loads d masks′ xs′ .0
+    go : (d : Decoded) → decode l ≡ d → loads d s .0 ≡ loads d s′ .0
     go broken e = refl
-    go (sound P) e = load-sound P masks masks′ xs xs′ (same P e .0) (same P e .1) .0
+    go (sound P) e = load-sound P s s′ (same P e) .0
 
 -- The same of a node's cells.
 pub node-own-parts : (l l′ xs xs′ : List ℕ) (node : ℕ) → SameFirst (ownBytes l) l l′ → ((P : Plan) → decode l ≡ sound P → SameFirst (ownCells P) xs xs′)

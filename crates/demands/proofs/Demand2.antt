@@ -21,6 +21,7 @@ use Rattle.text_core.specs.Meaning.{TreeTrue}
 use Rattle.text_core.proofs.SameTruth.{plan-true}
 use Rattle.table_format.specs.Decode.{Decoded, sound}
 use Rattle.contracts.specs.declared.Answer.{Answer}
+use Rattle.contracts.specs.State.{tables, ownTables}
 use Rattle.contracts.specs.Load.{loadNumber, loadRoot, loadTotal, loadGrounds, loadOr, loadPlan, loads}
 use Rattle.contracts.proofs.LoadAnswers.{load-zero}
 use Rattle.demands.specs.ReadThenLoad.{answer, loaded}
@@ -37,11 +38,11 @@ module _ (P : Plan) (masks cells : List ℕ) where
   abbrev ground : ℕ
   ground = refusal (loadGrounds P (take (ownMasks P) masks) (length masks) (length cells))
 
-  number-is : loadNumber (loads (sound P) masks cells .0) ≡ ground
+  number-is : loadNumber (loads (sound P) (tables masks cells) .0) ≡ ground
   unfolding loads loadPlan loadNumber loadOr
   number-is = go ground
     where
-      go : (g : ℕ) → loadNumber (loadOr g P (take (ownMasks P) masks) (take (ownCells P) cells) .0) ≡ g
+      go : (g : ℕ) → loadNumber (loadOr g P (ownTables P (tables masks cells)) .0) ≡ g
       go zero = refl
       go (suc g) = refl
 
@@ -54,9 +55,9 @@ module _ (P : Plan) (masks cells : List ℕ) where
       go false true q = omega arith
       go false false q = omega arith
 
-  total-is : ground ≡ 0 → loadTotal (loads (sound P) masks cells .0) ≡ ownCells P
+  total-is : ground ≡ 0 → loadTotal (loads (sound P) (tables masks cells) .0) ≡ ownCells P
   unfolding loads loadPlan loadOr loadTotal
-  total-is e = ap (λ (x : ℕ). loadTotal (loadOr x P (take (ownMasks P) masks) (take (ownCells P) cells) .0)) e
+  total-is e = ap (λ (x : ℕ). loadTotal (loadOr x P (ownTables P (tables masks cells)) .0)) e
 
 module _ (u : ℕ) (s before : List ℕ) (accepted : readNumber (answer u s before) ≡ 0) (masks cells : List ℕ) where
   admitted : Admitted u s (length before)
@@ -66,9 +67,9 @@ module _ (u : ℕ) (s before : List ℕ) (accepted : readNumber (answer u s befo
   plan : Plan
   plan = admittedPlan admitted
 
-  loads-plan : loaded u s before masks cells ≡ loads (sound plan) masks cells .0
+  loads-plan : loaded u s before masks cells ≡ loads (sound plan) (tables masks cells) .0
   unfolding loaded plan
-  loads-plan = ap (λ (d : Decoded). loads d masks cells .0) (read-decodes u s before admitted)
+  loads-plan = ap (λ (d : Decoded). loads d (tables masks cells) .0) (read-decodes u s before admitted)
 
   -- The table of an accepted reading never meets ground 11.
   pub never-11 : loadNumber (loaded u s before masks cells) ≡ 11 → ⊥
@@ -106,5 +107,5 @@ module _ (u : ℕ) (s before : List ℕ) (accepted : readNumber (answer u s befo
   pub zero-when-true : loadNumber (loaded u s before masks cells) ≡ 0 → loadRoot (loaded u s before masks cells) ≡ 0 ↔ TextTrue u masks s
   zero-when-true e =
       let z = load-zero masks cells plan nonempty (no-ground e) in
-      let r : loadRoot (loaded u s before masks cells) ≡ loadRoot (loads (sound plan) masks cells .0) = ap loadRoot loads-plan in
+      let r : loadRoot (loaded u s before masks cells) ≡ loadRoot (loads (sound plan) (tables masks cells) .0) = ap loadRoot loads-plan in
       ((λ h. text-true .0 (z .0 (sym r ∙ h))), (λ t. r ∙ z .1 (text-true .1 t)))

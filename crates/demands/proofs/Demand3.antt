@@ -17,7 +17,7 @@ use Rattle.table_format.specs.Decode.{Decoded, sound, decode}
 use Rattle.contracts.specs.declared.Loaded.the-variants.{Accepted}
 use Rattle.contracts.specs.Load.{loads}
 use Rattle.contracts.specs.declared.Improved.{Improved}
-use Rattle.contracts.specs.State.{State, tables}
+use Rattle.contracts.specs.State.{State}
 use Rattle.contracts.specs.Book.{firstBook, bookMade}
 use Rattle.contracts.specs.Lists.{Exchange, Run, bookAfter, bookRoot, ImprovedRight, AllRight, Kept}
 use Rattle.contracts.proofs.Lists.{load-holds, run-right}
@@ -26,14 +26,14 @@ use Rattle.contracts.specs.declared.Improved.the-variants as improved
 -- Demand 3. From the tables as an accepted load leaves them, for every list of calls and all answers that the calls' contracts
 -- allow: each answer is right under the book's sets before its call; afterwards the masks are the book's sets, each cell is
 -- Definition 5's penalty under them, and what is past the plan's own is as it was.
-pub lists-right : (bytes masks before cells : List ℕ) (root total : ℕ) → loads (decode bytes) masks before ≡ (Accepted root total, cells)
-    → (P : Plan) → decode bytes ≡ sound P → (xs : List Exchange) (s : State) → Run bytes (tables masks cells) xs s
-    → AllRight P (firstBook P (tables masks cells)) xs
-    × Kept P (bookAfter P (firstBook P (tables masks cells)) xs) (drop (ownMasks P) masks) (drop (ownCells P) before) s
-lists-right bytes masks before cells root total h P d xs s r =
-    let l = sym (ap (λ (x : Decoded). loads x masks before) d) ∙ h in
-    let q = run-right bytes P d (firstBook P (tables masks cells)) (drop (ownMasks P) masks) (drop (ownCells P) before)
-    (tables masks cells) xs s (load-holds P masks before cells root total l) r in
+pub lists-right : (bytes : List ℕ) (before loaded : State) (root total : ℕ) → loads (decode bytes) before ≡ (Accepted root total, loaded)
+    → (P : Plan) → decode bytes ≡ sound P → (xs : List Exchange) (s : State) → Run bytes loaded xs s
+    → AllRight P (firstBook P loaded) xs
+    × Kept P (bookAfter P (firstBook P loaded) xs) (drop (ownMasks P) (before .masks)) (drop (ownCells P) (before .cells)) s
+lists-right bytes before loaded root total h P d xs s r =
+    let l = sym (ap (λ (x : Decoded). loads x before) d) ∙ h in
+    let q = run-right bytes P d (firstBook P loaded) (drop (ownMasks P) (before .masks)) (drop (ownCells P) (before .cells))
+    loaded xs s (load-holds P before loaded root total l) r in
     (q .0, q .1 .kept)
 
 isNoBetter : Improved → Type 0
@@ -43,7 +43,7 @@ isNoBetter (improved.Refused number) = ⊥
 
 -- An accepted improve that is right answers "no better move" exactly when no legal move of its kinds lowers the root.
 pub no-better-exactly : (P : Plan) (k : Sets) (kinds : ℕ) (r : Improved) → ImprovedRight 0 P k kinds r
-    → ((root : ℕ) × (r ≡ improved.NoBetter root)) ↔ ((m : Move) → ofKinds kinds m ≡ true → legal P k m ≡ true → bookRoot P k ≤ bookRoot P (bookMade m k))
+    → ((root : ℕ) × (r ≡ improved.NoBetter root)) ↔ ((m : Move) → ofKinds kinds m ≡ true → legal P k m ≡ true → bookRoot P k ≤ bookRoot P (bookMade P m k))
 unfolding ImprovedRight isNoBetter
 no-better-exactly P k kinds (improved.Made m b a n) x = (
   (λ e. absurd (subst isNoBetter (sym (e .1)) tt)),
@@ -54,10 +54,10 @@ no-better-exactly P k kinds (improved.Refused number) x = absurd x
 
 -- After an accepted load every answer that `work` writes is right under the book's sets before its call, and it leaves the masks
 -- as the book's sets and each cell as Definition 5's penalty under them, with what is past the plan's own as it was.
-pub work-right : (bytes masks before cells : List ℕ) (root total : ℕ) → loads (decode bytes) masks before ≡ (Accepted root total, cells)
+pub work-right : (bytes : List ℕ) (before loaded : State) (root total : ℕ) → loads (decode bytes) before ≡ (Accepted root total, loaded)
     → (P : Plan) → decode bytes ≡ sound P → (calls scratch answers : List ℕ) (count : ℕ) (s : State) (scratch′ answers′ : List ℕ)
-    → (w : Worked bytes calls (tables masks cells) scratch answers count s scratch′ answers′)
-    → AllRight P (firstBook P (tables masks cells)) (w .exchanges)
-    × Kept P (bookAfter P (firstBook P (tables masks cells)) (w .exchanges)) (drop (ownMasks P) masks) (drop (ownCells P) before) s
-work-right bytes masks before cells root total h P d calls scratch answers count s scratch′ answers′ w =
-    lists-right bytes masks before cells root total h P d (w .exchanges) s (w .run)
+    → (w : Worked bytes calls loaded scratch answers count s scratch′ answers′)
+    → AllRight P (firstBook P loaded) (w .exchanges)
+    × Kept P (bookAfter P (firstBook P loaded) (w .exchanges)) (drop (ownMasks P) (before .masks)) (drop (ownCells P) (before .cells)) s
+work-right bytes before loaded root total h P d calls scratch answers count s scratch′ answers′ w =
+    lists-right bytes before loaded root total h P d (w .exchanges) s (w .run)

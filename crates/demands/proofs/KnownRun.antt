@@ -12,7 +12,7 @@ use Rattle.logic.specs.Configuration.{indicator, portsIn, configuration, config
 use Rattle.logic.specs.Truth.{portOf}
 use Rattle.logic.specs.Penalty.{compare, sizePenalty, literalPenalty, sum, least, copy, combine, eachPort, below, penalties, penalty}
 use Rattle.logic.specs.Cells.{cellCount, placeOf, tupleAt, tabulate, siblingFirst, layout, ownCells, cells, rootPenalty}
-use Rattle.logic.specs.Moves.{moveKind, fieldsKnown, fieldsFit, known, fits, legal, refusal, moveGrounds, kindMasks, moveMasks, Pair, kindPairs, movePairs, kindWeight, kindsKnown, ofKinds}
+use Rattle.logic.specs.Moves.{moveKind, fieldsKnown, fieldsFit, known, fits, legal, refusal, moveGrounds, kindMasks, namedMasks, moveMasks, Pair, kindPairs, namedPairs, movePairs, kindWeight, kindsKnown, ofKinds}
 use Rattle.logic.specs.Change.{someOf, pairsChange, memberHit, hit, nodeHit, forestHit, touched, modulus, differences, newNumbers, renew, cellOf, renewals, newCell, newCells, differing}
 use Rattle.logic.specs.Known.{literal, over, plan, planA, move}
 use Rattle.table_format.specs.Bytes.{encoding}
@@ -21,7 +21,7 @@ use Rattle.table_format.specs.Decode.{Decoded, sound, decode}
 use Rattle.table_format.proofs.Encoding.{decode-complete}
 use Rattle.contracts.specs.State.{State, tables, ownTables, withRest}
 use Rattle.contracts.specs.Book.{firstBook}
-use Rattle.contracts.specs.Load.{loadGrounds, loadOr, loadPlan, loads}
+use Rattle.contracts.specs.Load.{loadGrounds, loadedMasks, loadedTables, loadOr, loadPlan, loads}
 use Rattle.contracts.specs.declared.Moved.{Moved}
 use Rattle.contracts.specs.declared.Improved.{Improved}
 use Rattle.contracts.specs.MoveCall.{tableGrounds, moveCallGrounds, cellsAfter, moveAnswer, tablesAfter, moveOr, movePlan, moves}
@@ -35,7 +35,7 @@ use Rattle.contracts.specs.declared.Improved.the-variants as improved
 
 -- what computes here
 computing : Unit {0}
-unfolding kindNumber nodeCount childDepth indicator portsIn configuration configured inMask inMasks ownMasks spelled withinPorts enter leave portOf compare sizePenalty literalPenalty sum least copy combine eachPort below penalties penalty cellCount placeOf tupleAt tabulate siblingFirst layout ownCells cells rootPenalty moveKind fieldsKnown fieldsFit known fits legal refusal moveGrounds kindMasks moveMasks kindPairs movePairs kindWeight kindsKnown ofKinds someOf pairsChange memberHit hit nodeHit forestHit touched modulus differences newNumbers renew cellOf renewals newCell newCells differing literal over plan planA move everyNode treeCount arityRule mayNest nestingRule depthRule literalRule innerRule nodeRule formulaRule mostCells planRule allWithin loadGrounds loadOr loadPlan loads tableGrounds moveCallGrounds cellsAfter moveAnswer moveOr movePlan moves trialOr trialPlan trials improveGrounds rootNow rootAfter Chosen ImprovesOr ImprovesPlan Improves Step ownTables withRest tablesAfter
+unfolding kindNumber nodeCount childDepth indicator portsIn configuration configured inMask inMasks ownMasks spelled withinPorts enter leave portOf compare sizePenalty literalPenalty sum least copy combine eachPort below penalties penalty cellCount placeOf tupleAt tabulate siblingFirst layout ownCells cells rootPenalty moveKind fieldsKnown fieldsFit known fits legal refusal moveGrounds kindMasks namedMasks moveMasks kindPairs namedPairs movePairs kindWeight kindsKnown ofKinds someOf pairsChange memberHit hit nodeHit forestHit touched modulus differences newNumbers renew cellOf renewals newCell newCells differing literal over plan planA move everyNode treeCount arityRule mayNest nestingRule depthRule literalRule innerRule nodeRule formulaRule mostCells planRule allWithin loadGrounds loadedMasks loadedTables loadOr loadPlan loads tableGrounds moveCallGrounds cellsAfter moveAnswer moveOr movePlan moves trialOr trialPlan trials improveGrounds rootNow rootAfter Chosen ImprovesOr ImprovesPlan Improves Step ownTables withRest tablesAfter
 computing = tt
 
 -- plan A's cells under its masks, and after each of four moves
@@ -106,11 +106,14 @@ known-tables = (refl, refl, refl)
 abbrev pairs : List Pair → List Pair
 pairs qs = qs
 
+abbrev pairs-A : Move → List Pair
+pairs-A m = movePairs planA (inMasks (3 ∷ 7 ∷ 1 ∷ [])) m
+
 -- "one for add and drop, two for the others"
-pub known-pairs-changed : (movePairs (move 1 2 0 5 0) ≡ pairs ((2, 5) ∷ []))
-    × (movePairs (move 2 2 0 5 0) ≡ pairs ((2, 5) ∷ []))
-    × (movePairs (move 3 2 1 5 0) ≡ pairs ((2, 5) ∷ (1, 5) ∷ []))
-    × (movePairs (move 4 2 0 5 6) ≡ pairs ((2, 5) ∷ (2, 6) ∷ []))
+pub known-pairs-changed : (pairs-A (move 1 2 0 5 0) ≡ pairs ((2, 5) ∷ []))
+    × (pairs-A (move 2 2 0 5 0) ≡ pairs ((2, 5) ∷ []))
+    × (pairs-A (move 3 2 1 5 0) ≡ pairs ((2, 5) ∷ (1, 5) ∷ []))
+    × (pairs-A (move 4 2 0 5 6) ≡ pairs ((2, 5) ∷ (2, 6) ∷ []))
 unfolding computing
 known-pairs-changed = (refl, refl, refl, refl)
 
@@ -144,9 +147,12 @@ pub decode-A : decode bytesA ≡ sound planA
 decode-A = decode-complete bytesA planA record { rest = 99 ∷ []; is = refl; rules = rules-A }
 
 -- "Plan A prints `penalty 1 cells 34`". The cells held other numbers before.
-pub known-load : loads (decode bytesA) (masksWith 3 7 1) (lent (replicate 34 4294967295)) ≡ (loaded.Accepted 1 34, lent cellsA)
+abbrev unloaded : State
+unloaded = tables (masksWith 3 7 1) (lent (replicate 34 4294967295))
+
+pub known-load : loads (decode bytesA) unloaded ≡ (loaded.Accepted 1 34, tables (masksWith 3 7 1) (lent cellsA))
 unfolding computing
-known-load = ap (λ (d : Decoded). loads d (masksWith 3 7 1) (lent (replicate 34 4294967295))) decode-A
+known-load = ap (λ (d : Decoded). loads d unloaded) decode-A
 
 abbrev state : List ℕ → List ℕ → State
 state masks own = tables masks (lent own)
@@ -251,5 +257,5 @@ pub known-list-right : AllRight planA (firstBook planA stateA) knownExchanges
     × Kept planA (bookAfter planA (firstBook planA stateA) knownExchanges) (255 ∷ []) (77 ∷ []) stateDrop
 unfolding ownMasks ownCells cellCount childDepth planA plan over literal
 known-list-right =
-    lists-right bytesA (masksWith 3 7 1) (lent (replicate 34 4294967295)) (lent cellsA) 1 34 known-load planA decode-A
+    lists-right bytesA unloaded stateA 1 34 known-load planA decode-A
     knownExchanges stateDrop known-run

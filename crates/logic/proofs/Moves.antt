@@ -15,7 +15,7 @@ use Rattle.logic.specs.declared.Move.{Move}
 use Rattle.logic.specs.Formula.{Plan}
 use Rattle.logic.specs.inner.Flip.{flipPort}
 use Rattle.logic.specs.Configuration.{Sets, portsIn, configuration, configured, inMask, inMasks, ownMasks, spelled, enter, leave}
-use Rattle.logic.specs.Moves.{MoveKind, add, drop, transfer, swap, unknown, moveKind, fieldsKnown, fieldsFit, known, fits, legal, kindMasks, moveMasks, Pair, kindPairs, movePairs, flip, flips}
+use Rattle.logic.specs.Moves.{MoveKind, add, drop, transfer, swap, unknown, moveKind, fieldsKnown, fieldsFit, known, fits, legal, kindMasks, namedMasks, moveMasks, Pair, kindPairs, namedPairs, movePairs, flip, flips}
 use Rattle.logic.specs.Change.{someOf, pairsChange}
 use Rattle.logic.specs.inner.Agreement.{listed, AgreeOff}
 use Rattle.logic.proofs.Lists.{or-left, or-right, or-false, and-left, and-right, and-false}
@@ -97,9 +97,9 @@ kind-known swap P m h =
 kind-known unknown P m h = tt
 
 -- 14 does not apply: the move's pairs are of the plan's sets and ports
-pub known-pairs : (P : Plan) (m : Move) → known P m ≡ true → PairsKnown P (movePairs m)
-unfolding known movePairs
-known-pairs P m h = kind-known (moveKind (m .kind)) P m h
+pub known-pairs : (P : Plan) (k : Sets) (m : Move) → known P m ≡ true → PairsKnown P (movePairs P k m)
+unfolding known namedPairs movePairs
+known-pairs P k m h = kind-known (moveKind (m .kind)) P m h
 
 pub known-ports : (P : Plan) (qs : List Pair) → PairsKnown P qs → PortsBelow (P .ports) qs
 unfolding PairsKnown PortsBelow
@@ -129,13 +129,13 @@ kind-masks unknown P m ms h f l = refl
 
 -- The masks that a legal move leaves spell the configuration with the move's pairs flipped.
 pub move-masks : (P : Plan) (m : Move) (ms : List ℕ) → legal P (inMasks ms) m ≡ true → ownMasks P ≤ length ms
-    → inMasks (moveMasks m ms) ≡ flips (movePairs m) (inMasks ms)
-unfolding moveMasks movePairs legal known fits ownMasks
+    → inMasks (moveMasks P m ms) ≡ flips (movePairs P (inMasks ms) m) (inMasks ms)
+unfolding namedMasks moveMasks namedPairs movePairs legal known fits ownMasks
 move-masks P m ms h l =
     kind-masks (moveKind (m .kind)) P m ms (kind-known (moveKind (m .kind)) P m (and-left _ _ h)) (and-right (known P m) _ h) l
 
 pub move-spells : (P : Plan) (m : Move) (ms : List ℕ) → legal P (inMasks ms) m ≡ true → ownMasks P ≤ length ms
-    → spelled P (moveMasks m ms) ≡ configuration P (flips (movePairs m) (inMasks ms))
+    → spelled P (moveMasks P m ms) ≡ configuration P (flips (movePairs P (inMasks ms) m) (inMasks ms))
 unfolding spelled
 move-spells P m ms h l = ap (configuration P) (move-masks P m ms h l)
 

@@ -108,8 +108,8 @@ flips-true P u1 u64 low few k qs table h =
 
 pub move-true : (P : Plan) → 1 ≤ P .ports → P .ports ≤ 64 → ConstantsLow (P .formula) 0 → ownCells P ≤ 1048576
     → (m : Move) (ms : List ℕ) → legal P (inMasks ms) m ≡ true → ownMasks P ≤ length ms
-    → newCells P (spelled P (moveMasks m ms)) (pairsChange (movePairs m)) (cells P (spelled P ms)) ≡ cells P (spelled P (moveMasks m ms))
+    → newCells P (spelled P (moveMasks P m ms)) (pairsChange (movePairs P (inMasks ms) m)) (cells P (spelled P ms)) ≡ cells P (spelled P (moveMasks P m ms))
 unfolding spelled
 move-true P u1 u64 low few m ms h l =
     rw (move-spells P m ms h l)
-    (flips-true P u1 u64 low few (inMasks ms) (movePairs m) (cells P (configuration P (inMasks ms))) (stands-self _))
+    (flips-true P u1 u64 low few (inMasks ms) (movePairs P (inMasks ms) m) (cells P (configuration P (inMasks ms))) (stands-self _))

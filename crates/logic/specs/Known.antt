@@ -79,8 +79,8 @@ pub data Example : Type 0 where
   nodesAre : Plan → ℕ → Example
   -- a plan under masks has so many cells, and these
   cellsAre : Plan → List ℕ → ℕ → List ℕ → Example
-  -- a move touches so many of a plan's cells
-  touches : Plan → Move → ℕ → Example
+  -- under masks, a move touches so many of a plan's cells
+  touches : Plan → List ℕ → Move → ℕ → Example
   -- under masks and with cells as given, a move leaves these cells, with root before, root after and cells changed
   leaves : Plan → List ℕ → List ℕ → Move → List ℕ → ℕ → ℕ → ℕ → Example
   -- under masks, a move meets this ground, or 0
@@ -92,9 +92,9 @@ unfoldable pub holds : Example → Bool
 holds (rootIs P ms r) = eqb (rootPenalty P (spelled P ms)) r
 holds (nodesAre P m) = eqb (nodeCount (P .formula)) m
 holds (cellsAre P ms m xs) = eqb (ownCells P) m && same (cells P (spelled P ms)) xs
-holds (touches P m i) = eqb (touchedCount P (pairsChange (movePairs m))) i
+holds (touches P ms m i) = eqb (touchedCount P (pairsChange (movePairs P (inMasks ms) m))) i
 holds (leaves P ms old m new before after changed) =
-    let left = newCells P (spelled P (moveMasks m ms)) (pairsChange (movePairs m)) old in
+    let left = newCells P (spelled P (moveMasks P m ms)) (pairsChange (movePairs P (inMasks ms) m)) old in
     same left new && eqb (getD old 0 0) before && eqb (getD left 0 0) after && eqb (differing old left) changed
 holds (meets P ms m i) = eqb (refusal (moveGrounds P (inMasks ms) m)) i
 holds (kinds i b a d t s) =
@@ -113,7 +113,7 @@ starred =
     ∷ cellsAre planA masksA 34
     (1 ∷ 1 ∷ 1 ∷ 0 ∷ 1 ∷ 0 ∷ 0 ∷ 0 ∷ 0 ∷ 1 ∷ 0 ∷ 0 ∷ 0 ∷ 0 ∷ 1 ∷ 0 ∷ 0 ∷ 1 ∷ 0 ∷ 0 ∷ 0 ∷ 0 ∷ 1 ∷ 0 ∷ 0 ∷ 1 ∷ 1 ∷ 1 ∷ 1 ∷ 0 ∷ 1 ∷ 1 ∷ 1 ∷ 0 ∷ [])
     ∷ leaves planA masksA (cells planA (spelled planA masksA)) (move 2 1 0 1 0) (cells planA (spelled planA (3 ∷ 5 ∷ 1 ∷ []))) 1 0 8
-    ∷ touches planA (move 2 1 0 1 0) 9
+    ∷ touches planA masksA (move 2 1 0 1 0) 9
     ∷ rootIs planC (1 ∷ 1 ∷ []) 1
     ∷ rootIs planD (0 ∷ []) 1
     ∷ rootIs planD (1 ∷ []) 0
@@ -129,8 +129,8 @@ unfoldable pub computed : List Example
 computed =
     cellsAre deepPlan (1 ∷ []) 40
     (12 ∷ 12 ∷ 4 ∷ 8 ∷ 1 ∷ 3 ∷ 3 ∷ 5 ∷ 0 ∷ 1 ∷ 1 ∷ 2 ∷ 1 ∷ 2 ∷ 2 ∷ 3 ∷ 0 ∷ 0 ∷ 0 ∷ 0 ∷ 1 ∷ 1 ∷ 1 ∷ 1 ∷ 0 ∷ 0 ∷ 1 ∷ 1 ∷ 0 ∷ 0 ∷ 1 ∷ 1 ∷ 0 ∷ 1 ∷ 0 ∷ 1 ∷ 0 ∷ 1 ∷ 0 ∷ 1 ∷ [])
-    ∷ touches widePlan (move 1 0 0 1 0) 16
-    ∷ touches widePlan (move 1 1 0 1 0) 23
+    ∷ touches widePlan [] (move 1 0 0 1 0) 16
+    ∷ touches widePlan [] (move 1 1 0 1 0) 23
     ∷ leaves onePlan (0 ∷ []) (5 ∷ 0 ∷ 1 ∷ []) (move 1 0 0 0 0) (4294967295 ∷ 4294967295 ∷ 0 ∷ []) 5 4294967295 3
     ∷ []
 

@@ -69,8 +69,12 @@ kindMasks transfer m ks =
 kindMasks swap m ks = set ks (m .s) (enter (leave (getD ks (m .s) 0) (m .p)) (m .q))
 kindMasks unknown m ks = ks
 
-unfoldable pub moveMasks : Move → List ℕ → List ℕ
-moveMasks m ks = kindMasks (moveKind (m .kind)) m ks
+unfoldable pub namedMasks : Move → List ℕ → List ℕ
+namedMasks m ks = kindMasks (moveKind (m .kind)) m ks
+
+-- The masks that a plan has after a move: those that the move names are changed, and no others.
+unfoldable pub moveMasks : Plan → Move → List ℕ → List ℕ
+moveMasks P m ks = namedMasks m ks
 
 -- Set and port. "A move changes pairs (set, port): one for add and drop, two for the others."
 abbrev pub Pair : Type 0
@@ -83,8 +87,12 @@ kindPairs transfer m = (m .s, m .p) ∷ (m .t, m .p) ∷ []
 kindPairs swap m = (m .s, m .p) ∷ (m .s, m .q) ∷ []
 kindPairs unknown m = []
 
-unfoldable pub movePairs : Move → List Pair
-movePairs m = kindPairs (moveKind (m .kind)) m
+unfoldable pub namedPairs : Move → List Pair
+namedPairs m = kindPairs (moveKind (m .kind)) m
+
+-- The pairs that a move changes in a plan's sets: those that it names, whatever the sets are.
+unfoldable pub movePairs : Plan → Sets → Move → List Pair
+movePairs P k m = namedPairs m
 
 -- "in each pair (set, port) that the move changes the port enters the set if it was out, and leaves it if it was in"
 unfoldable pub flip : Pair → Sets → Sets

@@ -11,7 +11,7 @@ use Rattle.logic.specs.declared.Move.{Move}
 use Rattle.logic.specs.Formula.{Forest, Plan}
 use Rattle.logic.specs.Configuration.{inMasks, ownMasks, spelled, allWithin}
 use Rattle.logic.specs.Cells.{cellCount, ownCells}
-use Rattle.logic.specs.Moves.{moveMasks, movePairs, known, fits, legal}
+use Rattle.logic.specs.Moves.{namedMasks, moveMasks, movePairs, known, fits, legal}
 use Rattle.logic.specs.Change.{pairsChange, newCells, differing}
 use Rattle.logic.proofs.Lists.{and-left, and-right}
 use Rattle.logic.proofs.Within.{within-at}
@@ -20,7 +20,7 @@ use Rattle.table_format.specs.inner.Facts.{PlanFacts}
 use Rattle.table_format.proofs.Encoding.{decode-sound, one-plan}
 use Rattle.table_format.proofs.Facts.{plan-facts}
 use Rattle.cells_touch.specs.declared.Changed.{Changed}
-use Rattle.cells_touch.specs.inner.Hits.{Tells}
+use Rattle.cells_touch.specs.inner.Hits.{Says, Tells}
 use Rattle.cells_sum.specs.declared.After.{After}
 use Rattle.cells_walk.specs.inner.Visit.{MasksSettled}
 use Rattle.cells_walk.specs.inner.Root.{RootReady, RootGives}
@@ -143,10 +143,10 @@ module _ (ports sets : ℕ) (bytes firsts ends uses masks cells : List ℕ) (rea
     is-known = and-left (known P m) _ h
 
     -- the masks after the move, as the walk is lent them
-    masks-ready : (after : List ℕ) → after ≡ moveMasks m own → MasksSettled ports sets after
+    masks-ready : (after : List ℕ) → after ≡ moveMasks P m own → MasksSettled ports sets after
     unfolding ownMasks
     masks-ready after e =
-        let l : length after ≡ P .sets = ap length e ∙ move-length m own ∙ own-length in
+        let l : length after ≡ P .sets = ap length e ∙ move-length P m own ∙ own-length in
         let w : allWithin (P .ports) after ≡ true = ap (allWithin (P .ports)) e ∙ move-within P m own h (omega (arith, own-length)) (ready .within) in
         record {
           ports1 = omega (arith, ready .ports-are, facts .ports1);
@@ -156,9 +156,15 @@ module _ (ports sets : ℕ) (bytes firsts ends uses masks cells : List ℕ) (rea
           within = λ S q. rw (ready .ports-are) (within-at (P .ports) after w S (omega (arith, ready .sets-are, l)));
         }
 
-    pub try-ready : (c : Changed) → Tells m c → (after : List ℕ) → after ≡ moveMasks m (take sets masks)
+    -- what the code tells of the move's change
+    told : (c : Changed) → Tells m c → Says ports (pairsChange (movePairs P (inMasks own) m)) c
+    unfolding Tells
+    told c tells =
+        subst (λ (j : ℕ). Says j (pairsChange (movePairs P (inMasks own) m)) c) (sym (ready .ports-are)) (tells P (inMasks own) (facts .sets16) is-known)
+
+    pub try-ready : (c : Changed) → Tells m c → (after : List ℕ) → after ≡ namedMasks m (take sets masks)
         → RootReady ports sets c bytes firsts ends uses after cells
-    unfolding Tells ownMasks
+    unfolding ownMasks moveMasks
     try-ready c tells after e = record {
       plan = P;
       decodes = ready .decodes;
@@ -166,28 +172,28 @@ module _ (ports sets : ℕ) (bytes firsts ends uses masks cells : List ℕ) (rea
       sets-are = ready .sets-are;
       indexed = ready .indexed;
       long = ready .long;
-      change = pairsChange (movePairs m);
-      says = rw (ready .ports-are) (tells P (facts .sets16) is-known);
-      masks-settled = masks-ready after (e ∙ ap (λ (j : ℕ). moveMasks m (take j masks)) (ready .sets-are));
+      change = pairsChange (movePairs P (inMasks own) m);
+      says = told c tells;
+      masks-settled = masks-ready after (e ∙ ap (λ (j : ℕ). namedMasks m (take j masks)) (ready .sets-are));
       cells-fit = ready .cells-fit;
       own-cells = ready .own-cells;
     }
 
     -- the walk's three numbers are those of the move
-    numbers-here : (c : Changed) → Tells m c → (after : List ℕ) → after ≡ moveMasks m (take sets masks) → (r : After)
+    numbers-here : (c : Changed) → Tells m c → (after : List ℕ) → after ≡ namedMasks m (take sets masks) → (r : After)
         → RootGives ports c bytes after cells r → NumbersAre P own (take (ownCells P) cells) m r
-    unfolding Tells ownMasks RootGives rootNow rootAfter cellsAfter
+    unfolding ownMasks moveMasks RootGives rootNow rootAfter cellsAfter
     numbers-here c tells after e r gives =
-        let g = gives P (pairsChange (movePairs m)) (ready .decodes) (rw (ready .ports-are) (tells P (facts .sets16) is-known)) in
-        let q = e ∙ ap (λ (j : ℕ). moveMasks m (take j masks)) (ready .sets-are) in
+        let g = gives P (pairsChange (movePairs P (inMasks own) m)) (ready .decodes) (told c tells) in
+        let q = e ∙ ap (λ (j : ℕ). namedMasks m (take j masks)) (ready .sets-are) in
         record {
           before-is = g .old-is;
-          after-is = g .new-is ∙ ap (λ (ms : List ℕ). getD (newCells P (spelled P ms) (pairsChange (movePairs m)) (take (ownCells P) cells)) 0 0) q;
+          after-is = g .new-is ∙ ap (λ (ms : List ℕ). getD (newCells P (spelled P ms) (pairsChange (movePairs P (inMasks own) m)) (take (ownCells P) cells)) 0 0) q;
           changed-is = g .changed-is
-              ∙ ap (λ (ms : List ℕ). differing (take (ownCells P) cells) (newCells P (spelled P ms) (pairsChange (movePairs m)) (take (ownCells P) cells))) q;
+              ∙ ap (λ (ms : List ℕ). differing (take (ownCells P) cells) (newCells P (spelled P ms) (pairsChange (movePairs P (inMasks own) m)) (take (ownCells P) cells))) q;
         }
 
-    pub numbers-are : (c : Changed) → Tells m c → (after : List ℕ) → after ≡ moveMasks m (take sets masks) → (r : After)
+    pub numbers-are : (c : Changed) → Tells m c → (after : List ℕ) → after ≡ namedMasks m (take sets masks) → (r : After)
         → RootGives ports c bytes after cells r → GivesNumbers bytes masks cells m r
     unfolding GivesNumbers
     numbers-are c tells after e r gives = λ Q d.

@@ -11,7 +11,7 @@ use Rattle.logic.specs.declared.Move.{Move}
 use Rattle.logic.specs.Formula.{Plan}
 use Rattle.logic.specs.Configuration.{inMasks, ownMasks, spelled, allWithin}
 use Rattle.logic.specs.Cells.{ownCells}
-use Rattle.logic.specs.Moves.{refusal, moveGrounds, moveMasks, movePairs, known, fits, legal}
+use Rattle.logic.specs.Moves.{refusal, moveGrounds, namedMasks, moveMasks, movePairs, known, fits, legal}
 use Rattle.logic.specs.Change.{pairsChange, newCells, differing}
 use Rattle.logic.proofs.Lists.{and-left, and-right}
 use Rattle.logic.proofs.Within.{within-at}
@@ -34,7 +34,7 @@ use Rattle.contracts.specs.declared.Moved.{Moved}
 use Rattle.contracts.specs.declared.Moved.the-variants.{Accepted}
 use Rattle.contracts.specs.MoveCall.{cellsAfter, moveAnswer, tablesAfter, moveOr, moves}
 use Rattle.contracts.proofs.Steps.{grounds-legal}
-use Rattle.contracts.proofs.Within.{move-within, move-length}
+use Rattle.contracts.proofs.Within.{move-within, named-length, move-length}
 use Rattle.move_make.specs.inner.Judged.{Carried, Carries}
 use Rattle.move_make.proofs.Answering.{moveWhole, move-opened}
 
@@ -61,10 +61,10 @@ module _ (bytes masks : List ℕ) (shortest : ℕ) (o : Opened) (firsts ends use
     is-known = and-left (known P m) _ is-legal
 
     -- the masks after the move, as the walk is lent them
-    pub masks-ready : (after : List ℕ) → after ≡ moveMasks m own → MasksSettled (o .ports) (o .sets) after
+    pub masks-ready : (after : List ℕ) → after ≡ moveMasks P m own → MasksSettled (o .ports) (o .sets) after
     unfolding ownMasks
     masks-ready after h =
-        let l : length after ≡ P .sets = ap length h ∙ move-length m own ∙ own-length in
+        let l : length after ≡ P .sets = ap length h ∙ move-length P m own ∙ own-length in
         let w : allWithin (P .ports) after ≡ true =
         ap (allWithin (P .ports)) h ∙ move-within P m own is-legal (omega (arith, own-length)) (opened .within) in
         record {
@@ -75,9 +75,14 @@ module _ (bytes masks : List ℕ) (shortest : ℕ) (o : Opened) (firsts ends use
           within = λ S q. rw (opened .ports-are) (within-at (P .ports) after w S (omega (arith, opened .sets-are, l)));
         }
 
-    pub root-ready : (c : Changed) → Tells m c → (after cells : List ℕ) → after ≡ moveMasks m own → CellsFit cells → shortest ≤ length cells → TablesLong firsts ends uses
-        → RootReady (o .ports) (o .sets) c bytes firsts ends uses after cells
+    -- what the code tells of the move's change
+    told : (c : Changed) → Tells m c → Says (o .ports) (pairsChange (movePairs P (inMasks own) m)) c
     unfolding Tells
+    told c tells =
+        subst (λ (j : ℕ). Says j (pairsChange (movePairs P (inMasks own) m)) c) (sym (opened .ports-are)) (tells P (inMasks own) (plan-fits .sets16) is-known)
+
+    pub root-ready : (c : Changed) → Tells m c → (after cells : List ℕ) → after ≡ moveMasks P m own → CellsFit cells → shortest ≤ length cells → TablesLong firsts ends uses
+        → RootReady (o .ports) (o .sets) c bytes firsts ends uses after cells
     root-ready c tells after cells h fit l long = record {
       plan = P;
       decodes = opened .decodes;
@@ -85,33 +90,29 @@ module _ (bytes masks : List ℕ) (shortest : ℕ) (o : Opened) (firsts ends use
       sets-are = opened .sets-are;
       indexed = opened .indexed;
       long = long;
-      change = pairsChange (movePairs m);
-      says = rw (opened .ports-are) (tells P (plan-fits .sets16) is-known);
+      change = pairsChange (movePairs P (inMasks own) m);
+      says = told c tells;
       masks-settled = masks-ready after h;
       cells-fit = fit;
       own-cells = omega (arith, opened .own-cells);
     }
 
     -- what the walk gives is the answer
-    module _ (c : Changed) (tells : Tells m c) (after cells : List ℕ) (h : after ≡ moveMasks m own) where
-      says : Says (o .ports) (pairsChange (movePairs m)) c
-      unfolding Tells
-      says = rw (opened .ports-are) (tells P (plan-fits .sets16) is-known)
-
+    module _ (c : Changed) (tells : Tells m c) (after cells : List ℕ) (h : after ≡ moveMasks P m own) where
       pub answer-is : (r : After) → RootGives (o .ports) c bytes after cells r
           → Accepted (r .old) (r .value) (r .changed) ≡ moveAnswer P m own (take (ownCells P) cells)
       unfolding RootGives moveAnswer cellsAfter
       answer-is r gives =
-          let g = gives P (pairsChange (movePairs m)) (opened .decodes) says in
+          let g = gives P (pairsChange (movePairs P (inMasks own) m)) (opened .decodes) (told c tells) in
           (λ i. Accepted (g .old-is i) (g .new-is i) (g .changed-is i))
-          ∙ ap (λ (ms : List ℕ). Accepted (getD (take (ownCells P) cells) 0 0) (getD (newCells P (spelled P ms) (pairsChange (movePairs m)) (take (ownCells P) cells)) 0 0)
-          (differing (take (ownCells P) cells) (newCells P (spelled P ms) (pairsChange (movePairs m)) (take (ownCells P) cells)))) h
+          ∙ ap (λ (ms : List ℕ). Accepted (getD (take (ownCells P) cells) 0 0) (getD (newCells P (spelled P ms) (pairsChange (movePairs P (inMasks own) m)) (take (ownCells P) cells)) 0 0)
+          (differing (take (ownCells P) cells) (newCells P (spelled P ms) (pairsChange (movePairs P (inMasks own) m)) (take (ownCells P) cells)))) h
 
       pub cells-are : (new : List ℕ) → RootWrites (o .ports) c bytes after cells new → new ≡ cellsAfter P m own (take (ownCells P) cells) ++ drop (ownCells P) cells
       unfolding RootWrites cellsAfter
       cells-are new writes =
-          writes P (pairsChange (movePairs m)) (opened .decodes) says
-          ∙ ap (λ (ms : List ℕ). newCells P (spelled P ms) (pairsChange (movePairs m)) (take (ownCells P) cells) ++ drop (ownCells P) cells) h
+          writes P (pairsChange (movePairs P (inMasks own) m)) (opened .decodes) (told c tells)
+          ∙ ap (λ (ms : List ℕ). newCells P (spelled P ms) (pairsChange (movePairs P (inMasks own) m)) (take (ownCells P) cells) ++ drop (ownCells P) cells) h
 
 -- what the functions ask in between
 module _ (bytes masks : List ℕ) (shortest : ℕ) (o : Opened) (firsts ends uses : List ℕ) (opened : OpenPlan bytes masks shortest o firsts ends uses) where
@@ -175,22 +176,24 @@ module _ (bytes masks : List ℕ) (shortest : ℕ) (o : Opened) (firsts ends use
         below false h = omega arith
 
     -- the part of the masks that comes back
-    pub back-length : (ys : List ℕ) (j : ℕ) → j ≡ o .sets → ys ≡ moveMasks m (take j masks) → length ys ≡ o .sets
+    pub back-length : (ys : List ℕ) (j : ℕ) → j ≡ o .sets → ys ≡ namedMasks m (take j masks) → length ys ≡ o .sets
     unfolding ownMasks
     back-length ys j ej h =
-        ap length h ∙ move-length m (take j masks) ∙ ap (λ (x : ℕ). length (take x masks)) ej
+        ap length h ∙ named-length m (take j masks) ∙ ap (λ (x : ℕ). length (take x masks)) ej
         ∙ length-take-le (o .sets) masks (omega (arith, opened .sets-are, opened .own-masks))
 
-    pub back-fits : (ys rest : List ℕ) (j : ℕ) → j ≡ o .sets → ys ≡ moveMasks m (take j masks) → o .sets ≤ length (ys ++ rest)
+    pub back-fits : (ys rest : List ℕ) (j : ℕ) → j ≡ o .sets → ys ≡ namedMasks m (take j masks) → o .sets ≤ length (ys ++ rest)
     back-fits ys rest j ej h = rw (length-append ys rest) (omega (arith, back-length ys j ej h))
 
     -- as it is lent again
-    pub lent-again : (ys rest : List ℕ) (j : ℕ) → j ≡ o .sets → ys ≡ moveMasks m (take j masks) → take j (ys ++ rest) ≡ moveMasks m mine
+    pub lent-again : (ys rest : List ℕ) (j : ℕ) → j ≡ o .sets → ys ≡ namedMasks m (take j masks) → take j (ys ++ rest) ≡ moveMasks Q m mine
+    unfolding moveMasks
     lent-again ys rest j ej h =
-        take-at ys rest j (back-length ys j ej h ∙ sym ej) ∙ h ∙ ap (λ (x : ℕ). moveMasks m (take x masks)) ej ∙ ap (moveMasks m) mine-is
+        take-at ys rest j (back-length ys j ej h ∙ sym ej) ∙ h ∙ ap (λ (x : ℕ). namedMasks m (take x masks)) ej ∙ ap (namedMasks m) mine-is
 
-    pub back-is : (ys : List ℕ) (j : ℕ) → j ≡ o .sets → ys ≡ moveMasks m (take j masks) → ys ≡ moveMasks m mine
-    back-is ys j ej h = h ∙ ap (λ (x : ℕ). moveMasks m (take x masks)) ej ∙ ap (moveMasks m) mine-is
+    pub back-is : (ys : List ℕ) (j : ℕ) → j ≡ o .sets → ys ≡ namedMasks m (take j masks) → ys ≡ moveMasks Q m mine
+    unfolding moveMasks
+    back-is ys j ej h = h ∙ ap (λ (x : ℕ). namedMasks m (take x masks)) ej ∙ ap (namedMasks m) mine-is
 
     pub past-is : (j : ℕ) → j ≡ o .sets → drop j masks ≡ drop (ownMasks Q) masks
     unfolding ownMasks
@@ -214,7 +217,7 @@ reopen bytes masks shortest o firsts ends uses opened = record {
 pub carried : (bytes masks cells : List ℕ) (P : Plan) → decode bytes ≡ sound P → (m : Move) (r : After) (new ys rest : List ℕ)
     → Accepted (r .old) (r .value) (r .changed) ≡ moveAnswer P m (take (ownMasks P) masks) (take (ownCells P) cells)
     → new ≡ cellsAfter P m (take (ownMasks P) masks) (take (ownCells P) cells) ++ drop (ownCells P) cells
-    → ys ≡ moveMasks m (take (ownMasks P) masks) → rest ≡ drop (ownMasks P) masks → Carries bytes masks cells m r (ys ++ rest) new
+    → ys ≡ moveMasks P m (take (ownMasks P) masks) → rest ≡ drop (ownMasks P) masks → Carries bytes masks cells m r (ys ++ rest) new
 unfolding Carries
 carried bytes masks cells P d m r new ys rest a c y t Q e =
     subst (λ (x : Plan). Carried x m masks cells r (ys ++ rest) new) (one-plan bytes P Q (decode-sound bytes P d) (decode-sound bytes Q e))

@@ -13,7 +13,7 @@ use borrow.Author.Tests.{eqb-false, not-true}
 use Rattle.logic.specs.declared.Move.{Move}
 use Rattle.logic.specs.inner.Flip.{flipPort}
 use Rattle.logic.specs.Configuration.{Sets, inMask, inMasks, enter, leave}
-use Rattle.logic.specs.Moves.{moveKind, kindMasks, moveMasks}
+use Rattle.logic.specs.Moves.{moveKind, kindMasks, namedMasks}
 use Rattle.logic.proofs.Lists.{and-left, and-right}
 use Rattle.logic.proofs.Masks.{in-flip-other, enter-flip, leave-flip}
 use Rattle.move_legal.specs.inner.Legal.{LegalOver}
@@ -25,21 +25,21 @@ abbrev flipped : List ℕ → ℕ → ℕ → List ℕ
 flipped ms S p = set ms S (flipPort (getD ms S 0) p)
 
 -- the masks by the kind's number
-masks-add : (m : Move) (ms : List ℕ) → m .kind ≡ 1 → moveMasks m ms ≡ set ms (m .s) (enter (getD ms (m .s) 0) (m .p))
-unfolding moveMasks kindMasks moveKind
+masks-add : (m : Move) (ms : List ℕ) → m .kind ≡ 1 → namedMasks m ms ≡ set ms (m .s) (enter (getD ms (m .s) 0) (m .p))
+unfolding namedMasks kindMasks moveKind
 masks-add m ms e = ap (λ (j : ℕ). kindMasks (moveKind j) m ms) e
 
-masks-drop : (m : Move) (ms : List ℕ) → m .kind ≡ 2 → moveMasks m ms ≡ set ms (m .s) (leave (getD ms (m .s) 0) (m .p))
-unfolding moveMasks kindMasks moveKind
+masks-drop : (m : Move) (ms : List ℕ) → m .kind ≡ 2 → namedMasks m ms ≡ set ms (m .s) (leave (getD ms (m .s) 0) (m .p))
+unfolding namedMasks kindMasks moveKind
 masks-drop m ms e = ap (λ (j : ℕ). kindMasks (moveKind j) m ms) e
 
-masks-transfer : (m : Move) (ms : List ℕ) → m .kind ≡ 3 → moveMasks m ms
+masks-transfer : (m : Move) (ms : List ℕ) → m .kind ≡ 3 → namedMasks m ms
     ≡ set (set ms (m .s) (leave (getD ms (m .s) 0) (m .p))) (m .t) (enter (getD (set ms (m .s) (leave (getD ms (m .s) 0) (m .p))) (m .t) 0) (m .p))
-unfolding moveMasks kindMasks moveKind
+unfolding namedMasks kindMasks moveKind
 masks-transfer m ms e = ap (λ (j : ℕ). kindMasks (moveKind j) m ms) e
 
-masks-swap : (m : Move) (ms : List ℕ) → m .kind ≡ 4 → moveMasks m ms ≡ set ms (m .s) (enter (leave (getD ms (m .s) 0) (m .p)) (m .q))
-unfolding moveMasks kindMasks moveKind
+masks-swap : (m : Move) (ms : List ℕ) → m .kind ≡ 4 → namedMasks m ms ≡ set ms (m .s) (enter (leave (getD ms (m .s) 0) (m .p)) (m .q))
+unfolding namedMasks kindMasks moveKind
 masks-swap m ms e = ap (λ (j : ℕ). kindMasks (moveKind j) m ms) e
 
 -- p leaves S and enters T
@@ -75,7 +75,7 @@ module _ (ports sets : ℕ) (m : Move) (masks : List ℕ) (L : LegalOver ports s
   transfer-parts : (a b c : Bool) → (a && b && c) ≡ true → (a ≡ true) × (b ≡ true) × (c ≡ true)
   transfer-parts a b c h = let x = and-left (a && b) c h in (and-left a b x, and-right a b x, and-right (a && b) c h)
 
-  pub after-transfer : m .kind ≡ 3 → flipped (flipped masks (m .s) (m .p)) (m .t) (m .p) ≡ moveMasks m masks
+  pub after-transfer : m .kind ≡ 3 → flipped (flipped masks (m .s) (m .p)) (m .t) (m .p) ≡ namedMasks m masks
   unfolding inMasks
   after-transfer e =
       let f = sym (fits-transfer own-sets m e) ∙ L .fitting in
@@ -84,7 +84,7 @@ module _ (ports sets : ℕ) (m : Move) (masks : List ℕ) (L : LegalOver ports s
       (sym (in-own sets masks (m .t) (m .p) (t-used ports sets m (L .known-over .fields) e)) ∙ not-true _ (r .2)))
       ∙ sym (masks-transfer m masks e)
 
-  pub after-swap : m .kind ≡ 4 → flipped (flipped masks (m .s) (m .p)) (m .s) (m .q) ≡ moveMasks m masks
+  pub after-swap : m .kind ≡ 4 → flipped (flipped masks (m .s) (m .p)) (m .s) (m .q) ≡ namedMasks m masks
   unfolding inMasks
   after-swap e =
       let f = sym (fits-swap own-sets m e) ∙ L .fitting in
@@ -93,11 +93,11 @@ module _ (ports sets : ℕ) (m : Move) (masks : List ℕ) (L : LegalOver ports s
       (here (m .q) ∙ not-true _ (and-right (own-sets (m .s) (m .p)) _ f)))
       ∙ sym (masks-swap m masks e)
 
-  pub after-one : m .kind ≢ 3 → m .kind ≢ 4 → flipped masks (m .s) (m .p) ≡ moveMasks m masks
+  pub after-one : m .kind ≢ 3 → m .kind ≢ 4 → flipped masks (m .s) (m .p) ≡ namedMasks m masks
   unfolding inMasks
   after-one x y = go (ℕ-discrete (m .kind) 1)
     where
-      go : Dec (m .kind ≡ 1) → flipped masks (m .s) (m .p) ≡ moveMasks m masks
+      go : Dec (m .kind ≡ 1) → flipped masks (m .s) (m .p) ≡ namedMasks m masks
       go (yes e) =
           let f = sym (fits-add own-sets m e) ∙ L .fitting in
           sym (ap (set masks (m .s)) (enter-flip (getD masks (m .s) 0) (m .p) (here (m .p) ∙ not-true _ f))) ∙ sym (masks-add m masks e)

@@ -7,7 +7,7 @@ ghost use mathlib.Core.List.{_++_};
 ghost use Prim.Native.Nat.{_≤_, _<_};
 ghost use lib.ListN.{length, getD, set, take, drop};
 ghost use Rattle.logic.specs.inner.Flip.{flipPort};
-ghost use Rattle.logic.specs.Moves.{moveMasks};
+ghost use Rattle.logic.specs.Moves.{namedMasks};
 ghost use Rattle.move_legal.specs.inner.Legal.{LegalOver};
 
 // The first `sets` masks, copied.
@@ -34,7 +34,7 @@ fn flip_at(masks: &mut [u64], s: u32, p: u32)
 // The masks that a legal move leaves: each port that enters was out, and each that leaves was in.
 pub fn masks_after(m: Move, ports: u32, sets: u32, masks: &mut [u64])
     requires { ⌜ LegalOver ports sets m (now masks) ⌝ }
-    ensures { λ r. ⌜ now (masks .exit) ≡ moveMasks m (now (masks .entry)) ⌝ }
+    ensures { λ r. ⌜ now (masks .exit) ≡ namedMasks m (now (masks .entry)) ⌝ }
 {
     flip_at(masks, m.s, m.p);
     if m.kind == 3 {

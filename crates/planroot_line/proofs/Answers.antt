@@ -23,6 +23,7 @@ use Rattle.contracts.specs.Admitted.{admittedPlan}
 use Rattle.contracts.proofs.Grounds.{few-sets}
 use Rattle.contracts.proofs.Reading.{accepted-admitted, admitted-read}
 use Rattle.contracts.specs.declared.Loaded.{Loaded}
+use Rattle.contracts.specs.State.{State, tables}
 use Rattle.contracts.specs.Load.{loads}
 use Rattle.planroot_line.specs.declared.Line.{Line}
 use Rattle.planroot_line.specs.declared.Line.the-variants.{Refusal}
@@ -67,17 +68,17 @@ read-sets u s B O x nodes total e y =
 module _ (count : ℕ) (ms table cells : List ℕ) (n : ℕ) (N : n ≡ setsField table) (few : setsField table ≤ 16) where
   pub plan-other : (count ≡ n → ⊥) → LinesPlan count ms table cells (Refusal 0)
   unfolding LinesPlan
-  plan-other f vs c m = sym (ap (λ (b : Bool). pick b (loadLine (loads (decode table) vs cells .0)) (Refusal 0)) (ne-eqb (length vs) (setsField table) (λ e. f (omega arith))))
+  plan-other f vs c m = sym (ap (λ (b : Bool). pick b (loadLine (loads (decode table) (tables vs cells) .0)) (Refusal 0)) (ne-eqb (length vs) (setsField table) (λ e. f (omega arith))))
 
-  pub plan-loaded : (x : Loaded) (O : List ℕ) (r : Line) → count ≡ n → (x, O) ≡ loads (decode table) (take (n - 0) (drop 0 ms)) cells → r ≡ loadLine x
+  pub plan-loaded : (x : Loaded) (O : State) (r : Line) → count ≡ n → (x, O) ≡ loads (decode table) (tables (take (n - 0) (drop 0 ms)) cells) → r ≡ loadLine x
       → LinesPlan count ms table cells r
   unfolding LinesPlan
   plan-loaded x O r e L R vs c m =
       let long : length vs ≡ n = omega arith in
       let k : n - 0 ≡ min 16 count = omega arith in
       let own : take (n - 0) (drop 0 ms) ≡ vs = ap (λ (i : ℕ). take i ms) k ∙ m ∙ take-all 16 vs (omega arith) in
-      R ∙ ap (λ (q : Loaded × List ℕ). loadLine (q .0)) (L ∙ ap (λ (l : List ℕ). loads (decode table) l cells) own)
-      ∙ sym (ap (λ (b : Bool). pick b (loadLine (loads (decode table) vs cells .0)) (Refusal 0)) (eq-eqb (length vs) (setsField table) (long ∙ N)))
+      R ∙ ap (λ (q : Loaded × State). loadLine (q .0)) (L ∙ ap (λ (l : List ℕ). loads (decode table) (tables l cells)) own)
+      ∙ sym (ap (λ (b : Bool). pick b (loadLine (loads (decode table) (tables vs cells) .0)) (Refusal 0)) (eq-eqb (length vs) (setsField table) (long ∙ N)))
 
 module _ (u count : ℕ) (ms s table cells O : List ℕ) (x : Answer) (E : (x, O) ≡ reads u s table) where
   read-of : (t : List ℕ) → s ≡ take 4097 t → (x, O) ≡ reads u t table

@@ -9,6 +9,7 @@ use Rattle.table_format.specs.Decode.{decode}
 use Rattle.contracts.specs.declared.Answer.{Answer}
 use Rattle.contracts.specs.declared.Answer.the-variants.{Accepted, Refused}
 use Rattle.contracts.specs.Read.{reads}
+use Rattle.contracts.specs.State.{tables}
 use Rattle.contracts.specs.Load.{loads}
 use Rattle.planroot_input.specs.Lines.{sound, ports, masks, text}
 use Rattle.planroot_line.specs.declared.Line.{Line}
@@ -33,7 +34,7 @@ lineTotal (Refusal number) = 0
 unfoldable pub readLine : Answer → List ℕ → List ℕ → List ℕ → Line
 readLine (Refused number) table ms cells = Refusal number
 readLine (Accepted nodes total) table ms cells =
-    pick (eqb (length ms) (setsField table)) (loadLine (loads (decode table) ms cells .0)) (Refusal 0)
+    pick (eqb (length ms) (setsField table)) (loadLine (loads (decode table) (tables ms cells) .0)) (Refusal 0)
 
 unfoldable pub textLine : ℕ → List ℕ → List ℕ → List ℕ → List ℕ → Line
 textLine u ms s table cells = readLine (reads u s table .0) (reads u s table .1) ms cells

@@ -24,9 +24,9 @@ pub read-gives : (a : Answer) (t : List ℕ) (given : Answer × List ℕ) (r : R
 read-gives a t given r e f =
     record { fields = subst (λ (x : Answer × List ℕ). ReadFields (x .0) r) e f; table-is = ap (λ (x : Answer × List ℕ). x .1) e }
 
-pub load-gives : (a : Loaded) (t : List ℕ) (given : Loaded × List ℕ) (r : LoadAnswer) → (a, t) ≡ given → LoadFields a r → LoadGives given r t
+pub load-gives : (a : Loaded) (t : State) (given : Loaded × State) (r : LoadAnswer) → (a, t) ≡ given → LoadFields a r → LoadGives given r t
 load-gives a t given r e f =
-    record { fields = subst (λ (x : Loaded × List ℕ). LoadFields (x .0) r) e f; cells-are = ap (λ (x : Loaded × List ℕ). x .1) e }
+    record { fields = subst (λ (x : Loaded × State). LoadFields (x .0) r) e f; tables-are = ap (λ (x : Loaded × State). x .1) e }
 
 pub move-gives : (given : Moved × State) (s′ : State) (a : Moved) (r : MoveAnswer)
     → (a, s′) ≡ given → MoveFields a r → MoveGives given r s′

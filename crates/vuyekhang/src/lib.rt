@@ -40,7 +40,7 @@ pub extern "C" fn vk_read(u: u64, text: &[u8], table: &mut [u8]) -> ReadAnswer
 // Checks the tables and fills every cell.
 #[no_mangle]
 pub extern "C" fn vk_load(table: &[u8], masks: &[u64], cells: &mut [u32]) -> LoadAnswer
-    ensures { λ r. ⌜ LoadGives (loads (decode (now (table .entry))) (now (masks .entry)) (now (cells .entry))) r (now (cells .exit)) ⌝ }
+    ensures { λ r. ⌜ LoadGives (loads (decode (now (table .entry))) (tables (now (masks .entry)) (now (cells .entry)))) r (tables (now (masks .entry)) (now (cells .exit))) ⌝ }
 {
     let a = load(table, masks, cells);
     load_fields(a)

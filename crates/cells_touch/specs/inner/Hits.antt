@@ -8,7 +8,7 @@ use lib.Bits.{bitAnd, bitOr}
 use lib.Dec.{eqb}
 use Rattle.logic.specs.declared.Move.{Move}
 use Rattle.logic.specs.Formula.{Literal, isin, notin, port, size, Plan}
-use Rattle.logic.specs.Configuration.{inMask}
+use Rattle.logic.specs.Configuration.{Sets, inMask}
 use Rattle.logic.specs.Truth.{Tuple}
 use Rattle.logic.specs.Moves.{known, movePairs}
 use Rattle.logic.specs.Change.{Change, someOf, memberHit, pairsChange}
@@ -81,4 +81,4 @@ changeAt s t p q =
 
 -- The change that a move makes is told so.
 unfoldable pub Tells : Move → Changed → Type 0
-Tells m c = (P : Plan) → P .sets ≤ 16 → known P m ≡ true → Says (P .ports) (pairsChange (movePairs m)) c
+Tells m c = (P : Plan) (k : Sets) → P .sets ≤ 16 → known P m ≡ true → Says (P .ports) (pairsChange (movePairs P k m)) c

@@ -1,6 +1,6 @@
 use mathlib.Core.Path.{ap, _∙_}
 use native.Mathlib.Omega.{arith}
-use Rattle.logic.specs.Moves.{moveMasks}
+use Rattle.logic.specs.Moves.{namedMasks}
 use Rattle.move_best.proofs.Trying.{ports-fit, sets-fit, masks-long, legal-over, sets-known, try-ready, numbers-are}
 use Rattle.move_masks.proofs.Copying.{copied-whole}
 use borrow.Author.Needs.{needs}
@@ -30,7 +30,7 @@ change-of-requires c κs =
 root-after-requires : tie.Need-root-after-requires
 root-after-requires c κs =
     try-ready _ _ _ _ _ _ _ _ (c .before .before .before .before .before .before .before .before .before .before .before .before .before .before .before .before .before .before .before .pre .room .ready) (c .before .before .before .before .before .before .before .before .before .before .before .before .before .before .before .before .before .before .before .args .m) (c .before .before .before .before .before .before .before .before .before .before .before .before .before .before .before .before .before .before .before .pre .is-legal) _ (c .change-of .ensures) _
-    (c .before .before .before .before .masks-after .ensures ∙ ap (moveMasks (c .before .before .before .before .before .before .before .before .before .before .before .before .before .before .before .before .before .before .before .args .m)) (copied-whole _ _ _ _ (c .before .before .before .before .before .before .before .before .before .before .copy-masks .ensures) (c .before .before .before .before .before .before .before .before .before .before .before .before .before .before .before .before .before .before .before .pre .room .work-long)))
+    (c .before .before .before .before .masks-after .ensures ∙ ap (namedMasks (c .before .before .before .before .before .before .before .before .before .before .before .before .before .before .before .before .before .before .before .args .m)) (copied-whole _ _ _ _ (c .before .before .before .before .before .before .before .before .before .before .copy-masks .ensures) (c .before .before .before .before .before .before .before .before .before .before .before .before .before .before .before .before .before .before .before .pre .room .work-long)))
 
 same-length : tie.Need-same-length
 same-length c = search needs
@@ -38,7 +38,7 @@ same-length c = search needs
 returns : tie.Need-returns
 returns c =
     numbers-are _ _ _ _ _ _ _ _ (c .before .before .before .before .before .before .before .before .before .before .before .before .before .before .before .before .before .before .before .before .pre .room .ready) (c .before .before .before .before .before .before .before .before .before .before .before .before .before .before .before .before .before .before .before .before .args .m) (c .before .before .before .before .before .before .before .before .before .before .before .before .before .before .before .before .before .before .before .before .pre .is-legal) _ (c .before .change-of .ensures) _
-    (c .before .before .before .before .before .masks-after .ensures ∙ ap (moveMasks (c .before .before .before .before .before .before .before .before .before .before .before .before .before .before .before .before .before .before .before .before .args .m)) (copied-whole _ _ _ _ (c .before .before .before .before .before .before .before .before .before .before .before .copy-masks .ensures) (c .before .before .before .before .before .before .before .before .before .before .before .before .before .before .before .before .before .before .before .before .pre .room .work-long))) _ (c .root-after .ensures)
+    (c .before .before .before .before .before .masks-after .ensures ∙ ap (namedMasks (c .before .before .before .before .before .before .before .before .before .before .before .before .before .before .before .before .before .before .before .before .args .m)) (copied-whole _ _ _ _ (c .before .before .before .before .before .before .before .before .before .before .before .copy-masks .ensures) (c .before .before .before .before .before .before .before .before .before .before .before .before .before .before .before .before .before .before .before .before .pre .room .work-long))) _ (c .root-after .ensures)
 
 pub numbers-of-spec : {M : Type 1} → statement M
 numbers-of-spec =

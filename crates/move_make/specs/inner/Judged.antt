@@ -27,7 +27,7 @@ pub record CarryReady (ports sets : ℕ) (bytes firsts ends uses masks cells : L
 -- The move is made: the answer's three numbers, the masks and the cells.
 pub record Carried (P : Plan) (m : Move) (masks cells : List ℕ) (r : After) (masks′ cells′ : List ℕ) : Type 0 where
   pub answer-is : Accepted (r .old) (r .value) (r .changed) ≡ moveAnswer P m (take (ownMasks P) masks) (take (ownCells P) cells)
-  pub masks-are : masks′ ≡ moveMasks m (take (ownMasks P) masks) ++ drop (ownMasks P) masks
+  pub masks-are : masks′ ≡ moveMasks P m (take (ownMasks P) masks) ++ drop (ownMasks P) masks
   pub cells-are : cells′ ≡ cellsAfter P m (take (ownMasks P) masks) (take (ownCells P) cells) ++ drop (ownCells P) cells
 
 unfoldable pub Carries : List ℕ → List ℕ → List ℕ → Move → After → List ℕ → List ℕ → Type 0

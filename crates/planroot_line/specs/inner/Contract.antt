@@ -7,6 +7,7 @@ use lib.ListN.{length, take}
 use Rattle.text_tokens.specs.Tokens.{pick}
 use Rattle.table_format.specs.Bytes.{headerLength, setsField}
 use Rattle.table_format.specs.Decode.{decode}
+use Rattle.contracts.specs.State.{tables}
 use Rattle.contracts.specs.Load.{loads}
 use Rattle.planroot_input.specs.declared.Scan.{Scan}
 use Rattle.planroot_input.specs.inner.Scans.{Scanned}
@@ -28,7 +29,7 @@ pub record PlanTables (ms table : List ℕ) : Type 0 where
 -- The first 16 of the masks are at hand, and they are counted as far as 17.
 unfoldable pub LinesPlan : ℕ → List ℕ → List ℕ → List ℕ → Line → Type 0
 LinesPlan count ms table cells r = (vs : List ℕ) → count ≡ min 17 (length vs) → take (min 16 count) ms ≡ take 16 vs
-    → r ≡ pick (eqb (length vs) (setsField table)) (loadLine (loads (decode table) vs cells .0)) (Refusal 0)
+    → r ≡ pick (eqb (length vs) (setsField table)) (loadLine (loads (decode table) (tables vs cells) .0)) (Refusal 0)
 
 -- The first 16 of the masks and the first 4,097 bytes of the text are at hand, and the masks are counted as far as 17.
 unfoldable pub LinesText : ℕ → ℕ → List ℕ → List ℕ → List ℕ → List ℕ → Line → Type 0
