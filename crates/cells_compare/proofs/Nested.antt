@@ -1,24 +1,24 @@
 -- Two variables whose runs stand inside one another: their ports from round to round, and comparisons by order. Assumes nothing.
 use mathlib.Core.Path.{_≡_, refl, sym, ap, ap₂, _∙_}
-use mathlib.Core.Bool.{cond, not}
-use mathlib.Core.List.{List, _++_}
+use mathlib.Core.Bool.{false, cond, not}
+use mathlib.Core.List.{List}
 use Prim.Native.Nat.{ℕ, _+_, _-_, _*_, _/_, _%_, _≤_, _<_}
 use native.Mathlib.Nat.{mod-lt, mod-eq-of-lt, mod-mod-of-dvd, zero-div, zero-mod, zero-add, one-le-mul, mul-comm, mul-le-mul-right, suc-mul, div-div-eq-div-mul, div-lt-iff-lt-mul, le-div-iff-mul-le, div-mul-cancel, div-add-mod', dvd-of-mod-eq-zero, dvd-iff-mod-eq-zero, dvd-mul-left-of-dvd}
 use native.Mathlib.Decide.{decLt}
 use native.Mathlib.Omega.{arith}
 use lib.Arith.{digits-div}
 use lib.Dec.{eqb, ltb}
-use lib.ListN.{length, drop}
+use lib.ListN.{length}
 use borrow.Author.Tests.{lt-ltb, le-ltb, le-leb, lt-leb, eq-eqb, ne-eqb}
-use Rattle.logic.specs.Formula.{Relation, lt, le, eq, ne, ge, gt}
+use Rattle.logic.specs.Formula.{Relation, lt, le, eq, ne, ge, gt, relationOf}
 use Rattle.logic.specs.Configuration.{indicator}
 use Rattle.logic.specs.Penalty.{compare}
-use Rattle.logic.specs.Cells.{tabulate}
-use Rattle.logic.proofs.Tables.{tabulate-cong}
+use Rattle.logic.proofs.Written.{Written, written}
+use Rattle.cells_rule.specs.inner.Rule.{rulePenalty}
 use Rattle.cells_runs.specs.declared.Digit.{Digit}
 use Rattle.cells_runs.specs.inner.Ports.{digitAt, DigitIs, byOrder, RunsPlaced, NestedPlaced}
 use Rattle.cells_runs.proofs.Digits.{digit-lt, digit-start, run-fits}
-use Rattle.cells_runs.proofs.Runs.{Written, written, run-more}
+use Rattle.cells_runs.proofs.Runs.{run-more}
 use Rattle.cells_runs.proofs.Rounds.{period-on, digit-period}
 
 -- A number by order is what each case says.
@@ -59,28 +59,28 @@ compare-more ne a b h = sym (ap not (ne-eqb a b (λ e. omega arith)))
 compare-more ge a b h = sym (le-leb b a (omega arith))
 compare-more gt a b h = sym (lt-ltb b a h)
 
--- 0 if a stands to b in the relation, else 1
-abbrev pub related : Relation → ℕ → ℕ → ℕ
-related r a b = indicator (not (compare r a b))
+-- the penalty of a port comparison
+abbrev pub related : ℕ → ℕ → ℕ → ℕ
+related r a b = rulePenalty 7 r false a b
 
-pub same-port : (r : Relation) (a b : ℕ) → a ≡ b → related r 0 0 ≡ related r a b
-same-port r a b h = ap (λ x. indicator (not x)) (compare-same r a b h)
+related-by : (r a b x y : ℕ) → compare (relationOf r) a b ≡ compare (relationOf r) x y → related r a b ≡ related r x y
+unfolding rulePenalty
+related-by r a b x y e = ap (λ t. indicator (not t)) e
+
+pub same-port : (r a b : ℕ) → a ≡ b → related r 0 0 ≡ related r a b
+same-port r a b h = related-by r 0 0 a b (compare-same (relationOf r) a b h)
 
 -- the order of the inner port to the outer, whichever variable is which
-module _ (r : Relation) (less same more : ℕ) (l : less ≡ related r 0 1) (s : same ≡ related r 0 0) (m : more ≡ related r 1 0) (a b : ℕ) where
+module _ (r less same more : ℕ) (l : less ≡ related r 0 1) (s : same ≡ related r 0 0) (m : more ≡ related r 1 0) (a b : ℕ) where
   pub second-inner : byOrder more same less b a ≡ related r a b
   second-inner =
-      by-order more same less (related r a b) b a (λ h. m ∙ ap (λ x. indicator (not x)) (compare-more r a b h)) (λ e. s ∙ same-port r a b (sym e))
-      (λ h. l ∙ ap (λ x. indicator (not x)) (compare-less r a b h))
+      by-order more same less (related r a b) b a (λ h. m ∙ related-by r 1 0 a b (compare-more (relationOf r) a b h)) (λ e. s ∙ same-port r a b (sym e))
+      (λ h. l ∙ related-by r 0 1 a b (compare-less (relationOf r) a b h))
 
   pub first-inner : byOrder less same more a b ≡ related r a b
   first-inner =
-      by-order less same more (related r a b) a b (λ h. l ∙ ap (λ x. indicator (not x)) (compare-less r a b h)) (λ e. s ∙ same-port r a b e)
-      (λ h. m ∙ ap (λ x. indicator (not x)) (compare-more r a b h))
-
--- The cells as the code puts them are those of the relation.
-pub related-cells : (f g : ℕ → ℕ) (w : ℕ) (xs after : List ℕ) → after ≡ tabulate w f ++ drop w xs → ((t : ℕ) → f t ≡ g t) → after ≡ tabulate w g ++ drop w xs
-related-cells f g w xs after e h = e ∙ ap (λ (l : List ℕ). l ++ drop w xs) (tabulate-cong w f g (λ t _. h t))
+      by-order less same more (related r a b) a b (λ h. l ∙ related-by r 0 1 a b (compare-less (relationOf r) a b h)) (λ e. s ∙ same-port r a b e)
+      (λ h. m ∙ related-by r 1 0 a b (compare-more (relationOf r) a b h))
 
 -- In whole rounds of the inner variable: its port, and the outer's.
 first-round : (u other i : ℕ) → 1 ≤ other → i < u * other → digitAt u other i ≡ i / other

@@ -1,28 +1,16 @@
 // The cells of a port comparison, kind 7. Paper 01, sections Plan table and Penalty.
+use cells_rule::literal_penalty;
 use cells_runs::Digit;
 use cells_runs::next_digit;
 use cells_runs::put_run;
 use cells_runs::repeat_first;
-use logic::related;
 ghost use mathlib.Core.Path.{_≡_};
-ghost use mathlib.Core.Bool.{not};
+ghost use mathlib.Core.Bool.{false};
 ghost use mathlib.Core.List.{_++_};
 ghost use lib.ListN.{drop};
-ghost use Rattle.logic.specs.Formula.{relationOf};
-ghost use Rattle.logic.specs.Configuration.{indicator};
-ghost use Rattle.logic.specs.Penalty.{compare};
 ghost use Rattle.logic.specs.Cells.{tabulate};
+ghost use Rattle.cells_rule.specs.inner.Rule.{rulePenalty};
 ghost use Rattle.cells_runs.specs.inner.Ports.{digitAt, byOrder, NestedPlaced, BlocksPlaced};
-
-// 0 if a stands to b in the relation, else 1.
-fn port_penalty(relation: u8, a: u32, b: u32) -> u32
-    ensures { λ r. ⌜ r ≡ indicator (not (compare (relationOf relation) a b)) ⌝ }
-{
-    if related(relation, a, b) {
-        return 0;
-    }
-    1
-}
 
 // The cells of a comparison by whether the inner variable's port is less than the outer's, the same or more. The inner goes
 // through its ports while the outer stays: a round is a run of each, and with the outer's last port all begins again.
@@ -68,11 +56,11 @@ pub fn put_comparison(
     cells: &mut [u32],
 )
     requires { ⌜ BlocksPlaced ports block other width (now cells) ⌝ }
-    ensures { λ _. ⌜ now (cells .exit) ≡ tabulate width (λ t. indicator (not (compare (relationOf relation) (digitAt ports block t) (digitAt ports other t)))) ++ drop width (now (cells .entry)) ⌝ }
+    ensures { λ _. ⌜ now (cells .exit) ≡ tabulate width (λ t. rulePenalty 7 relation false (digitAt ports block t) (digitAt ports other t)) ++ drop width (now (cells .entry)) ⌝ }
 {
-    let less = port_penalty(relation, 0, 1);
-    let same = port_penalty(relation, 0, 0);
-    let more = port_penalty(relation, 1, 0);
+    let less = literal_penalty(7, relation, false, 0, 1);
+    let same = literal_penalty(7, relation, false, 0, 0);
+    let more = literal_penalty(7, relation, false, 1, 0);
     if other < block {
         put_nested(more, same, less, ports, block, other, width, cells);
         return;

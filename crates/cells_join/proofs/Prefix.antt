@@ -1,44 +1,14 @@
--- Tables of which the first cells are written, one after another, and joins of lists. Assumes nothing.
+-- Joins of lists, and cells merged one after another. Assumes nothing.
 use mathlib.Core.Path.{_≡_, refl, sym, ap, ap₂, _∙_}
-use mathlib.Core.List.{List, [], _∷_, _++_, append-assoc}
-use Prim.Native.Nat.{ℕ, suc, _+_, _-_, _*_, _≤_, _<_}
-use native.Mathlib.Nat.{add-zero, suc-mul, mul-le-mul-right}
+use mathlib.Core.List.{List, [], _∷_, _++_}
+use Prim.Native.Nat.{ℕ, _+_, _*_, _≤_, _<_}
+use native.Mathlib.Nat.{suc-mul, mul-le-mul-right}
 use native.Mathlib.Numerals.{add-one}
 use native.Mathlib.Omega.{arith}
-use lib.ListN.{length, getD, take, drop, set, length-append, length-drop}
-use lib.Seq.{drop-cons, set-at, take-suc, getD-drop, drop-drop, drop-append-add}
-use Rattle.logic.specs.Cells.{tabulate}
-use Rattle.logic.proofs.Tables.{length-tabulate}
+use lib.ListN.{length, getD, take, drop, set, length-drop}
+use lib.Seq.{drop-cons, take-suc, getD-drop}
+use Rattle.logic.proofs.Written.{Written, one-more-first, behind-first, next-first}
 use Rattle.cells_join.specs.inner.Joined.{meet, joinAll}
-
--- a table xs of which the first t cells are g's
-abbrev pub written : (ℕ → ℕ) → ℕ → List ℕ → List ℕ
-written g t xs = tabulate t g ++ drop t xs
-
-pub written-length : (g : ℕ → ℕ) (t : ℕ) (xs : List ℕ) → t ≤ length xs → length (written g t xs) ≡ length xs
-written-length g t xs h = length-append (tabulate t g) (drop t xs) ∙ (let e : length (tabulate t g) + length (drop t xs) ≡ length xs = omega (arith, length-tabulate t g, length-drop t xs) in e)
-
-pub write-next : (g : ℕ → ℕ) (t v : ℕ) (xs : List ℕ) → t < length xs → v ≡ g t → set (written g t xs) t v ≡ written g (t + 1) xs
-unfolding tabulate
-write-next g t v xs h e =
-    ap (λ (l : List ℕ). set (tabulate t g ++ l) t v) (drop-cons xs t 0 h)
-    ∙ set-at (tabulate t g) (getD xs t 0) (drop (suc t) xs) v t (length-tabulate t g)
-    ∙ ap (λ (x : ℕ). tabulate t g ++ x ∷ drop (suc t) xs) e
-    ∙ sym (append-assoc (tabulate t g) (g t ∷ []) (drop (suc t) xs))
-    ∙ ap (λ (m : ℕ). tabulate m g ++ drop m xs) (sym (add-one t))
-
--- what stands behind the written cells is as it was
-pub written-behind : (g : ℕ → ℕ) (t i : ℕ) (xs : List ℕ) → t ≤ i → drop i (written g t xs) ≡ drop i xs
-written-behind g t i xs h =
-    let e : i ≡ length (tabulate t g) + (i - t) = omega (arith, length-tabulate t g) in
-    let q : t + (i - t) ≡ i = omega arith in
-    ap (λ (m : ℕ). drop m (written g t xs)) e ∙ drop-append-add (tabulate t g) (drop t xs) (i - t) ∙ drop-drop (i - t) t xs ∙ ap (λ (m : ℕ). drop m xs) q
-
-pub written-at : (g : ℕ → ℕ) (t : ℕ) (xs : List ℕ) → getD (written g t xs) t 0 ≡ getD xs t 0
-written-at g t xs =
-    ap (λ (m : ℕ). getD (written g t xs) m 0) (sym (add-zero t))
-    ∙ sym (getD-drop t (written g t xs) 0 0) ∙ ap (λ (l : List ℕ). getD l 0 0) (written-behind g t t xs (omega arith))
-    ∙ getD-drop t xs 0 0 ∙ ap (λ (m : ℕ). getD xs m 0) (add-zero t)
 
 pub join-append : (join x : ℕ) (ys zs : List ℕ) → joinAll join x (ys ++ zs) ≡ joinAll join (joinAll join x ys) zs
 unfolding joinAll
@@ -68,11 +38,12 @@ abbrev pub joinedAt : ℕ → ℕ → ℕ → List ℕ → ℕ → ℕ
 joinedAt join s at l t = joinAll join (getD l t 0) (take s (drop (at + t * s) l))
 
 -- one more cell merged: the cells below it are not written yet
-pub merge-next : (join s at from t v : ℕ) (xs : List ℕ) → t ≤ at → t < length xs → from ≡ at + t * s
-    → (let l = written (joinedAt join s at xs) t xs in v ≡ joinAll join (getD l t 0) (take s (drop from l)))
-    → set (written (joinedAt join s at xs) t xs) t v ≡ written (joinedAt join s at xs) (t + 1) xs
-merge-next join s at from t v xs h l e q =
+pub merge-more : (join s at over from t v : ℕ) (xs cells : List ℕ) → Written (joinedAt join s at xs) 0 over xs cells t → t < over → over ≤ at → over ≤ length xs
+    → from ≡ at + t * s → v ≡ joinAll join (getD cells t 0) (take s (drop from cells))
+    → Written (joinedAt join s at xs) 0 over xs (set cells t v) (t + 1)
+merge-more join s at over from t v xs cells i l h k e q =
     let g = joinedAt join s at xs in
-    write-next g t v xs l
-    (q ∙ ap₂ (λ (x : ℕ) (ys : List ℕ). joinAll join x (take s ys)) (written-at g t xs)
-    (ap (λ (m : ℕ). drop m (written g t xs)) e ∙ written-behind g t (at + t * s) xs (omega arith)))
+    one-more-first g over xs cells t v i l k
+    (q ∙ ap₂ (λ (x : ℕ) (ys : List ℕ). joinAll join x (take s ys))
+    (ap (λ (ys : List ℕ). getD ys t 0) (i .is) ∙ next-first g t xs)
+    (ap₂ (λ (m : ℕ) (ys : List ℕ). drop m ys) e (i .is) ∙ behind-first g t (at + t * s) xs (omega arith)))

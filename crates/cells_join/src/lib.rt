@@ -1,4 +1,6 @@
 // Cells joined to the cells above them: sums and minima. Paper 01, section Penalty.
+use cells_runs::put_run;
+use logic::lesser_cell;
 use std::num::wrapping_add_u32;
 ghost use mathlib.Core.Path.{_≡_};
 ghost use mathlib.Core.List.{_++_};
@@ -14,10 +16,7 @@ fn meet_of(join: u8, x: u32, y: u32) -> u32
     if join == 0 {
         return wrapping_add_u32(x, y);
     }
-    if x <= y {
-        return x;
-    }
-    y
+    lesser_cell(x, y)
 }
 
 // The join of no cells: 0, or the largest number, above every true penalty.
@@ -35,12 +34,7 @@ pub fn put_unit(join: u8, width: usize, cells: &mut [u32])
     requires { ⌜ width ≤ length (now cells) ⌝ }
     ensures { λ _. ⌜ now (cells .exit) ≡ tabulate width (λ _. unitOf join) ++ drop width (now (cells .entry)) ⌝ }
 {
-    let value = unit_of(join);
-    let mut t = 0;
-    while t < width {
-        cells[t] = value;
-        t += 1;
-    }
+    put_run(0, width, unit_of(join), cells);
 }
 
 // x joined with s cells from place `from` on.

@@ -1,6 +1,6 @@
 -- A literal's penalty at the t-th tuple, by its kind, from the digits of t alone. Assumes nothing.
-use mathlib.Core.Path.{_≡_, refl, ap, _∙_}
-use mathlib.Core.Bool.{Bool, true, not, _&&_}
+use mathlib.Core.Path.{_≡_, refl}
+use mathlib.Core.Bool.{Bool, true, false, _&&_}
 use mathlib.Core.List.{List, _++_}
 use Prim.Native.Nat.{ℕ, zero, suc, _≤_, _<_}
 use native.Mathlib.Omega.{arith}
@@ -8,18 +8,20 @@ use native.Mathlib.Decide.{decLe}
 use lib.Dec.{eqb, leb, ltb}
 use lib.ListN.{getD, drop}
 use borrow.Author.Tests.{eq-eqb, ne-eqb, le-leb, lt-leb, leb-true, ltb-true}
-use Rattle.logic.specs.Formula.{lit, relationOf}
-use Rattle.logic.specs.Configuration.{indicator, portsIn, inMask, configured, inMasks}
+use Rattle.logic.specs.Formula.{isin, notin, port, size, lit, relationOf}
+use Rattle.logic.specs.Configuration.{portsIn, inMask, configured, inMasks}
 use Rattle.logic.specs.Truth.{portOf}
-use Rattle.logic.specs.Penalty.{compare, sizePenalty, literalPenalty}
+use Rattle.logic.specs.Penalty.{literalPenalty}
 use Rattle.logic.specs.Cells.{tupleAt, tabulate}
 use Rattle.logic.proofs.Lists.{and-left, and-right}
 use Rattle.logic.proofs.Masks.{ports-within}
-use Rattle.logic.proofs.Tables.{tabulate-cong}
 use Rattle.table_format.specs.Bytes.{nodeOf}
 use Rattle.table_format.specs.inner.Tests.{fieldRule}
 use Rattle.cells_literals.specs.inner.Literal.{literalOf, LiteralPlaced}
-use Rattle.cells_runs.specs.inner.Ports.{blockOf, digitAt, memberPenalty, RunsPlaced, NestedPlaced, BlocksPlaced}
+use Rattle.cells_rule.specs.inner.Rule.{rulePenalty, Operands}
+use Rattle.cells_rule.proofs.Rules.{rule-is}
+use Rattle.cells_runs.specs.inner.Ports.{blockOf, digitAt, RunsPlaced, NestedPlaced, BlocksPlaced}
+use Rattle.cells_runs.proofs.Runs.{same-cells}
 use Rattle.cells_runs.proofs.Digits.{port-digit, block-pos, block-whole, block-nested, block-once}
 
 -- The literal of a literal's record is what the plan table decodes it to.
@@ -91,54 +93,55 @@ module _ {sets kind r a b ports depth width : ℕ} {masks cells : List ℕ} (p :
   pub blocks : (block other : ℕ) → a < depth → b < depth → block ≡ blockOf ports depth a → other ≡ blockOf ports depth b → BlocksPlaced ports block other width cells
   blocks block other h k e f = rw (e, f) (record { first-outer = nested a b h k; second-outer = nested b a k h; room = p .room })
 
-  -- it, from the digits of t, by the kind
+  -- it, from the digits of t, by the rule
   member-at : kind ≤ 6 → (t : ℕ)
-      → memberPenalty kind (inMask (getD masks b 0) (digitAt ports (blockOf ports depth a) t))
+      → rulePenalty kind 0 (inMask (getD masks b 0) (digitAt ports (blockOf ports depth a) t)) 0 0
       ≡ penaltyAt t
-  unfolding memberPenalty literalOf literalPenalty configured inMasks
+  unfolding Operands literalOf configured inMasks
   member-at h t = rw (← port-digit ports depth a t (member-fields h .0)) (go (decLe kind 5))
     where
       go : Dec (kind ≤ 5)
-          → memberPenalty kind (inMask (getD masks b 0) (portOf (tupleAt ports depth t) a))
+          → rulePenalty kind 0 (inMask (getD masks b 0) (portOf (tupleAt ports depth t) a)) 0 0
           ≡ penaltyAt t
-      go (yes l) = rw (eq-eqb kind 5 (omega (arith, p .kind5)))
-      go (no l) = rw (ne-eqb kind 5 (λ e. omega arith), eq-eqb kind 6 (omega arith))
+      go (yes l) =
+          let e : kind ≡ 5 = omega (arith, p .kind5) in
+          rw (eq-eqb kind 5 e) (rule-is (configured ports sets (inMasks masks)) (isin a b) (tupleAt ports depth t) kind 0 _ 0 0 (e, refl))
+      go (no l) =
+          let e : kind ≡ 6 = omega arith in
+          rw (ne-eqb kind 5 (λ e. omega arith), eq-eqb kind 6 e) (rule-is (configured ports sets (inMasks masks)) (notin a b) (tupleAt ports depth t) kind 0 _ 0 0 (e, refl))
 
   port-at : kind ≡ 7 → (t : ℕ)
-      → indicator (not (compare (relationOf r) (digitAt ports (blockOf ports depth a) t) (digitAt ports (blockOf ports depth b) t)))
+      → rulePenalty 7 r false (digitAt ports (blockOf ports depth a) t) (digitAt ports (blockOf ports depth b) t)
       ≡ penaltyAt t
-  unfolding literalOf literalPenalty
+  unfolding Operands literalOf
   port-at h t =
       rw (← port-digit ports depth a t (port-fields h .0), ← port-digit ports depth b t (port-fields h .1), ne-eqb kind 5 (λ e. omega arith), ne-eqb kind 6 (λ e. omega arith), eq-eqb kind 7 h)
+      (rule-is (configured ports sets (inMasks masks)) (port (relationOf r) a b) (tupleAt ports depth t) 7 r false _ _ (refl, refl, refl, refl))
 
   size-at : kind ≡ 8 → (t : ℕ)
-      → sizePenalty (relationOf r) (portsIn 64 (inMask (getD masks a 0))) b
+      → rulePenalty 8 r false (portsIn 64 (inMask (getD masks a 0))) b
       ≡ penaltyAt t
-  unfolding literalOf literalPenalty configured inMasks
+  unfolding Operands literalOf configured inMasks
   size-at h t =
       rw (ne-eqb kind 5 (λ e. omega arith), ne-eqb kind 6 (λ e. omega arith), ne-eqb kind 7 (λ e. omega arith))
-      (ap (λ (s : ℕ). sizePenalty (relationOf r) s b) (ports-within ports 64 (getD masks a 0) (p .ports64) (p .within a (size-fields h .0))))
+      (rule-is (configured ports sets (inMasks masks)) (size (relationOf r) a b) (tupleAt ports depth t) 8 r false _ b
+      (refl, refl, ports-within ports 64 (getD masks a 0) (p .ports64) (p .within a (size-fields h .0)), refl))
 
-  -- cells that hold these penalties are the literal's
-  literal-cells : (g : ℕ → ℕ) (after : List ℕ) → after ≡ tabulate width g ++ drop width cells
-      → ((t : ℕ) → g t ≡ penaltyAt t)
-      → after ≡ tabulate width penaltyAt ++ drop width cells
-  literal-cells g after e h = e ∙ ap (λ (l : List ℕ). l ++ drop width cells) (tabulate-cong width g _ (λ t l. h t))
-
+  -- cells that the rule gives are the literal's
   pub member-cells : kind ≤ 6 → (mask block : ℕ) (after : List ℕ) → mask ≡ getD masks b 0 → block ≡ blockOf ports depth a
-      → after ≡ tabulate width (λ t. memberPenalty kind (inMask mask (digitAt ports block t))) ++ drop width cells
+      → after ≡ tabulate width (λ t. rulePenalty kind 0 (inMask mask (digitAt ports block t)) 0 0) ++ drop width cells
       → after ≡ tabulate width penaltyAt ++ drop width cells
   member-cells h mask block after m k e =
-      literal-cells (λ t. memberPenalty kind (inMask mask (digitAt ports block t))) after e (λ t. rw (m, k) (member-at h t))
+      same-cells (λ t. rulePenalty kind 0 (inMask mask (digitAt ports block t)) 0 0) penaltyAt width cells after e (λ t. rw (m, k) (member-at h t))
 
   pub port-cells : kind ≡ 7 → (block other : ℕ) (after : List ℕ) → block ≡ blockOf ports depth a → other ≡ blockOf ports depth b
-      → after ≡ tabulate width (λ t. indicator (not (compare (relationOf r) (digitAt ports block t) (digitAt ports other t)))) ++ drop width cells
+      → after ≡ tabulate width (λ t. rulePenalty 7 r false (digitAt ports block t) (digitAt ports other t)) ++ drop width cells
       → after ≡ tabulate width penaltyAt ++ drop width cells
   port-cells h block other after k m e =
-      literal-cells (λ t. indicator (not (compare (relationOf r) (digitAt ports block t) (digitAt ports other t)))) after e (λ t. rw (k, m) (port-at h t))
+      same-cells (λ t. rulePenalty 7 r false (digitAt ports block t) (digitAt ports other t)) penaltyAt width cells after e (λ t. rw (k, m) (port-at h t))
 
   pub size-cells : kind ≡ 8 → (mask : ℕ) (after : List ℕ) → mask ≡ getD masks a 0
-      → after ≡ tabulate width (λ _. sizePenalty (relationOf r) (portsIn 64 (inMask mask)) b) ++ drop width cells
+      → after ≡ tabulate width (λ _. rulePenalty 8 r false (portsIn 64 (inMask mask)) b) ++ drop width cells
       → after ≡ tabulate width penaltyAt ++ drop width cells
   size-cells h mask after m e =
-      literal-cells (λ _. sizePenalty (relationOf r) (portsIn 64 (inMask mask)) b) after e (λ t. rw m (size-at h t))
+      same-cells (λ _. rulePenalty 8 r false (portsIn 64 (inMask mask)) b) penaltyAt width cells after e (λ t. rw m (size-at h t))

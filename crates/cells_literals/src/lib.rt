@@ -1,19 +1,20 @@
 // The cells of one literal of any kind, filled when a plan is loaded. Paper 01, sections Plan table and Penalty.
 use cells_compare::put_comparison;
 use cells_members::put_members;
+use cells_rule::literal_penalty;
 use cells_runs::block_of;
 use cells_runs::put_run;
 use logic::mask_size;
-use logic::size_penalty;
 use table_format::wide;
 ghost use mathlib.Core.Path.{_≡_};
+ghost use mathlib.Core.Bool.{false};
 ghost use mathlib.Core.List.{_++_};
 ghost use Prim.Native.Nat.{_≤_, _<_};
 ghost use lib.ListN.{length, getD, drop};
-ghost use Rattle.logic.specs.Formula.{relationOf};
 ghost use Rattle.logic.specs.Configuration.{portsIn, inMask, configured, inMasks};
-ghost use Rattle.logic.specs.Penalty.{sizePenalty, literalPenalty};
+ghost use Rattle.logic.specs.Penalty.{literalPenalty};
 ghost use Rattle.logic.specs.Cells.{tupleAt, tabulate};
+ghost use Rattle.cells_rule.specs.inner.Rule.{rulePenalty};
 ghost use Rattle.cells_literals.specs.inner.Literal.{literalOf, LiteralPlaced};
 
 // The mask of a set.
@@ -27,9 +28,9 @@ fn mask_at(masks: &[u64], set: usize) -> u64
 // The cells of kind 8: the same at every tuple.
 fn put_size(relation: u8, mask: u64, constant: u8, width: usize, cells: &mut [u32])
     requires { ⌜ width ≤ length (now cells) ⌝ }
-    ensures { λ _. ⌜ now (cells .exit) ≡ tabulate width (λ _. sizePenalty (relationOf relation) (portsIn 64 (inMask mask)) constant) ++ drop width (now (cells .entry)) ⌝ }
+    ensures { λ _. ⌜ now (cells .exit) ≡ tabulate width (λ _. rulePenalty 8 relation false (portsIn 64 (inMask mask)) constant) ++ drop width (now (cells .entry)) ⌝ }
 {
-    let value = size_penalty(relation, mask_size(mask), constant as u32);
+    let value = literal_penalty(8, relation, false, mask_size(mask), constant as u32);
     put_run(0, width, value, cells);
 }
 

@@ -1,45 +1,56 @@
 // The cells of a membership literal, kinds 5 and 6. Paper 01, sections Plan table and Penalty.
-use cells_runs::lesser;
+use cells_rule::literal_penalty;
 use cells_runs::put_run;
 use cells_runs::repeat_first;
 use logic::has_port;
+use logic::lesser;
 ghost use mathlib.Core.Path.{_≡_};
+ghost use mathlib.Core.Bool.{cond};
 ghost use mathlib.Core.List.{_++_};
 ghost use Prim.Native.Nat.{_<_};
 ghost use lib.ListN.{drop};
 ghost use Rattle.logic.specs.Configuration.{inMask};
 ghost use Rattle.logic.specs.Cells.{tabulate};
-ghost use Rattle.cells_runs.specs.inner.Ports.{digitAt, memberPenalty, RunsPlaced, Round};
+ghost use Rattle.cells_rule.specs.inner.Rule.{rulePenalty};
+ghost use Rattle.cells_runs.specs.inner.Ports.{digitAt, RunsPlaced, Round};
 
-// 0 if the literal is true of port p, else 1.
-fn member_penalty(kind: u8, mask: u64, p: u32) -> u32
+// One number if port p is in the set, else another.
+fn member_penalty(inside: u32, outside: u32, mask: u64, p: u32) -> u32
     requires { ⌜ p < 64 ⌝ }
-    ensures { λ r. ⌜ r ≡ memberPenalty kind (inMask mask p) ⌝ }
+    ensures { λ r. ⌜ r ≡ cond (inMask mask p) inside outside ⌝ }
 {
-    if has_port(mask, p) == (kind == 5) {
-        return 0;
+    if has_port(mask, p) {
+        return inside;
     }
-    1
+    outside
 }
 
 // `put_round` for the innermost variable: each cell has a port of its own, so that none costs a loop.
-fn put_row(kind: u8, mask: u64, ports: u32, width: usize, cells: &mut [u32]) -> usize
+fn put_row(
+    inside: u32,
+    outside: u32,
+    mask: u64,
+    ports: u32,
+    width: usize,
+    cells: &mut [u32],
+) -> usize
     requires { ⌜ RunsPlaced ports 1 width (now cells) ⌝ }
-    ensures { λ r. ⌜ Round ports 1 width r × (now (cells .exit) ≡ tabulate r (λ t. memberPenalty kind (inMask mask (digitAt ports 1 t))) ++ drop r (now (cells .entry))) ⌝ }
+    ensures { λ r. ⌜ Round ports 1 width r × (now (cells .exit) ≡ tabulate r (λ t. cond (inMask mask (digitAt ports 1 t)) inside outside) ++ drop r (now (cells .entry))) ⌝ }
 {
     let row = lesser(ports as usize, width);
     let mut t = 0;
     while t < row {
-        cells[t] = member_penalty(kind, mask, t as u32);
+        cells[t] = member_penalty(inside, outside, mask, t as u32);
         t += 1;
     }
     t
 }
 
-// The cells of kinds 5 and 6 for each port once, or as far as they go; says how many they are. The port stays the same over a
-// run of cells.
+// The cells of a membership literal for each port once, or as far as they go; says how many they are. The port stays the same
+// over a run of cells.
 fn put_round(
-    kind: u8,
+    inside: u32,
+    outside: u32,
     mask: u64,
     ports: u32,
     block: usize,
@@ -47,10 +58,10 @@ fn put_round(
     cells: &mut [u32],
 ) -> usize
     requires { ⌜ RunsPlaced ports block width (now cells) ⌝ }
-    ensures { λ r. ⌜ Round ports block width r × (now (cells .exit) ≡ tabulate r (λ t. memberPenalty kind (inMask mask (digitAt ports block t))) ++ drop r (now (cells .entry))) ⌝ }
+    ensures { λ r. ⌜ Round ports block width r × (now (cells .exit) ≡ tabulate r (λ t. cond (inMask mask (digitAt ports block t)) inside outside) ++ drop r (now (cells .entry))) ⌝ }
 {
     if block == 1 {
-        return put_row(kind, mask, ports, width, cells);
+        return put_row(inside, outside, mask, ports, width, cells);
     }
     let mut t = 0;
     let mut port = 0;
@@ -58,18 +69,20 @@ fn put_round(
         if port == ports {
             return t;
         }
-        put_run(t, block, member_penalty(kind, mask, port), cells);
+        put_run(t, block, member_penalty(inside, outside, mask, port), cells);
         t += block;
         port += 1;
     }
     t
 }
 
-// The cells of kinds 5 and 6: after the last port they are the same again.
+// The cells of kinds 5 and 6: after the last port they are the same again. The rule is asked twice, and not at each cell.
 pub fn put_members(kind: u8, mask: u64, ports: u32, block: usize, width: usize, cells: &mut [u32])
     requires { ⌜ RunsPlaced ports block width (now cells) ⌝ }
-    ensures { λ _. ⌜ now (cells .exit) ≡ tabulate width (λ t. memberPenalty kind (inMask mask (digitAt ports block t))) ++ drop width (now (cells .entry)) ⌝ }
+    ensures { λ _. ⌜ now (cells .exit) ≡ tabulate width (λ t. rulePenalty kind 0 (inMask mask (digitAt ports block t)) 0 0) ++ drop width (now (cells .entry)) ⌝ }
 {
-    let period = put_round(kind, mask, ports, block, width, cells);
+    let inside = literal_penalty(kind, 0, true, 0, 0);
+    let outside = literal_penalty(kind, 0, false, 0, 0);
+    let period = put_round(inside, outside, mask, ports, block, width, cells);
     repeat_first(period, width, cells);
 }

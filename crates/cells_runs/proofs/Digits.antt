@@ -3,7 +3,7 @@ use mathlib.Core.Path.{_≡_, refl, sym, ap, _∙_}
 use mathlib.Core.Bool.{cond}
 use mathlib.Core.List.{List}
 use Prim.Native.Nat.{ℕ, zero, suc, _+_, _-_, _*_, _^_, _/_, _%_, _≤_, _<_}
-use native.Mathlib.Nat.{mod-lt, mod-eq-of-lt, mod-self, mod-add-mod, add-mod-right, add-div-right, mul-mod-left, div-one, div-div-eq-div-mul, div-add-mod', pow-zero, pow-suc, pow-succ', one-le-pow, pow-le-pow-right, mul-le-mul-right, suc-mul, zero-div, zero-mod, one-mul}
+use native.Mathlib.Nat.{mod-lt, mod-eq-of-lt, mod-self, mod-add-mod, add-mod-right, add-div-right, mul-mod-left, div-one, div-div-eq-div-mul, div-add-mod', pow-zero, pow-suc, pow-succ', one-le-pow, pow-le-pow-left, pow-le-pow-right, mul-le-mul, mul-le-mul-right, suc-mul, zero-div, zero-mod, one-mul}
 use native.Mathlib.Decide.{decLt}
 use native.Mathlib.Omega.{arith}
 use lib.Dec.{eqb}
@@ -130,8 +130,11 @@ run-fits {u} {block} {w} p t z h =
     go e f (no l) =
         let m : w / block ≤ t / block = omega arith in absurd (omega (arith, mul-le-mul-right block m))
 
-pub pow-one : (u : ℕ) → u ^ 1 ≡ u
-pow-one u = pow-suc u 0 ∙ ap (λ (x : ℕ). x * u) (pow-zero u) ∙ one-mul u
-
-pub pow-two : (u : ℕ) → u ^ 2 ≡ u * u
-pow-two u = pow-suc u 1 ∙ ap (λ (x : ℕ). x * u) (pow-one u)
+-- ten powers of at most 64 fit in 64 bits
+pub power-low : (u i : ℕ) → u ≤ 64 → i < 10 → u ^ i * u ≤ 1152921504606846976
+power-low u i h l =
+    let e : u ^ i ≤ 64 ^ i = pow-le-pow-left h i in
+    let f : 64 ^ i ≤ 64 ^ 9 = pow-le-pow-right {n = 64} (omega arith) {i = i} {j = 9} (omega arith) in
+    let g : u ^ i ≤ 18014398509481984 = omega arith in
+    let m : u ^ i * u ≤ 18014398509481984 * 64 = mul-le-mul g h in
+    omega arith

@@ -1,38 +1,25 @@
 -- Cells that repeat: the first of them copied up to a width. Assumes nothing.
 use mathlib.Core.Path.{_≡_, refl, sym, ap, ap₂, _∙_}
-use mathlib.Core.List.{List, [], _∷_, _++_}
-use Prim.Native.Nat.{ℕ, zero, suc, _+_, _-_, _*_, _/_, _%_, _≤_, _<_, min}
+use mathlib.Core.List.{List, _++_}
+use Prim.Native.Nat.{ℕ, _+_, _-_, _*_, _/_, _%_, _≤_, _<_, min}
 use native.Mathlib.Nat.{div-one, mod-lt, mod-eq-of-lt, mod-self, mod-mod, mod-add-mod, zero-add, one-le-mul, mul-mod-left}
 use native.Mathlib.Decide.{decLt}
 use native.Mathlib.Omega.{arith}
 use lib.Arith.{digits-div, mod-mul}
 use lib.ListN.{length, take, drop, getD, List·getD-append, take-append-drop}
-use lib.Seq.{take-suc, length-take-le, getD-take, drop-drop, drop-append-add}
+use lib.Seq.{drop-drop, drop-append-add}
 use Rattle.logic.specs.Cells.{tabulate}
 use Rattle.logic.proofs.Tables.{length-tabulate, getD-tabulate, tabulate-cong}
 use Rattle.cells_runs.specs.inner.Ports.{digitAt, RunsPlaced, repeated, Round}
 use Rattle.cells_runs.proofs.Digits.{run-fits}
-use Rattle.cells_runs.proofs.Runs.{Written, written, done, from-first, part-more}
-
-pub take-tabulate : (n : ℕ) (l : List ℕ) → n ≤ length l → take n l ≡ tabulate n (λ i. getD l i 0)
-unfolding tabulate
-take-tabulate zero l h = refl
-take-tabulate (suc n) l h = take-suc l n 0 h ∙ ap (λ (k : List ℕ). k ++ (getD l n 0 ∷ [])) (take-tabulate n l (omega arith))
-
--- Cells before those that are written are as they were.
-pub written-before : (f : ℕ → ℕ) (from n i : ℕ) (xs : List ℕ) → i < from → from ≤ length xs → getD (written f from n xs) i 0 ≡ getD xs i 0
-written-before f from n i xs l h =
-    List·getD-append (take from xs) (tabulate n f ++ drop (from + n) xs) 0 i (rw (length-take-le from xs h) l) ∙ getD-take from xs i 0 l
+use Rattle.logic.proofs.Written.{Written, done, from-first, written-before, take-tabulate, copied}
+use Rattle.cells_runs.proofs.Runs.{part-more}
 
 -- one cell more copied
 pub copy-more : (to len : ℕ) (xs cells : List ℕ) (i : ℕ) → Written (λ j. getD xs j 0) to len xs cells i → i < len → len ≤ to → to + len ≤ length xs
     → getD cells i 0 ≡ getD xs i 0
 copy-more to len xs cells i w l h k =
     ap (λ (c : List ℕ). getD c i 0) (w .is) ∙ written-before (λ j. getD xs j 0) to i i xs (omega arith) (omega arith)
-
-pub copied : (to len : ℕ) (xs : List ℕ) → to + len ≤ length xs
-    → written (λ j. getD xs j 0) to len xs ≡ take to xs ++ (take len xs ++ drop (to + len) xs)
-copied to len xs h = rw (take-tabulate len xs (omega arith))
 
 -- Whole periods on, a place is the same in its period.
 pub period-on : (t i p : ℕ) → t % p ≡ 0 → (t + i) % p ≡ i % p
@@ -71,7 +58,7 @@ repeat-more p w xs cells after t len c l h e a =
     let same : (i : ℕ) → i < len → getD cells i 0 ≡ getD xs ((t + i) % p) 0 =
     λ i q. ap (λ (x : List ℕ). getD x i 0) k ∙ first-cell (λ j. getD xs (j % p) 0) t i (drop t xs) (omega arith) ∙ ap (λ (x : ℕ). getD xs x 0) (sym (period-on t i p z)) in
     record {
-      is = part-more (λ i. getD xs (i % p) 0) (λ i. getD cells i 0) w t len xs cells after (c .is) (omega arith) h same (a ∙ sym (copied t len cells room));
+      is = part-more (λ i. getD xs (i % p) 0) (λ i. getD cells i 0) w t len xs cells after (c .is) (omega arith) h same (a ∙ sym (copied t len cells cells (omega arith)));
       past = omega (arith, c .past);
       whole = λ q. let d : len ≡ t = omega arith in ap (λ (x : ℕ). (t + x) % p) d ∙ period-on t t p z ∙ z;
     }

@@ -1,4 +1,5 @@
 // Runs of equal cells, copies of the first cells, and the port of a variable from cell to cell. Paper 01, section Plan table.
+use logic::lesser;
 ghost use mathlib.Core.Path.{_≡_};
 ghost use mathlib.Core.List.{_++_};
 ghost use Prim.Native.Nat.{ℕ, _+_, _%_, _^_, _≤_, _<_, min};
@@ -43,16 +44,16 @@ pub fn next_digit(d: Digit, block: usize, ports: u32) -> Digit
 
 // How many tuples n variables have; at most two stand inside a third.
 fn power(ports: usize, n: usize) -> usize
-    requires { ⌜ (ports ≤ 64) × (n ≤ 2) ⌝ }
+    requires { ⌜ (ports ≤ 64) × (n ≤ 10) ⌝ }
     ensures { λ r. ⌜ r ≡ ports ^ n ⌝ }
 {
-    if n == 0 {
-        return 1;
+    let mut r = 1;
+    let mut i = 0;
+    while i < n {
+        r *= ports;
+        i += 1;
     }
-    if n == 1 {
-        return ports;
-    }
-    ports * ports
+    r
 }
 
 // How many cells a variable keeps its port for: as many as the variables inside it have tuples.
@@ -74,16 +75,6 @@ pub fn put_run(from: usize, len: usize, value: u32, cells: &mut [u32])
         cells[from + i] = value;
         i += 1;
     }
-}
-
-// The lesser of two lengths.
-pub fn lesser(a: usize, b: usize) -> usize
-    ensures { λ r. ⌜ r ≡ min a b ⌝ }
-{
-    if a <= b {
-        return a;
-    }
-    b
 }
 
 // Copies the first `len` cells to place `to`, behind them.

@@ -1,9 +1,11 @@
 // A cell's new number from those directly below: sums by differences modulo 2^32, minima afresh. Paper 01, section One move.
+use logic::lesser_cell;
+use logic::unless;
 use std::num::wrapping_add_u32;
 use std::num::wrapping_sub_u32;
 ghost use mathlib.Core.Path.{_≡_};
 ghost use mathlib.Core.Bool.{not};
-ghost use Prim.Native.Nat.{_+_, _-_, _%_, min};
+ghost use Prim.Native.Nat.{_+_, _-_, _%_};
 ghost use lib.Dec.{eqb};
 ghost use Rattle.logic.specs.Configuration.{indicator};
 ghost use Rattle.cells_sum.specs.inner.Walk.{begun, Joined};
@@ -19,16 +21,6 @@ pub struct After {
 pub struct Sum {
     pub value: u32,
     pub changed: u32,
-}
-
-// The lesser of two penalties.
-fn lesser(a: u32, b: u32) -> u32
-    ensures { λ r. ⌜ r ≡ min a b ⌝ }
-{
-    if a <= b {
-        return a;
-    }
-    b
 }
 
 // What a cell's new number is begun with: a sum with the old one.
@@ -66,7 +58,7 @@ pub fn join(add: bool, acc: Sum, x: After) -> Sum
         };
     }
     Sum {
-        value: lesser(acc.value, x.value),
+        value: lesser_cell(acc.value, x.value),
         changed: changed,
     }
 }
@@ -87,14 +79,4 @@ pub fn adds_of(kind: u8) -> bool
     ensures { λ r. ⌜ r ≡ eqb (kind % 2) 1 ⌝ }
 {
     kind % 2 == 1
-}
-
-// 0 if true, else 1.
-pub fn unless(held: bool) -> u32
-    ensures { λ r. ⌜ r ≡ indicator (not held) ⌝ }
-{
-    if held {
-        return 0;
-    }
-    1
 }

@@ -2,17 +2,17 @@
 use mathlib.Core.Path.{_≡_, refl, sym, ap, _∙_}
 use mathlib.Core.Logic.{_≢_, inl, inr}
 use mathlib.Core.Bool.{Bool, true, false, not, _&&_, _||_, false≢true, true≢false}
-use Prim.Native.Nat.{ℕ, zero, suc, _+_, _-_, _*_, _^_, _/_, _%_, _<_}
+use Prim.Native.Nat.{ℕ, zero, suc, _+_, _-_, _*_, _^_, _/_, _%_, _≤_, _<_}
 use native.Mathlib.Nat.{mod-lt, div-self, div-eq-of-lt, mul-mod-left, pow-suc, div-one, div-div-eq-div-mul}
 use native.Mathlib.Decide.{decLt}
 use native.Mathlib.Omega.{arith}
 use lib.Bits.{bitAnd, bitOr, and-shr, or-shr, and-mod, or-mod}
 use lib.Dec.{eqb}
-use lib.Pow.{pow-lt, pow-add, pow-pos, shl-shr}
+use lib.Pow.{pow-lt, pow-add, pow-pos, shl-shr, shl-exact}
 use borrow.Author.Tests.{eqb-true, eq-eqb, ne-eqb}
 use Rattle.logic.specs.Configuration.{inMask}
 use Rattle.logic.proofs.Lists.{or-cases, or-true-left, or-true-right, and-left, and-right, and-true, same-test}
-use Rattle.cells_touch.specs.inner.Hits.{meets}
+use Rattle.cells_touch.specs.inner.Hits.{meets, level}
 
 low-bits : (x : ℕ) → x % 2 ^ 1 ≡ x % 2
 low-bits x = refl
@@ -135,3 +135,11 @@ meets-or a b w = same-test (meets (bitOr a b) w) (meets a w || meets b w)
       | inl x ↦ let r = meets-bit a w x in bit-meets (bitOr a b) w (r .0) (in-or a b (r .0) ∙ or-true-left (inMask a (r .0)) _ (r .1)) (r .2)
       | inr x ↦ let r = meets-bit b w x in bit-meets (bitOr a b) w (r .0) (in-or a b (r .0) ∙ or-true-right (inMask a (r .0)) _ (r .1)) (r .2)
     ])
+
+-- the bit of a variable in every set fits in a word
+pub level-shift : (d : ℕ) → 1229782938247303441 * 2 ^ (d % 4) % 2 ^ 64 ≡ level d
+unfolding level
+level-shift d = let h : d % 4 ≤ 3 = omega arith in shl-exact {a = 1229782938247303441} 61 (d % 4) 64 (omega arith) (omega arith)
+
+pub level-low : (d : ℕ) → level d ≤ 18446744073709551615
+level-low d = let h : level d < 18446744073709551616 = rw (← level-shift d) (mod-lt (1229782938247303441 * 2 ^ (d % 4)) (omega arith)) in omega arith

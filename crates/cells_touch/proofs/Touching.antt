@@ -87,7 +87,7 @@ level-table (suc (suc zero)) h = refl
 level-table (suc (suc (suc d))) h = absurd (omega arith)
 
 others-table : (d : ℕ) → d < 3 → everyPlace 64 (λ j. same (inMask (otherLevels d) j) (not (eqb (j % 4) d))) ≡ true
-unfolding everyPlace same inMask otherLevels
+unfolding everyPlace same inMask otherLevels level
 others-table zero h = refl
 others-table (suc zero) h = refl
 others-table (suc (suc zero)) h = refl

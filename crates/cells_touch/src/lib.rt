@@ -1,6 +1,7 @@
 // Which cells a change touches: one word for a tuple, so that the test of a node is one `and`. Paper 01, section One move.
 use logic::Move;
 use logic::bit;
+use logic::wide;
 ghost use mathlib.Core.Path.{_≡_};
 ghost use Prim.Native.Nat.{_<_};
 ghost use Rattle.cells_touch.specs.inner.Hits.{meets, level, otherLevels, atPort, firstWord, restWord, portWord, variableBits, sizeBit, changeAt, Tells};
@@ -22,30 +23,18 @@ pub fn meet(uses: u64, word: u64) -> bool
     uses & word != 0
 }
 
-// The bit of variable `depth` in every set.
+// The bit of variable `depth` in every set, of its four.
 fn level_of(depth: usize) -> u64
     ensures { λ r. ⌜ r ≡ level depth ⌝ }
 {
-    if depth == 0 {
-        return 0x1111111111111111;
-    }
-    if depth == 1 {
-        return 0x2222222222222222;
-    }
-    0x4444444444444444
+    0x1111111111111111u64 << (depth % 4)
 }
 
-// Every bit but that of variable `depth`, in every set.
+// All the other bits.
 fn other_levels(depth: usize) -> u64
     ensures { λ r. ⌜ r ≡ otherLevels depth ⌝ }
 {
-    if depth == 0 {
-        return 0xeeeeeeeeeeeeeeee;
-    }
-    if depth == 1 {
-        return 0xdddddddddddddddd;
-    }
-    0xbbbbbbbbbbbbbbbb
+    0xffffffffffffffff - level_of(depth)
 }
 
 // The sets that change at port x.
@@ -121,13 +110,6 @@ fn change_at(s: usize, t: usize, p: usize, q: usize) -> Changed
         qsets: sets,
         resized: sizes,
     }
-}
-
-// A field of a move as an index.
-fn wide(x: u32) -> usize
-    ensures { λ r. ⌜ r ≡ x ⌝ }
-{
-    x as usize
 }
 
 // The change that a move makes.

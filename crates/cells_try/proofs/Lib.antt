@@ -1,3 +1,4 @@
 -- Laws.
+pub mod Remaining
 pub mod Rooted
 pub mod Walking

@@ -34,6 +34,7 @@ use Rattle.cells_walk.proofs.Visits.{all-constants, node-here, fits-here, node-
 use Rattle.cells_walk.proofs.Ports.{Reached, reached-first, reached-next, reached-all}
 use Rattle.cells_walk.proofs.Outcomes.{begun-fits, untouched-after, literal-cell, inner-cell, trees-more, trees-none, one-tree, port-more, port-skipped, ports-none}
 use Rattle.cells_try.specs.inner.Walking.{Ready, CellReady, CellGives, TreesReady, TreesGive, PortsReady, PortsSo}
+use Rattle.cells_try.proofs.Remaining.{Remaining, remains-first, remains-next}
 
 width-low : (u d : ℕ) → u ≤ 64 → d ≤ 3 → u ^ d ≤ 262144
 width-low u d l e = le-trans (pow-le-pow-left l d) (pow-le-pow-right (omega arith) e)
@@ -348,28 +349,23 @@ module _ (u sets : ℕ) (c : Changed) (bytes firsts ends uses masks cells : List
       pub gives : CellGives u sets c bytes firsts ends uses masks cells i d place digits word found
       pub joined : Joined add acc found mid
 
-  -- The walk over a forest's trees stands before node j: what the trees from there on come to, all of them come to.
-  pub record Onward (i until d place digits word : ℕ) (add : Bool) (acc : Sum) (j : ℕ) (sum : Sum) : Type 0 where
-    pub late : i ≤ j
-    pub ready : TreesReady u sets c bytes firsts ends uses masks cells j until d place digits word sum
-    pub so : (r : Sum) → TreesGive u sets c bytes firsts ends uses masks cells j until d place digits word add sum r
-        → TreesGive u sets c bytes firsts ends uses masks cells i until d place digits word add acc r
+  -- The walk over a forest's trees stands before node j, with the sum so far.
+  abbrev pub Onward : ℕ → ℕ → ℕ → ℕ → ℕ → ℕ → Bool → Sum → ℕ → Sum → Type 0
+  Onward i until d place digits word add acc j sum =
+      Remaining (λ n s. TreesReady u sets c bytes firsts ends uses masks cells n until d place digits word s)
+      (λ n s r. TreesGive u sets c bytes firsts ends uses masks cells n until d place digits word add s r) i acc j sum
 
   module _ (i until d place digits word : ℕ) (add : Bool) (acc : Sum) where
     pub onward-first : TreesReady u sets c bytes firsts ends uses masks cells i until d place digits word acc
         → Onward i until d place digits word add acc i acc
-    onward-first r = record { late = omega arith; ready = r; so = λ x h. h }
+    onward-first r = remains-first _ _ i acc r
 
     pub onward-next : (j next : ℕ) (sum mid : Sum) → Onward i until d place digits word add acc j sum → j < until → next ≡ getD ends j 0
         → Stepped j until d place digits word add sum mid → (j < next) × Onward i until d place digits word add acc next mid
     onward-next j next sum mid o l nx st =
         let n = next-ready j until d place digits word next nx sum mid (o .ready) (rest-few (mid .changed) _ (st .joined .changed-is)) l in (
           n .0,
-          record {
-            late = omega (arith, o .late, n .0);
-            ready = n .1;
-            so = λ r h. o .so r (trees-give j until d place digits word next nx add sum mid r (st .found) l (st .gives) (st .joined) h);
-          },
+          remains-next _ _ i acc j next sum mid o (n .0) (n .1) (λ r h. trees-give j until d place digits word next nx add sum mid r (st .found) l (st .gives) (st .joined) h),
         )
 
     pub onward-last : (j : ℕ) (sum : Sum) → Onward i until d place digits word add acc j sum → until ≤ j

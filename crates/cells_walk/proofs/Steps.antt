@@ -1,10 +1,10 @@
 -- The arithmetic of the steps: numbers modulo 2^32, the ports of a tuple, a literal afresh. Assumes nothing.
 use mathlib.Core.Path.{_≡_, refl, sym, ap, ap₂, _∙_}
 use mathlib.Core.Logic.{_≢_}
-use mathlib.Core.Bool.{Bool, true, false, cond, not}
+use mathlib.Core.Bool.{false, cond}
 use mathlib.Core.List.{List}
 use Prim.Native.Nat.{ℕ, zero, suc, _+_, _-_, _*_, _^_, _/_, _%_, _≤_, _<_}
-use native.Mathlib.Nat.{pow-suc, pow-zero, mod-eq-of-lt, div-eq-of-lt, add-mul-div-right, add-mul-mod-self-right, mul-assoc, mul-le-mul-right, mul-comm, div-one}
+use native.Mathlib.Nat.{pow-suc, pow-zero, mod-eq-of-lt, div-eq-of-lt, add-mul-div-right, add-mul-mod-self-right, mul-assoc, mul-le-mul, mul-le-mul-right, mul-comm, pow-le-pow-right}
 use native.Mathlib.Omega.{arith}
 use native.Mathlib.Decide.{ℕ-discrete}
 use lib.Dec.{eqb}
@@ -13,14 +13,16 @@ use lib.Seq.{take-all}
 use lib.Pow.{pow-add}
 use borrow.Author.Tests.{eq-eqb, ne-eqb}
 use Rattle.logic.specs.Formula.{Literal, isin, notin, port, size, kindNumber, relationOf}
-use Rattle.logic.specs.Configuration.{indicator, portsIn, configured, inMask, inMasks}
+use Rattle.logic.specs.Configuration.{portsIn, configured, inMask, inMasks}
 use Rattle.logic.specs.Truth.{Tuple, portOf}
-use Rattle.logic.specs.Penalty.{compare, sizePenalty, literalPenalty}
+use Rattle.logic.specs.Penalty.{literalPenalty}
 use Rattle.logic.proofs.Lists.{TupleOf, empty, more}
 use Rattle.logic.proofs.Tables.{length-tuple}
 use Rattle.logic.proofs.Masks.{ports-within}
 use Rattle.logic.proofs.Relations.{relation-of-number}
 use Rattle.table_format.specs.Bytes.{relationByte, aByte, bByte}
+use Rattle.cells_rule.specs.inner.Rule.{rulePenalty, Operands}
+use Rattle.cells_rule.proofs.Rules.{rule-is}
 use Rattle.cells_walk.specs.inner.Visit.{packed, LiteralAt, LiteralReady, MasksSettled}
 use Rattle.cells_walk.specs.inner.Nodes.{LiteralFits}
 
@@ -38,30 +40,32 @@ power-pos : (v : ℕ) → 0 < 256 ^ v
 power-pos zero = rw pow-zero (omega arith)
 power-pos (suc v) = omega (arith, pow-suc 256 v, power-pos v)
 
--- the first three powers, as the code has them
-pub digit-zero : (x v : ℕ) → v ≡ 0 → x % 256 ≡ x / 256 ^ v % 256
-digit-zero x v h = sym (ap (λ (y : ℕ). x / 256 ^ y % 256) h ∙ ap (λ (y : ℕ). y % 256) (div-one x))
+-- a digit has eight bits
+byte-power : (v : ℕ) → 2 ^ (8 * v) ≡ 256 ^ v
+byte-power zero = refl
+byte-power (suc v) =
+    let e : 8 * suc v ≡ 8 * v + 8 = omega arith in
+    ap (λ (x : ℕ). 2 ^ x) e ∙ pow-add 2 (8 * v) 8 ∙ ap (λ (x : ℕ). x * 256) (byte-power v) ∙ sym (pow-suc 256 v)
 
-pub digit-one : (x v : ℕ) → v ≡ 1 → x / 256 % 256 ≡ x / 256 ^ v % 256
-digit-one x v h = sym (ap (λ (y : ℕ). x / 256 ^ y % 256) h)
+pub digit-shift : (x v : ℕ) → x / 2 ^ (8 * v) % 256 ≡ x / 256 ^ v % 256
+digit-shift x v = ap (λ (y : ℕ). x / y % 256) (byte-power v)
 
-pub digit-two : (x v : ℕ) → v ≡ 2 → x / 65536 % 256 ≡ x / 256 ^ v % 256
-digit-two x v h = sym (ap (λ (y : ℕ). x / 256 ^ y % 256) h)
-
-pub port-zero : (x p d : ℕ) → d ≡ 0 → x + p ≡ x + p * 256 ^ d
-port-zero x p d h = sym (ap (λ (y : ℕ). x + p * 256 ^ y) h ∙ (let e : x + p * 1 ≡ x + p = omega arith in e))
-
-pub port-one : (x p d : ℕ) → d ≡ 1 → x + 256 * p ≡ x + p * 256 ^ d
-port-one x p d h = sym (ap (λ (y : ℕ). x + p * 256 ^ y) h ∙ (let e : x + p * 256 ≡ x + 256 * p = omega arith in e))
-
-pub port-two : (x p d : ℕ) → d ≡ 2 → x + 65536 * p ≡ x + p * 256 ^ d
-port-two x p d h = sym (ap (λ (y : ℕ). x + p * 256 ^ y) h ∙ (let e : x + p * 65536 ≡ x + 65536 * p = omega arith in e))
+-- three digits stay below 2^24
+power-low : (d : ℕ) → d ≤ 2 → 256 ^ d ≤ 65536
+power-low d h = pow-le-pow-right {n = 256} (omega arith) {i = d} {j = 2} h
 
 pub digits-low : (d x : ℕ) → d ≤ 2 → x < 256 ^ d → x < 65536
-digits-low zero x h l = omega arith
-digits-low (suc zero) x h l = omega arith
-digits-low (suc (suc zero)) x h l = omega arith
-digits-low (suc (suc (suc d))) x h l = absurd (omega arith)
+digits-low d x h l = omega (arith, power-low d h)
+
+pub port-low : (d p : ℕ) → d ≤ 2 → p < 256 → p * 256 ^ d ≤ 16711680
+port-low d p h l =
+    let k : p ≤ 255 = omega arith in
+    let m : p * 256 ^ d ≤ 255 * 65536 = mul-le-mul k (power-low d h) in
+    m
+
+pub port-shift : (d p : ℕ) → d ≤ 2 → p < 256 → p * 2 ^ (8 * d) % 4294967296 ≡ p * 256 ^ d
+port-shift d p h l =
+    ap (λ (y : ℕ). p * y % 4294967296) (byte-power d) ∙ mod-eq-of-lt (let q : p * 256 ^ d < 4294967296 = omega (arith, port-low d p h l) in q)
 
 -- a port that stands outside is the same digit
 digit-out : (x p v j : ℕ) → (x + p * 256 ^ (v + suc j)) / 256 ^ v % 256 ≡ x / 256 ^ v % 256
@@ -108,48 +112,38 @@ module _ (u sets d kind relation a b : ℕ) (masks : List ℕ) (digits : ℕ) (r
     port-here : (v : ℕ) → v < d → portHere v ≡ portOf e v
     port-here v h = ap (λ (x : ℕ). x / 256 ^ v % 256) (at .digits-are) ∙ port-packed v (omega (arith, ready .ports64)) (at .tuple) h
 
-  pub afresh-in : (r : ℕ) → kind ≡ 5 → r ≡ indicator (not (inMask (getD masks b 0) (portHere a)))
+  -- the rule's penalty is the literal's
+  pub afresh-member : (r : ℕ) → kind ≤ 6 → r ≡ rulePenalty kind relation (inMask (getD masks b 0) (portHere a)) 0 0
       → (l : Literal) (e : Tuple) → LiteralAt u sets d kind relation a b masks digits l e → r ≡ literalPenalty (configured u sets (inMasks masks)) l e
-  unfolding literalPenalty kindNumber aByte bByte LiteralFits inMasks configured
-  afresh-in r k q (isin v S) e at =
-      q ∙ ap₂ (λ (x y : ℕ). indicator (not (inMask (getD masks x 0) y))) (at .b-is) (ap portHere (at .a-is) ∙ port-here (isin v S) e at v (at .fits .0))
-  afresh-in r k q (notin v S) e at = absurd (omega (arith, at .kind-is))
-  afresh-in r k q (port w v x) e at = absurd (omega (arith, at .kind-is))
-  afresh-in r k q (size w S c) e at = absurd (omega (arith, at .kind-is))
+  unfolding Operands kindNumber aByte bByte LiteralFits inMasks configured
+  afresh-member r k q (isin v S) e at =
+      q ∙ rule-is (configured u sets (inMasks masks)) (isin v S) e kind relation (inMask (getD masks b 0) (portHere a)) 0 0
+      (at .kind-is, ap₂ (λ (x y : ℕ). inMask (getD masks x 0) y) (at .b-is) (ap portHere (at .a-is) ∙ port-here (isin v S) e at v (at .fits .0)))
+  afresh-member r k q (notin v S) e at =
+      q ∙ rule-is (configured u sets (inMasks masks)) (notin v S) e kind relation (inMask (getD masks b 0) (portHere a)) 0 0
+      (at .kind-is, ap₂ (λ (x y : ℕ). inMask (getD masks x 0) y) (at .b-is) (ap portHere (at .a-is) ∙ port-here (notin v S) e at v (at .fits .0)))
+  afresh-member r k q (port w v x) e at = absurd (omega (arith, at .kind-is))
+  afresh-member r k q (size w S c) e at = absurd (omega (arith, at .kind-is))
 
-  pub afresh-out : (r : ℕ) → kind ≡ 6 → r ≡ indicator (not (not (inMask (getD masks b 0) (portHere a))))
+  pub afresh-port : (r : ℕ) → kind ≡ 7 → r ≡ rulePenalty kind relation false (portHere a) (portHere b)
       → (l : Literal) (e : Tuple) → LiteralAt u sets d kind relation a b masks digits l e → r ≡ literalPenalty (configured u sets (inMasks masks)) l e
-  unfolding literalPenalty kindNumber aByte bByte LiteralFits inMasks configured
-  afresh-out r k q (isin v S) e at = absurd (omega (arith, at .kind-is))
-  afresh-out r k q (notin v S) e at =
-      q ∙ ap₂ (λ (x y : ℕ). indicator (not (not (inMask (getD masks x 0) y)))) (at .b-is) (ap portHere (at .a-is) ∙ port-here (notin v S) e at v (at .fits .0))
-      ∙ ap indicator (not-not (inMask (getD masks S 0) (portOf e v)))
-    where
-      not-not : (x : Bool) → not (not x) ≡ x
-      not-not true = refl
-      not-not false = refl
-  afresh-out r k q (port w v x) e at = absurd (omega (arith, at .kind-is))
-  afresh-out r k q (size w S c) e at = absurd (omega (arith, at .kind-is))
-
-  pub afresh-port : (r : ℕ) → kind ≡ 7 → r ≡ indicator (not (compare (relationOf relation) (portHere a) (portHere b)))
-      → (l : Literal) (e : Tuple) → LiteralAt u sets d kind relation a b masks digits l e → r ≡ literalPenalty (configured u sets (inMasks masks)) l e
-  unfolding literalPenalty kindNumber relationByte aByte bByte LiteralFits
+  unfolding Operands kindNumber relationByte aByte bByte LiteralFits
   afresh-port r k q (isin v S) e at = absurd (omega (arith, at .kind-is))
   afresh-port r k q (notin v S) e at = absurd (omega (arith, at .kind-is))
   afresh-port r k q (port w v x) e at =
-      q ∙ (λ i. indicator (not (compare ((ap relationOf (at .relation-is) ∙ relation-of-number w) i)
-      ((ap portHere (at .a-is) ∙ port-here (port w v x) e at v (at .fits .0)) i) ((ap portHere (at .b-is) ∙ port-here (port w v x) e at x (at .fits .1)) i))))
+      q ∙ rule-is (configured u sets (inMasks masks)) (port w v x) e kind relation false (portHere a) (portHere b)
+      (at .kind-is, ap relationOf (at .relation-is) ∙ relation-of-number w, ap portHere (at .a-is) ∙ port-here (port w v x) e at v (at .fits .0), ap portHere (at .b-is) ∙ port-here (port w v x) e at x (at .fits .1))
   afresh-port r k q (size w S c) e at = absurd (omega (arith, at .kind-is))
 
-  pub afresh-size : (r : ℕ) → kind ≢ 5 → kind ≢ 6 → kind ≢ 7 → r ≡ sizePenalty (relationOf relation) (portsIn 64 (inMask (getD masks a 0))) b
+  pub afresh-size : (r : ℕ) → 6 < kind → kind ≢ 7 → r ≡ rulePenalty kind relation false (portsIn 64 (inMask (getD masks a 0))) b
       → (l : Literal) (e : Tuple) → LiteralAt u sets d kind relation a b masks digits l e → r ≡ literalPenalty (configured u sets (inMasks masks)) l e
-  unfolding literalPenalty kindNumber relationByte aByte bByte LiteralFits configured inMasks
-  afresh-size r k k′ k″ q (isin v S) e at = absurd (k (at .kind-is))
-  afresh-size r k k′ k″ q (notin v S) e at = absurd (k′ (at .kind-is))
-  afresh-size r k k′ k″ q (port w v x) e at = absurd (k″ (at .kind-is))
-  afresh-size r k k′ k″ q (size w S c) e at =
-      q ∙ (λ i. sizePenalty ((ap relationOf (at .relation-is) ∙ relation-of-number w) i) (portsIn 64 (inMask (getD masks (at .a-is i) 0))) (at .b-is i))
-      ∙ ap (λ (x : ℕ). sizePenalty w x c) (ports-within u 64 (getD masks S 0) (ready .ports64) (ready .within S (at .fits .0)))
+  unfolding Operands kindNumber relationByte aByte bByte LiteralFits configured inMasks
+  afresh-size r k n q (isin v S) e at = absurd (omega (arith, at .kind-is))
+  afresh-size r k n q (notin v S) e at = absurd (omega (arith, at .kind-is))
+  afresh-size r k n q (port w v x) e at = absurd (n (at .kind-is))
+  afresh-size r k n q (size w S c) e at =
+      q ∙ rule-is (configured u sets (inMasks masks)) (size w S c) e kind relation false (portsIn 64 (inMask (getD masks a 0))) b
+      (at .kind-is, ap relationOf (at .relation-is) ∙ relation-of-number w, ap (λ (x : ℕ). portsIn 64 (inMask (getD masks x 0))) (at .a-is) ∙ ports-within u 64 (getD masks S 0) (ready .ports64) (ready .within S (at .fits .0)), at .b-is)
 
 -- the port of a bound variable is below u
 port-of-lt : {u d : ℕ} {e : Tuple} (v : ℕ) → TupleOf u d e → v < d → portOf e v < u
@@ -170,21 +164,21 @@ module _ (u sets d kind relation a b : ℕ) (masks : List ℕ) (digits : ℕ) (m
       ap₂ (λ (x y : ℕ). x / 256 ^ y % 256) (at .digits-are) q ∙ port-packed v (omega (arith, m .ports64)) (at .tuple) h in
       omega (arith, m .ports64)
 
-  member-at : 5 ≤ kind → kind ≤ 6 → (l : Literal) (e : Tuple) → LiteralAt u sets d kind relation a b masks digits l e
+  member-at : kind ≤ 6 → (l : Literal) (e : Tuple) → LiteralAt u sets d kind relation a b masks digits l e
       → (a ≤ 2) × (b < length masks) × (digits / 256 ^ a % 256 < 64)
   unfolding kindNumber aByte bByte LiteralFits
-  member-at h k (isin v S) e at = (
+  member-at k (isin v S) e at = (
     omega (arith, at .a-is, at .fits .0, at .depth3),
     omega (arith, at .b-is, at .fits .1, m .masks-long),
     digit-lt (isin v S) e at v (at .a-is) (at .fits .0),
   )
-  member-at h k (notin v S) e at = (
+  member-at k (notin v S) e at = (
     omega (arith, at .a-is, at .fits .0, at .depth3),
     omega (arith, at .b-is, at .fits .1, m .masks-long),
     digit-lt (notin v S) e at v (at .a-is) (at .fits .0),
   )
-  member-at h k (port r v w) e at = absurd (omega (arith, at .kind-is))
-  member-at h k (size r S c) e at = absurd (omega (arith, at .kind-is))
+  member-at k (port r v w) e at = absurd (omega (arith, at .kind-is))
+  member-at k (size r S c) e at = absurd (omega (arith, at .kind-is))
 
   comparison-at : kind ≡ 7 → (l : Literal) (e : Tuple) → LiteralAt u sets d kind relation a b masks digits l e → (a ≤ 2) × (b ≤ 2)
   unfolding kindNumber aByte bByte LiteralFits
@@ -194,19 +188,19 @@ module _ (u sets d kind relation a b : ℕ) (masks : List ℕ) (digits : ℕ) (m
       (omega (arith, at .a-is, at .fits .0, at .depth3), omega (arith, at .b-is, at .fits .1, at .depth3))
   comparison-at h (size r S c) e at = absurd (omega (arith, at .kind-is))
 
-  size-at : kind ≢ 5 → kind ≢ 6 → kind ≢ 7 → (l : Literal) (e : Tuple) → LiteralAt u sets d kind relation a b masks digits l e → a < length masks
+  size-at : 6 < kind → kind ≢ 7 → (l : Literal) (e : Tuple) → LiteralAt u sets d kind relation a b masks digits l e → a < length masks
   unfolding kindNumber aByte bByte LiteralFits
-  size-at h h′ h″ (isin v S) e at = absurd (h (at .kind-is))
-  size-at h h′ h″ (notin v S) e at = absurd (h′ (at .kind-is))
-  size-at h h′ h″ (port r v w) e at = absurd (h″ (at .kind-is))
-  size-at h h′ h″ (size r S c) e at = omega (arith, at .a-is, at .fits .0, m .masks-long)
+  size-at h n (isin v S) e at = absurd (omega (arith, at .kind-is))
+  size-at h n (notin v S) e at = absurd (omega (arith, at .kind-is))
+  size-at h n (port r v w) e at = absurd (n (at .kind-is))
+  size-at h n (size r S c) e at = omega (arith, at .a-is, at .fits .0, m .masks-long)
 
 module _ {u sets d kind relation a b : ℕ} {masks : List ℕ} {digits : ℕ} (ready : LiteralReady u sets d kind relation a b masks digits) where
-  pub member-ready : 5 ≤ kind → kind ≤ 6 → (a ≤ 2) × (b < length masks) × (digits / 256 ^ a % 256 < 64)
-  member-ready h k = member-at u sets d kind relation a b masks digits (ready .settled) h k (ready .literal) (ready .ports) (ready .at)
+  pub member-ready : kind ≤ 6 → (a ≤ 2) × (b < length masks) × (digits / 256 ^ a % 256 < 64)
+  member-ready k = member-at u sets d kind relation a b masks digits (ready .settled) k (ready .literal) (ready .ports) (ready .at)
 
   pub comparison-ready : kind ≡ 7 → (a ≤ 2) × (b ≤ 2)
   comparison-ready h = comparison-at u sets d kind relation a b masks digits (ready .settled) h (ready .literal) (ready .ports) (ready .at)
 
-  pub size-ready : kind ≢ 5 → kind ≢ 6 → kind ≢ 7 → a < length masks
-  size-ready h h′ h″ = size-at u sets d kind relation a b masks digits (ready .settled) h h′ h″ (ready .literal) (ready .ports) (ready .at)
+  pub size-ready : 6 < kind → kind ≢ 7 → a < length masks
+  size-ready h n = size-at u sets d kind relation a b masks digits (ready .settled) h n (ready .literal) (ready .ports) (ready .at)

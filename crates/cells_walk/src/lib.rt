@@ -1,14 +1,13 @@
 // The steps of a change's walk over the cells: a node's entries in the index, the tuple's ports, literals afresh, the ports to
 // visit. Paper 01, section One move.
+use cells_rule::literal_penalty;
 use cells_sum::After;
-use cells_sum::unless;
 use cells_touch::Changed;
 use cells_touch::meet;
 use cells_touch::rest_word;
 use logic::has_port;
 use logic::mask_size;
-use logic::related;
-use logic::size_penalty;
+use logic::wide;
 use table_format::HEADER;
 use table_format::RECORD;
 use table_format::a_of;
@@ -24,13 +23,6 @@ ghost use Rattle.cells_touch.specs.inner.Hits.{meets, restWord};
 ghost use Rattle.table_format.specs.Bytes.{headerLength, recordLength, kindField};
 ghost use Rattle.cells_walk.specs.inner.Nodes.{recordAt};
 ghost use Rattle.cells_walk.specs.inner.Visit.{LiteralReady, Afresh, RecordReady, RecordAfresh};
-
-// A cell's place as an index; its bound, so that a place may be added.
-fn wide(x: u32) -> usize
-    ensures { λ r. ⌜ (r ≡ x) × (r < 4294967296) ⌝ }
-{
-    x as usize
-}
 
 // A cell's number at a place of its node.
 pub fn cell_at(firsts: &[u32], i: usize, place: usize, cells: &[u32]) -> u32
@@ -79,18 +71,12 @@ pub fn kind_at(table: &[u8], i: usize) -> u8
     kind_of(&table[at..])
 }
 
-// The port of a variable.
+// The port of a variable: eight bits each, the outermost variable lowest.
 fn port_at(digits: u32, variable: u8) -> u32
     requires { ⌜ variable ≤ 2 ⌝ }
-    ensures { λ r. ⌜ r ≡ digits / 256 ^ variable % 256 ⌝ }
+    ensures { λ r. ⌜ (r ≡ digits / 256 ^ variable % 256) × (r ≤ 255) ⌝ }
 {
-    if variable == 0 {
-        return digits % 256;
-    }
-    if variable == 1 {
-        return digits / 256 % 256;
-    }
-    digits / 65536 % 256
+    (digits >> (8 * variable)) % 256
 }
 
 // The digits of a tuple with one more port, below a quantifier at this depth.
@@ -99,13 +85,7 @@ pub fn with_port(digits: u32, depth: usize, x: usize) -> u32
     ensures { λ r. ⌜ r ≡ digits + x * 256 ^ depth ⌝ }
 {
     let port = x as u32;
-    if depth == 0 {
-        return digits + port;
-    }
-    if depth == 1 {
-        return digits + 256 * port;
-    }
-    digits + 65536 * port
+    digits + (port << (8 * depth))
 }
 
 // The mask of a set.
@@ -116,7 +96,7 @@ fn mask_at(masks: &[u64], set: u8) -> u64
     masks[set as usize]
 }
 
-// A literal's penalty at a tuple.
+// A literal's penalty at a tuple: what it asks of the tuple and the masks, given to the rule.
 fn literal_after(
     kind: u8,
     relation: u8,
@@ -131,16 +111,17 @@ fn literal_after(
     requires { ⌜ LiteralReady ports sets depth kind relation a b (now masks) digits ⌝ }
     ensures { λ r. ⌜ Afresh ports sets depth kind relation a b (now (masks .entry)) digits r ⌝ }
 {
-    if kind == 5 {
-        return unless(has_port(mask_at(masks, b), port_at(digits, a)));
-    }
-    if kind == 6 {
-        return unless(!has_port(mask_at(masks, b), port_at(digits, a)));
+    if kind <= 6 {
+        let inside = has_port(mask_at(masks, b), port_at(digits, a));
+        return literal_penalty(kind, relation, inside, 0, 0);
     }
     if kind == 7 {
-        return unless(related(relation, port_at(digits, a), port_at(digits, b)));
+        let x = port_at(digits, a);
+        let y = port_at(digits, b);
+        return literal_penalty(kind, relation, false, x, y);
     }
-    size_penalty(relation, mask_size(mask_at(masks, a)), b as u32)
+    let size = mask_size(mask_at(masks, a));
+    literal_penalty(kind, relation, false, size, b as u32)
 }
 
 // The penalty of literal i at a tuple.

@@ -30,6 +30,7 @@ use Rattle.cells_walk.proofs.Visits.{visit-next, port-visit, port-untouched}
 use Rattle.cells_walk.proofs.Ports.{Reached, reached-first, reached-next, reached-all}
 use Rattle.cells_walk.proofs.Outcomes.{trees-more, one-tree, port-more}
 use Rattle.cells_try.specs.inner.Walking.{Ready, CellReady, CellGives, TreesReady, TreesGive, PortsReady, PortsSo}
+use Rattle.cells_try.proofs.Remaining.{Remaining, remains-first, remains-next}
 use Rattle.cells_try.proofs.Walking.{no-children, here, fits, touched-is, ports-here, trees-here, end-here, rest-few, none-left, next-ready, port-ready, ports-begin, sums, skip-to}
 use Rattle.cells_write.specs.inner.Writing.{CellWrites, TreesWrite, PortsWrite}
 
@@ -420,43 +421,35 @@ module _ (u sets : ℕ) (c : Changed) (bytes firsts ends uses masks : List ℕ) 
       pub all-carried : (every add : Bool) (acc : Sum) (x : ℕ) (r : Sum) (new : List ℕ) → Carried every add acc x r new → u ≤ x → So add u acc r × PortsTo u new
       all-carried every add acc x r new at h = reached-all u c every (λ m. So add m acc r × PortsTo m new) x (at .reached) h
 
-  -- The walk over a forest's trees stands before node j, and the table is `mid`: what the trees from there on come to and write
-  -- there, all of them come to and write in the table at the outset.
-  pub record Ahead (cells : List ℕ) (i until d place digits word : ℕ) (add : Bool) (acc : Sum) (j : ℕ) (sum : Sum) (mid : List ℕ) : Type 0 where
-    pub late : i ≤ j
-    pub ready : TreesReady u sets c bytes firsts ends uses masks mid j until d place digits word sum
-    pub long : length mid ≡ length cells
-    pub so : (r : Sum) (new : List ℕ)
-        → TreesGive u sets c bytes firsts ends uses masks mid j until d place digits word add sum r
-        × TreesWrite u sets c bytes firsts ends uses masks mid j until d place digits word new
-        → TreesGive u sets c bytes firsts ends uses masks cells i until d place digits word add acc r
-        × TreesWrite u sets c bytes firsts ends uses masks cells i until d place digits word new
+  -- The walk over a forest's trees stands before node j, with the sum so far and the table as it is by then.
+  abbrev pub Ahead : List ℕ → ℕ → ℕ → ℕ → ℕ → ℕ → ℕ → Bool → Sum → ℕ → Sum → List ℕ → Type 0
+  Ahead cells i until d place digits word add acc j sum mid =
+      Remaining {S = Sum × List ℕ} {R = Sum × List ℕ}
+      (λ n s. TreesReady u sets c bytes firsts ends uses masks (s .1) n until d place digits word (s .0) × (length (s .1) ≡ length cells))
+      (λ n s r. TreesGive u sets c bytes firsts ends uses masks (s .1) n until d place digits word add (s .0) (r .0)
+      × TreesWrite u sets c bytes firsts ends uses masks (s .1) n until d place digits word (r .1))
+      i (acc, cells) j (sum, mid)
 
   module _ (cells : List ℕ) (i until d place digits word : ℕ) (add : Bool) (acc : Sum) where
     pub ahead-first : TreesReady u sets c bytes firsts ends uses masks cells i until d place digits word acc
         → Ahead cells i until d place digits word add acc i acc cells
-    ahead-first r = record { late = omega arith; ready = r; long = refl; so = λ x new h. h }
+    ahead-first r = remains-first _ _ i (acc, cells) (r, refl)
 
     pub ahead-next : (j next : ℕ) (sum sum′ : Sum) (mid mid′ : List ℕ) → Ahead cells i until d place digits word add acc j sum mid → j < until
         → next ≡ getD ends j 0 → Wrote mid j d place digits word add sum sum′ mid′
         → (j < next) × Ahead cells i until d place digits word add acc next sum′ mid′
     ahead-next j next sum sum′ mid mid′ o l nx w =
-        let n = later-ready mid j until d place digits word next nx sum sum′ mid′ (o .ready) (rest-few (sum′ .changed) _ (w .joined .changed-is)) l (w .fit) (w .long) in (
+        let n = later-ready mid j until d place digits word next nx sum sum′ mid′ (o .ready .0) (rest-few (sum′ .changed) _ (w .joined .changed-is)) l (w .fit) (w .long) in (
           n .0,
-          record {
-            late = omega (arith, o .late, n .0);
-            ready = n .1;
-            long = w .long ∙ o .long;
-            so = λ r new h.
-                o .so r new (later-moved mid j until d place digits word next nx mid′ (w .fit) (w .long) (w .writes) l add sum sum′ r (w .found) new (w .gives) (w .joined) h);
-          },
+          remains-next _ _ i (acc, cells) j next (sum, mid) (sum′, mid′) o (n .0) (n .1, w .long ∙ o .ready .1)
+              (λ r h. later-moved mid j until d place digits word next nx mid′ (w .fit) (w .long) (w .writes) l add sum sum′ (r .0) (w .found) (r .1) (w .gives) (w .joined) h),
         )
 
     pub ahead-last : (j : ℕ) (sum : Sum) (mid : List ℕ) → Ahead cells i until d place digits word add acc j sum mid → until ≤ j
         → TreesGive u sets c bytes firsts ends uses masks cells i until d place digits word add acc sum
         × TreesWrite u sets c bytes firsts ends uses masks cells i until d place digits word mid
     ahead-last j sum mid o h =
-        o .so sum mid (
-          none-left u sets c bytes firsts ends uses masks mid j until d place digits word add sum (o .ready) h,
+        o .so (sum, mid) (
+          none-left u sets c bytes firsts ends uses masks mid j until d place digits word add sum (o .ready .0) h,
           none-written mid j until d place digits word h,
         )

@@ -14,3 +14,4 @@ pub mod Update
 pub mod Zero
 pub mod Lent
 pub mod Within
+pub mod Written

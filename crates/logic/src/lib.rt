@@ -1,12 +1,10 @@
-// The logic of port plans: a move, and small functions on relations, sizes, masks and bits. What a plan means stands in specs/.
+// The logic of port plans: a move, and small functions on masks, bits and numbers. What a plan means stands in specs/.
 // Paper 01, sections Plan table, Penalty and One move.
 ghost use mathlib.Core.Path.{_≡_};
-ghost use Prim.Native.Nat.{_-_, _≤_, _<_, _^_};
-ghost use lib.Dec.{eqb};
-ghost use Rattle.logic.specs.Formula.{relationOf};
+ghost use mathlib.Core.Bool.{not};
+ghost use Prim.Native.Nat.{_≤_, _<_, _^_, min};
 ghost use Rattle.logic.specs.Configuration.{indicator, portsIn, inMask, withinPorts};
 ghost use Rattle.logic.specs.inner.Flip.{flipPort};
-ghost use Rattle.logic.specs.Penalty.{compare, sizePenalty};
 
 // A move as the operator gives it: kind, set S, set T, port p, port q. The fields are wide, so that no value is cut before
 // ground 14 sees it. The same struct at the C boundary, vk_move_record.
@@ -17,55 +15,6 @@ pub struct Move {
     pub t: u32,
     pub p: u32,
     pub q: u32,
-}
-
-// Whether a stands to b in the relation of a number.
-pub fn related(relation: u8, a: u32, b: u32) -> bool
-    ensures { λ r. ⌜ r ≡ compare (relationOf relation) a b ⌝ }
-{
-    match relation {
-        0 => a < b,
-        1 => a <= b,
-        2 => a == b,
-        3 => a != b,
-        4 => b <= a,
-        _ => b < a,
-    }
-}
-
-// a - b, or 0 where b is larger.
-fn excess(a: u32, b: u32) -> u32
-    ensures { λ r. ⌜ r ≡ a - b ⌝ }
-{
-    if b < a {
-        return a - b;
-    }
-    0
-}
-
-// 1 where a and b are equal, else 0.
-fn equal(a: u32, b: u32) -> u32
-    ensures { λ r. ⌜ r ≡ indicator (eqb a b) ⌝ }
-{
-    if a == b {
-        return 1;
-    }
-    0
-}
-
-// The penalty of size s against the constant c.
-pub fn size_penalty(relation: u8, s: u32, c: u32) -> u32
-    requires { ⌜ (s ≤ 64) × (c ≤ 255) ⌝ }
-    ensures { λ r. ⌜ r ≡ sizePenalty (relationOf relation) s c ⌝ }
-{
-    match relation {
-        0 => excess(s + 1, c),
-        1 => excess(s, c),
-        2 => excess(s, c) + excess(c, s),
-        3 => equal(s, c),
-        4 => excess(c, s),
-        _ => excess(c + 1, s),
-    }
 }
 
 // Whether port p is in a mask.
@@ -107,4 +56,41 @@ pub fn bit(at: usize) -> u64
     ensures { λ r. ⌜ r ≡ 2 ^ at ⌝ }
 {
     1u64 << at
+}
+
+// 0 if true, else 1.
+pub fn unless(held: bool) -> u32
+    ensures { λ r. ⌜ r ≡ indicator (not held) ⌝ }
+{
+    if held {
+        return 0;
+    }
+    1
+}
+
+// The lesser of two lengths.
+pub fn lesser(a: usize, b: usize) -> usize
+    ensures { λ r. ⌜ r ≡ min a b ⌝ }
+{
+    if a <= b {
+        return a;
+    }
+    b
+}
+
+// The lesser of two cells.
+pub fn lesser_cell(a: u32, b: u32) -> u32
+    ensures { λ r. ⌜ r ≡ min a b ⌝ }
+{
+    if a <= b {
+        return a;
+    }
+    b
+}
+
+// A number of 32 bits as a place in a slice, with the bound that a sum of two places asks for.
+pub fn wide(x: u32) -> usize
+    ensures { λ r. ⌜ (r ≡ x) × (r < 4294967296) ⌝ }
+{
+    x as usize
 }

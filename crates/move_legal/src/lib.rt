@@ -1,6 +1,7 @@
 // Which moves are legal: grounds 14 and 15. Paper 01, section One move.
 use logic::Move;
 use logic::has_port;
+use logic::wide;
 ghost use mathlib.Core.Path.{_≡_};
 ghost use mathlib.Core.Bool.{not, _&&_};
 ghost use Prim.Native.Nat.{_≤_, _<_};
@@ -64,13 +65,6 @@ pub fn known_move(m: Move, ports: u32, sets: u32) -> bool
     ensures { λ r. ⌜ SaysKnown ports sets m r ⌝ }
 {
     has_fields(m, ports, sets)
-}
-
-// A set of a move as an index.
-pub fn wide(x: u32) -> usize
-    ensures { λ r. ⌜ r ≡ x ⌝ }
-{
-    x as usize
 }
 
 // Whether port p is in set s.

@@ -1,7 +1,7 @@
 // The masks that a legal move leaves. Paper 01, section One move.
 use logic::Move;
 use logic::flip_port;
-use move_legal::wide;
+use logic::wide;
 ghost use mathlib.Core.Path.{_≡_};
 ghost use mathlib.Core.List.{_++_};
 ghost use Prim.Native.Nat.{_≤_, _<_};

@@ -2,21 +2,21 @@ use mathlib.Core.Path.{_≡_, ap, _∙_}
 use Prim.Native.Nat.{ℕ}
 use native.Mathlib.Omega.{arith}
 use borrow.Author.Needs.{needs}
-use Rattle.logic.specs.Formula.{relationOf}
 use Rattle.cells_runs.specs.inner.Ports.{digitAt}
-use Rattle.cells_runs.proofs.Runs.{from-first}
-use Rattle.cells_compare.proofs.Nested.{same-port, second-inner, first-inner, related-cells}
+use Rattle.logic.proofs.Written.{from-first}
+use Rattle.cells_runs.proofs.Runs.{same-cells}
+use Rattle.cells_compare.proofs.Nested.{same-port, second-inner, first-inner}
 use Rattle.cells_compare.proofs.put_comparison.Statement.{statement}
 use Rattle.cells_compare.proofs.put_comparison.Tie as tie
 
-port-penalty-requires : tie.Need-port-penalty-requires
-port-penalty-requires c κs = search needs
+literal-penalty-requires : tie.Need-literal-penalty-requires
+literal-penalty-requires c κs = search needs
 
-port-penalty-requires-2 : tie.Need-port-penalty-requires-2
-port-penalty-requires-2 c κs = search needs
+literal-penalty-requires-2 : tie.Need-literal-penalty-requires-2
+literal-penalty-requires-2 c κs = search needs
 
-port-penalty-requires-3 : tie.Need-port-penalty-requires-3
-port-penalty-requires-3 c κs = search needs
+literal-penalty-requires-3 : tie.Need-literal-penalty-requires-3
+literal-penalty-requires-3 c κs = search needs
 
 put-nested-requires : tie.Need-put-nested-requires
 put-nested-requires c κs =
@@ -27,8 +27,8 @@ same-length c = search needs
 
 returns : tie.Need-returns
 returns c =
-    related-cells _ _ _ _ _ (c .before .before .put-nested .ensures)
-    (λ t. second-inner (relationOf (c .before .before .before .before .before .before .before .before .before .args .relation)) _ _ _ (c .before .before .before .before .before .before .before .port-penalty .ensures) (c .before .before .before .before .before .before .port-penalty2 .ensures) (c .before .before .before .before .before .port-penalty3 .ensures) (digitAt (c .before .before .before .before .before .before .before .before .before .args .ports) (c .before .before .before .before .before .before .before .before .before .args .block) t) (digitAt (c .before .before .before .before .before .before .before .before .before .args .ports) (c .before .before .before .before .before .before .before .before .before .args .other) t))
+    same-cells _ _ _ _ _ (c .before .before .put-nested .ensures)
+    (λ t. second-inner (c .before .before .before .before .before .before .before .before .before .args .relation) _ _ _ (c .before .before .before .before .before .before .before .literal-penalty .ensures) (c .before .before .before .before .before .before .literal-penalty2 .ensures) (c .before .before .before .before .before .literal-penalty3 .ensures) (digitAt (c .before .before .before .before .before .before .before .before .before .args .ports) (c .before .before .before .before .before .before .before .before .before .args .block) t) (digitAt (c .before .before .before .before .before .before .before .before .before .args .ports) (c .before .before .before .before .before .before .before .before .before .args .other) t))
 
 put-nested-requires-2 : tie.Need-put-nested-requires-2
 put-nested-requires-2 c κs =
@@ -39,8 +39,8 @@ same-length-2 c = search needs
 
 returns-2 : tie.Need-returns-2
 returns-2 c =
-    related-cells _ _ _ _ _ (c .before .before .put-nested2 .ensures)
-    (λ t. first-inner (relationOf (c .before .before .before .before .before .before .before .before .before .before .args .relation)) _ _ _ (c .before .before .before .before .before .before .before .before .port-penalty .ensures) (c .before .before .before .before .before .before .before .port-penalty2 .ensures) (c .before .before .before .before .before .before .port-penalty3 .ensures) (digitAt (c .before .before .before .before .before .before .before .before .before .before .args .ports) (c .before .before .before .before .before .before .before .before .before .before .args .block) t) (digitAt (c .before .before .before .before .before .before .before .before .before .before .args .ports) (c .before .before .before .before .before .before .before .before .before .before .args .other) t))
+    same-cells _ _ _ _ _ (c .before .before .put-nested2 .ensures)
+    (λ t. first-inner (c .before .before .before .before .before .before .before .before .before .before .args .relation) _ _ _ (c .before .before .before .before .before .before .before .before .literal-penalty .ensures) (c .before .before .before .before .before .before .before .literal-penalty2 .ensures) (c .before .before .before .before .before .before .literal-penalty3 .ensures) (digitAt (c .before .before .before .before .before .before .before .before .before .before .args .ports) (c .before .before .before .before .before .before .before .before .before .before .args .block) t) (digitAt (c .before .before .before .before .before .before .before .before .before .before .args .ports) (c .before .before .before .before .before .before .before .before .before .before .args .other) t))
 
 put-run-requires : tie.Need-put-run-requires
 put-run-requires c κs = search needs
@@ -51,16 +51,16 @@ same-length-3 c = search needs
 returns-3 : tie.Need-returns-3
 returns-3 c =
     let e : c .before .before .before .before .before .before .before .before .before .before .args .block ≡ c .before .before .before .before .before .before .before .before .before .before .args .other = omega arith in
-    related-cells _ _ _ _ _ (c .before .before .put-run .ensures ∙ from-first _ _ _)
-    (λ t. c .before .before .before .before .before .before .before .port-penalty2 .ensures ∙ same-port (relationOf (c .before .before .before .before .before .before .before .before .before .before .args .relation)) (digitAt (c .before .before .before .before .before .before .before .before .before .before .args .ports) (c .before .before .before .before .before .before .before .before .before .before .args .block) t) (digitAt (c .before .before .before .before .before .before .before .before .before .before .args .ports) (c .before .before .before .before .before .before .before .before .before .before .args .other) t) (ap (λ (x : ℕ). digitAt (c .before .before .before .before .before .before .before .before .before .before .args .ports) x t) e))
+    same-cells _ _ _ _ _ (c .before .before .put-run .ensures ∙ from-first _ _ _)
+    (λ t. c .before .before .before .before .before .before .before .literal-penalty2 .ensures ∙ same-port (c .before .before .before .before .before .before .before .before .before .before .args .relation) (digitAt (c .before .before .before .before .before .before .before .before .before .before .args .ports) (c .before .before .before .before .before .before .before .before .before .before .args .block) t) (digitAt (c .before .before .before .before .before .before .before .before .before .before .args .ports) (c .before .before .before .before .before .before .before .before .before .before .args .other) t) (ap (λ (x : ℕ). digitAt (c .before .before .before .before .before .before .before .before .before .before .args .ports) x t) e))
 
 pub put-comparison-spec : {M : Type 1} → statement M
 put-comparison-spec =
     tie.close
     (tie.spec
-    port-penalty-requires
-    port-penalty-requires-2
-    port-penalty-requires-3
+    literal-penalty-requires
+    literal-penalty-requires-2
+    literal-penalty-requires-3
     put-nested-requires
     same-length
     returns

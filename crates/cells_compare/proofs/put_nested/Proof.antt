@@ -4,7 +4,7 @@ use native.Mathlib.Nat.{add-mod-right, add-div-right, zero-mod}
 use native.Mathlib.Omega.{arith}
 use borrow.Author.Needs.{needs}
 use Rattle.cells_runs.specs.inner.Ports.{digitAt, DigitIs, byOrder}
-use Rattle.cells_runs.proofs.Runs.{Written, start, done, from-first}
+use Rattle.logic.proofs.Written.{Written, start, done, from-first}
 use Rattle.cells_runs.proofs.Rounds.{repeated-is}
 use Rattle.cells_compare.proofs.Nested.{round1, period1, round-ends, both-again, round-more, runs-fit, step-asks, first-digit, round-in-period}
 use Rattle.cells_compare.proofs.put_nested.Statement.{statement}

@@ -1,4 +1,3 @@
-use native.Mathlib.Omega.{arith}
 use borrow.Author.Tests.{eq-eqb, ne-eqb}
 use borrow.Author.Needs.{needs}
 use Rattle.cells_join.specs.inner.Joined.{meet}
@@ -13,15 +12,13 @@ unfolding meet
 returns c =
     rw (eq-eqb _ _ (c .before .if1 .taken)) (c .wrapping-add-u32 .ensures)
 
+lesser-cell-requires : tie.Need-lesser-cell-requires
+lesser-cell-requires c κs = search needs
+
 returns-2 : tie.Need-returns-2
 unfolding meet
 returns-2 c =
-    rw (ne-eqb _ _ (c .before .if1 .left)) (omega arith)
-
-returns-3 : tie.Need-returns-3
-unfolding meet
-returns-3 c =
-    rw (ne-eqb _ _ (c .before .if1 .left)) (omega arith)
+    rw (ne-eqb _ _ (c .before .if1 .left)) (c .lesser-cell .ensures)
 
 pub meet-of-spec : {M : Type 1} → statement M
-meet-of-spec = tie.close (tie.spec wrapping-add-u32-requires returns returns-2 returns-3)
+meet-of-spec = tie.close (tie.spec wrapping-add-u32-requires returns lesser-cell-requires returns-2)

@@ -1,18 +1,17 @@
-use mathlib.Core.Path.{_≡_, refl, sym, ap, _∙_}
-use mathlib.Core.List.{List}
+use mathlib.Core.Path.{_≡_, sym, ap, _∙_}
 use Prim.Native.Nat.{ℕ, _+_, _*_, _≤_, _-_}
 use native.Mathlib.Nat.{mul-one}
 use native.Mathlib.Omega.{arith}
-use lib.ListN.{length, getD, take, drop, set, length-set}
+use lib.ListN.{length}
 use borrow.Author.Needs.{needs}
-use Rattle.logic.specs.Cells.{tabulate}
-use Rattle.cells_join.specs.inner.Joined.{joinAll, merged}
-use Rattle.cells_join.proofs.Prefix.{written, row-within, joinedAt, merge-next}
+use Rattle.logic.proofs.Written.{Written, start, all-first}
+use Rattle.cells_join.specs.inner.Joined.{merged}
+use Rattle.cells_join.proofs.Prefix.{row-within, joinedAt, merge-more}
 use Rattle.cells_join.proofs.merge.Statement.{statement}
 use Rattle.cells_join.proofs.merge.Tie as tie
 
 abbrev Inv-loop : tie.InvT-loop
-Inv-loop join over s at cells₀ t₀ from₀ cells t from = (t ≤ over) × (over ≤ at) × (at + over * s ≤ length cells₀) × (from ≡ at + t * s) × (length cells ≡ length cells₀) × (cells ≡ written (joinedAt join s at cells₀) t cells₀)
+Inv-loop join over s at cells₀ t₀ from₀ cells t from = Written (joinedAt join s at cells₀) 0 over cells₀ cells t × (over ≤ at) × (at + over * s ≤ length cells₀) × (from ≡ at + t * s)
 
 abbrev μ-loop : tie.MeasureT-loop
 μ-loop join over s at cells₀ t₀ from₀ cells t from = over - t
@@ -31,9 +30,8 @@ returns c =
     c .before .before .merge-row .ensures ∙ ap (λ (m : ℕ). merged (c .before .before .before .before .before .before .args .join) (c .before .before .before .before .before .before .args .over) m (c .before .before .before .before .before .before .args .at) (c .before .before .before .before .before .before .args .cells .now)) (sym (c .before .before .before .before .if1 .taken))
 
 loop-holds : tie.Need-loop-holds Inv-loop μ-loop
-unfolding tabulate
 loop-holds c =
-    (omega arith, c .before .before .pre .0, c .before .before .pre .1, omega arith, refl, refl)
+    (start _ _ _ _, c .before .before .pre .0, c .before .before .pre .1, omega arith)
 
 mul-gather : tie.Need-mul-gather Inv-loop μ-loop
 mul-gather c =
@@ -69,13 +67,10 @@ loop-less c =
 
 loop-again : tie.Need-loop-again Inv-loop μ-loop
 loop-again c = (
-  omega arith,
+  merge-more _ _ _ _ _ _ _ _ _ (c .before .before .before .before .loop .inv .0) (omega arith) (c .before .before .before .before .loop .inv .1) (omega arith) (c .before .before .before .before .loop .inv .3) (c .gather .ensures),
   c .before .before .before .before .loop .inv .1,
   c .before .before .before .before .loop .inv .2,
   omega (arith, c .before .before .before .before .loop .inv .3),
-  length-set {A = ℕ} (c .before .before .before .before .loop .cells) (c .before .before .before .before .loop .t) (c .gather .result) ∙ c .before .before .before .before .loop .inv .4,
-  ap (λ (l : List ℕ). set l (c .before .before .before .before .loop .t) (c .gather .result)) (c .before .before .before .before .loop .inv .5) ∙ merge-next (c .before .before .before .before .before .before .before .args .join) (c .before .before .before .before .before .before .before .args .s) (c .before .before .before .before .before .before .before .args .at) (c .before .before .before .before .loop .from) (c .before .before .before .before .loop .t) (c .gather .result) (c .before .before .before .before .before .before .before .args .cells .now) (omega arith) (omega arith) (c .before .before .before .before .loop .inv .3)
-      (c .gather .ensures ∙ ap (λ (l : List ℕ). joinAll (c .before .before .before .before .before .before .before .args .join) (getD l (c .before .before .before .before .loop .t) 0) (take (c .before .before .before .before .before .before .before .args .s) (drop (c .before .before .before .before .loop .from) l))) (c .before .before .before .before .loop .inv .5)),
 )
 
 same-length-2 : tie.Need-same-length-2 Inv-loop μ-loop
@@ -85,7 +80,7 @@ same-length-2 c =
 returns-2 : tie.Need-returns-2 Inv-loop μ-loop
 unfolding merged
 returns-2 c =
-    let e : c .before .loop .t ≡ c .before .before .before .before .args .over = omega arith in c .before .loop .inv .5 ∙ ap (λ (m : ℕ). written (joinedAt (c .before .before .before .before .args .join) (c .before .before .before .before .args .s) (c .before .before .before .before .args .at) (c .before .before .before .before .args .cells .now)) m (c .before .before .before .before .args .cells .now)) e
+    all-first _ _ _ _ _ (c .before .loop .inv .0) (c .loop-test .left)
 
 pub merge-spec : {M : Type 1} → statement M
 merge-spec =

@@ -1,25 +1,23 @@
-use mathlib.Core.Path.{_≡_, refl, ap, _∙_}
-use mathlib.Core.List.{List}
-use Prim.Native.Nat.{ℕ, _+_, _≤_, _-_}
+use mathlib.Core.Path.{_∙_}
+use Prim.Native.Nat.{_+_, _≤_, _-_}
 use native.Mathlib.Omega.{arith}
-use lib.ListN.{length, getD, take, drop, set, length-set}
+use lib.ListN.{length, getD}
 use borrow.Author.Needs.{needs}
-use Rattle.logic.specs.Cells.{tabulate}
-use Rattle.cells_join.specs.inner.Joined.{joinAll, merged}
-use Rattle.cells_join.proofs.Prefix.{written, joinedAt, join-one, merge-next}
+use Rattle.logic.proofs.Written.{Written, start, all-first}
+use Rattle.cells_join.specs.inner.Joined.{merged}
+use Rattle.cells_join.proofs.Prefix.{joinedAt, join-one, merge-more}
 use Rattle.cells_join.proofs.merge_row.Statement.{statement}
 use Rattle.cells_join.proofs.merge_row.Tie as tie
 
 abbrev Inv-loop : tie.InvT-loop
-Inv-loop join over at cells₀ t₀ cells t = (t ≤ over) × (over ≤ at) × (at + over ≤ length cells₀) × (length cells ≡ length cells₀) × (cells ≡ written (joinedAt join 1 at cells₀) t cells₀)
+Inv-loop join over at cells₀ t₀ cells t = Written (joinedAt join 1 at cells₀) 0 over cells₀ cells t × (over ≤ at) × (at + over ≤ length cells₀)
 
 abbrev μ-loop : tie.MeasureT-loop
 μ-loop join over at cells₀ t₀ cells t = over - t
 
 loop-holds : tie.Need-loop-holds Inv-loop μ-loop
-unfolding tabulate
 loop-holds c =
-    (omega arith, c .before .pre .0, c .before .pre .1, refl, refl)
+    (start _ _ _ _, c .before .pre .0, c .before .pre .1)
 
 mul-meet-of : tie.Need-mul-meet-of Inv-loop μ-loop
 mul-meet-of c =
@@ -63,13 +61,10 @@ loop-less c =
 
 loop-again : tie.Need-loop-again Inv-loop μ-loop
 loop-again c = (
-  omega arith,
+  merge-more _ 1 (c .before .before .before .before .before .before .args .at) _ (c .before .before .before .before .before .before .args .at + c .before .before .before .before .loop .t) _ _ _ _ (c .before .before .before .before .loop .inv .0) (omega arith) (omega arith) (omega arith) (omega arith)
+      (c .meet-of .ensures ∙ join-one (c .before .before .before .before .before .before .args .join) (getD (c .before .before .before .before .loop .cells) (c .before .before .before .before .loop .t) 0) (c .before .before .before .before .before .before .args .at + c .before .before .before .before .loop .t) (c .before .before .before .before .loop .cells) (omega arith)),
   c .before .before .before .before .loop .inv .1,
   c .before .before .before .before .loop .inv .2,
-  length-set {A = ℕ} (c .before .before .before .before .loop .cells) (c .before .before .before .before .loop .t) (c .meet-of .result) ∙ c .before .before .before .before .loop .inv .3,
-  ap (λ (l : List ℕ). set l (c .before .before .before .before .loop .t) (c .meet-of .result)) (c .before .before .before .before .loop .inv .4) ∙ merge-next (c .before .before .before .before .before .before .args .join) 1 (c .before .before .before .before .before .before .args .at) (c .before .before .before .before .before .before .args .at + c .before .before .before .before .loop .t) (c .before .before .before .before .loop .t) (c .meet-of .result) (c .before .before .before .before .before .before .args .cells .now) (omega arith) (omega arith) (omega arith)
-      (c .meet-of .ensures ∙ join-one (c .before .before .before .before .before .before .args .join) (getD (c .before .before .before .before .loop .cells) (c .before .before .before .before .loop .t) 0) (c .before .before .before .before .before .before .args .at + c .before .before .before .before .loop .t) (c .before .before .before .before .loop .cells) (omega arith)
-      ∙ ap (λ (l : List ℕ). joinAll (c .before .before .before .before .before .before .args .join) (getD l (c .before .before .before .before .loop .t) 0) (take 1 (drop (c .before .before .before .before .before .before .args .at + c .before .before .before .before .loop .t) l))) (c .before .before .before .before .loop .inv .4)),
 )
 
 same-length : tie.Need-same-length Inv-loop μ-loop
@@ -79,7 +74,7 @@ same-length c =
 returns : tie.Need-returns Inv-loop μ-loop
 unfolding merged
 returns c =
-    let e : c .before .loop .t ≡ c .before .before .before .args .over = omega arith in c .before .loop .inv .4 ∙ ap (λ (m : ℕ). written (joinedAt (c .before .before .before .args .join) 1 (c .before .before .before .args .at) (c .before .before .before .args .cells .now)) m (c .before .before .before .args .cells .now)) e
+    all-first _ _ _ _ _ (c .before .loop .inv .0) (c .loop-test .left)
 
 pub merge-row-spec : {M : Type 1} → statement M
 merge-row-spec =

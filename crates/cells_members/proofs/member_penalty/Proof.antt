@@ -1,7 +1,4 @@
-use lib.Dec.{eqb}
 use borrow.Author.Needs.{needs}
-use Rattle.cells_runs.specs.inner.Ports.{memberPenalty}
-use Rattle.cells_members.proofs.Penalties.{member-true, member-false}
 use Rattle.cells_members.proofs.member_penalty.Statement.{statement}
 use Rattle.cells_members.proofs.member_penalty.Tie as tie
 
@@ -9,14 +6,12 @@ has-port-requires : tie.Need-has-port-requires
 has-port-requires c κs = search needs
 
 returns : tie.Need-returns
-unfolding memberPenalty
 returns c =
-    rw (← c .before .has-port .ensures) (member-true (c .before .has-port .result) (eqb (c .before .before .args .kind) 5) (c .if1 .taken))
+    rw (← c .before .has-port .ensures, c .if1 .taken)
 
 returns-2 : tie.Need-returns-2
-unfolding memberPenalty
 returns-2 c =
-    rw (← c .before .has-port .ensures) (member-false (c .before .has-port .result) (eqb (c .before .before .args .kind) 5) (c .if1 .left))
+    rw (← c .before .has-port .ensures, c .if1 .left)
 
 pub member-penalty-spec : {M : Type 1} → statement M
 member-penalty-spec = tie.close (tie.spec has-port-requires returns returns-2)

@@ -1,20 +1,22 @@
 use mathlib.Core.Path.{_≡_, sym, ap, _∙_}
+use mathlib.Core.Bool.{cond}
 use Prim.Native.Nat.{ℕ, _+_, _-_, _*_, _≤_}
 use native.Mathlib.Nat.{suc-mul}
 use native.Mathlib.Omega.{arith}
 use borrow.Author.Needs.{needs}
 use Rattle.logic.specs.Configuration.{inMask}
-use Rattle.cells_runs.specs.inner.Ports.{digitAt, memberPenalty}
-use Rattle.cells_runs.proofs.Runs.{Written, start, run-more, from-first}
+use Rattle.cells_runs.specs.inner.Ports.{digitAt}
+use Rattle.logic.proofs.Written.{Written, start, from-first}
+use Rattle.cells_runs.proofs.Runs.{run-more}
 use Rattle.cells_runs.proofs.Rounds.{round-fits, round-port, round-whole, round-all}
 use Rattle.cells_members.proofs.put_round.Statement.{statement}
 use Rattle.cells_members.proofs.put_round.Tie as tie
 
 abbrev Inv-loop : tie.InvT-loop
-Inv-loop kind mask ports block width cells₀ t₀ port₀ cells t port = Written (λ i. memberPenalty kind (inMask mask (digitAt ports block i))) 0 width cells₀ cells t × (t ≡ port * block) × (port ≤ ports)
+Inv-loop inside outside mask ports block width cells₀ t₀ port₀ cells t port = Written (λ i. cond (inMask mask (digitAt ports block i)) inside outside) 0 width cells₀ cells t × (t ≡ port * block) × (port ≤ ports)
 
 abbrev μ-loop : tie.MeasureT-loop
-μ-loop kind mask ports block width cells₀ t₀ port₀ cells t port = width - t
+μ-loop inside outside mask ports block width cells₀ t₀ port₀ cells t port = width - t
 
 put-row-requires : tie.Need-put-row-requires Inv-loop μ-loop
 put-row-requires c κs =
@@ -63,7 +65,7 @@ loop-less c =
 loop-again : tie.Need-loop-again Inv-loop μ-loop
 loop-again c = (
   run-more _ _ _ _ _ _ _ _ (c .before .before .before .before .before .before .before .loop .inv .0) (round-fits (c .before .before .before .before .before .before .before .before .before .before .pre) (c .before .before .before .before .before .before .before .loop .port) (c .before .before .before .before .before .before .before .loop .t) (c .before .before .before .before .before .before .before .loop .inv .1) (c .before .before .before .before .before .before .loop-test .taken)) (c .before .before .before .before .before .before .before .before .before .before .pre .room)
-      (λ i l. c .before .before .before .before .member-penalty .ensures ∙ ap (λ (x : ℕ). memberPenalty (c .before .before .before .before .before .before .before .before .before .before .args .kind) (inMask (c .before .before .before .before .before .before .before .before .before .before .args .mask) x)) (round-port (c .before .before .before .before .before .before .before .before .before .before .args .ports) (c .before .before .before .before .before .before .before .before .before .before .args .block) (c .before .before .before .before .before .before .before .loop .port) i (omega arith) l ∙ ap (λ (x : ℕ). digitAt (c .before .before .before .before .before .before .before .before .before .before .args .ports) (c .before .before .before .before .before .before .before .before .before .before .args .block) (x + i)) (sym (c .before .before .before .before .before .before .before .loop .inv .1))))
+      (λ i l. c .before .before .before .before .member-penalty .ensures ∙ ap (λ (x : ℕ). cond (inMask (c .before .before .before .before .before .before .before .before .before .before .args .mask) x) (c .before .before .before .before .before .before .before .before .before .before .args .inside) (c .before .before .before .before .before .before .before .before .before .before .args .outside)) (round-port (c .before .before .before .before .before .before .before .before .before .before .args .ports) (c .before .before .before .before .before .before .before .before .before .before .args .block) (c .before .before .before .before .before .before .before .loop .port) i (omega arith) l ∙ ap (λ (x : ℕ). digitAt (c .before .before .before .before .before .before .before .before .before .before .args .ports) (c .before .before .before .before .before .before .before .before .before .before .args .block) (x + i)) (sym (c .before .before .before .before .before .before .before .loop .inv .1))))
       (c .before .before .put-run .ensures),
   omega (arith, c .before .before .before .before .before .before .before .loop .inv .1, suc-mul (c .before .before .before .before .before .before .before .loop .port) (c .before .before .before .before .before .before .before .before .before .before .args .block)),
   omega arith,

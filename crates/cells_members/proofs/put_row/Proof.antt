@@ -1,19 +1,20 @@
 use mathlib.Core.Path.{ap, _∙_}
+use mathlib.Core.Bool.{cond}
 use Prim.Native.Nat.{ℕ, _-_}
 use native.Mathlib.Omega.{arith}
 use borrow.Author.Needs.{needs}
 use Rattle.logic.specs.Configuration.{inMask}
-use Rattle.cells_runs.specs.inner.Ports.{digitAt, memberPenalty}
-use Rattle.cells_runs.proofs.Runs.{Written, start, one-more-first, from-first}
+use Rattle.cells_runs.specs.inner.Ports.{digitAt}
+use Rattle.logic.proofs.Written.{Written, start, one-more-first, from-first}
 use Rattle.cells_runs.proofs.Rounds.{row-port, round-row}
 use Rattle.cells_members.proofs.put_row.Statement.{statement}
 use Rattle.cells_members.proofs.put_row.Tie as tie
 
 abbrev Inv-loop : tie.InvT-loop
-Inv-loop kind mask ports width cells₀ row t₀ cells t = Written (λ i. memberPenalty kind (inMask mask (digitAt ports 1 i))) 0 row cells₀ cells t
+Inv-loop inside outside mask ports width cells₀ row t₀ cells t = Written (λ i. cond (inMask mask (digitAt ports 1 i)) inside outside) 0 row cells₀ cells t
 
 abbrev μ-loop : tie.MeasureT-loop
-μ-loop kind mask ports width cells₀ row t₀ cells t = row - t
+μ-loop inside outside mask ports width cells₀ row t₀ cells t = row - t
 
 lesser-requires : tie.Need-lesser-requires Inv-loop μ-loop
 lesser-requires c κs =
@@ -50,7 +51,7 @@ loop-less c =
 loop-again : tie.Need-loop-again Inv-loop μ-loop
 loop-again c =
     one-more-first _ _ _ _ _ _ (c .before .before .loop .inv) (c .before .loop-test .taken) (omega (arith, c .before .before .before .before .before .pre .room, c .before .before .before .lesser .ensures))
-    (c .member-penalty .ensures ∙ ap (λ (x : ℕ). memberPenalty (c .before .before .before .before .before .args .kind) (inMask (c .before .before .before .before .before .args .mask) x)) (row-port (c .before .before .before .before .before .args .ports) (c .before .before .loop .t) (omega (arith, c .before .before .before .lesser .ensures))))
+    (c .member-penalty .ensures ∙ ap (λ (x : ℕ). cond (inMask (c .before .before .before .before .before .args .mask) x) (c .before .before .before .before .before .args .inside) (c .before .before .before .before .before .args .outside)) (row-port (c .before .before .before .before .before .args .ports) (c .before .before .loop .t) (omega (arith, c .before .before .before .lesser .ensures))))
 
 same-length : tie.Need-same-length Inv-loop μ-loop
 same-length c =

@@ -1,9 +1,10 @@
 use mathlib.Core.Path.{_∙_}
-use Prim.Native.Nat.{_-_}
-use lib.ListN.{getD}
+use Prim.Native.Nat.{_-_, _≤_}
+use native.Mathlib.Omega.{arith}
+use lib.ListN.{length, getD}
 use borrow.Author.Needs.{needs}
-use Rattle.cells_runs.proofs.Runs.{Written, start, one-more, done}
-use Rattle.cells_runs.proofs.Rounds.{copy-more, copied}
+use Rattle.logic.proofs.Written.{Written, start, one-more, done, copied}
+use Rattle.cells_runs.proofs.Rounds.{copy-more}
 use Rattle.cells_runs.proofs.copy_first.Statement.{statement}
 use Rattle.cells_runs.proofs.copy_first.Tie as tie
 
@@ -55,7 +56,8 @@ same-length c =
 
 returns : tie.Need-returns Inv-loop μ-loop
 returns c =
-    done _ _ _ _ _ _ (c .before .loop .inv) (c .loop-test .left) ∙ copied _ _ _ (c .before .before .pre .1)
+    let h : c .before .before .args .len ≤ length (c .before .before .args .cells .now) = omega (arith, c .before .before .pre .1) in
+    done _ _ _ _ _ _ (c .before .loop .inv) (c .loop-test .left) ∙ copied (c .before .before .args .to) (c .before .before .args .len) (c .before .before .args .cells .now) (c .before .before .args .cells .now) h
 
 pub copy-first-spec : {M : Type 1} → statement M
 copy-first-spec =

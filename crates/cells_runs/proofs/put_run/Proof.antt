@@ -1,7 +1,7 @@
 use mathlib.Core.Path.{refl}
 use Prim.Native.Nat.{_-_}
 use borrow.Author.Needs.{needs}
-use Rattle.cells_runs.proofs.Runs.{Written, start, one-more, done}
+use Rattle.logic.proofs.Written.{Written, start, one-more, done}
 use Rattle.cells_runs.proofs.put_run.Statement.{statement}
 use Rattle.cells_runs.proofs.put_run.Tie as tie
 

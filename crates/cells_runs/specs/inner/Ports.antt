@@ -1,11 +1,10 @@
 -- The port of a variable from cell to cell, and what the loops over cells ask: internal to the crate.
 use mathlib.Core.Path.{_≡_}
-use mathlib.Core.Bool.{Bool, cond, not}
+use mathlib.Core.Bool.{cond}
 use mathlib.Core.List.{List, _++_}
 use Prim.Native.Nat.{ℕ, _+_, _-_, _*_, _/_, _%_, _^_, _≤_, _<_, min}
 use lib.Dec.{eqb, ltb}
 use lib.ListN.{length, getD, drop}
-use Rattle.logic.specs.Configuration.{indicator}
 use Rattle.logic.specs.Cells.{tabulate}
 use Rattle.cells_runs.specs.declared.Digit.{Digit}
 
@@ -21,10 +20,6 @@ digitAt ports block t = t / block % ports
 pub record DigitIs (ports block t : ℕ) (d : Digit) : Type 0 where
   pub port-is : d .port ≡ digitAt ports block t
   pub left-is : d .left + t % block ≡ block
-
--- "In, not in [..] give 0 if true, else 1", by whether the port is in the set.
-unfoldable pub memberPenalty : ℕ → Bool → ℕ
-memberPenalty kind inside = indicator (cond (eqb kind 5) (not inside) inside)
 
 -- A number by whether port a is less than port b, the same or more.
 unfoldable pub byOrder : ℕ → ℕ → ℕ → ℕ → ℕ → ℕ

@@ -13,14 +13,14 @@ returns : tie.Need-returns
 returns c =
     joined-sum _ _ _ _ (c .before .if1 .taken) (c .with-difference .ensures) (c .before .before .wrapping-add-u32 .ensures)
 
-lesser-requires : tie.Need-lesser-requires
-lesser-requires c κs = search needs
+lesser-cell-requires : tie.Need-lesser-cell-requires
+lesser-cell-requires c κs = search needs
 
 returns-2 : tie.Need-returns-2
 returns-2 c =
-    joined-least _ _ _ _ (c .before .if1 .left) (c .lesser .ensures) (c .before .before .wrapping-add-u32 .ensures)
+    joined-least _ _ _ _ (c .before .if1 .left) (c .lesser-cell .ensures) (c .before .before .wrapping-add-u32 .ensures)
 
 pub join-spec : {M : Type 1} → statement M
 join-spec =
     tie.close
-    (tie.spec wrapping-add-u32-requires with-difference-requires returns lesser-requires returns-2)
+    (tie.spec wrapping-add-u32-requires with-difference-requires returns lesser-cell-requires returns-2)

@@ -3,7 +3,7 @@
 use mathlib.Core.Path.{_≡_}
 use mathlib.Core.Logic.{_≢_}
 use mathlib.Core.Bool.{Bool, true, false, cond, not}
-use Prim.Native.Nat.{ℕ, _+_, _*_, _^_, _≤_, _<_, min, max}
+use Prim.Native.Nat.{ℕ, _+_, _-_, _*_, _^_, _%_, _≤_, _<_, min, max}
 use lib.Bits.{bitAnd, bitOr}
 use lib.Dec.{eqb}
 use Rattle.logic.specs.declared.Move.{Move}
@@ -44,12 +44,12 @@ pub record Says (u : ℕ) (ch : Change) (c : Changed) : Type 0 where
   pub q-high : (S : ℕ) → S < 16 → inMask (c .qsets) (4 * S + 3) ≡ false
   pub resized-low : (S v : ℕ) → S < 16 → v < 3 → inMask (c .resized) (4 * S + v) ≡ false
 
--- The bit of variable d in every set, and all the other bits.
+-- The bit of variable d in every set, of its four, and all the other bits.
 unfoldable pub level : ℕ → ℕ
-level d = cond (eqb d 0) 1229782938247303441 (cond (eqb d 1) 2459565876494606882 4919131752989213764)
+level d = 1229782938247303441 * 2 ^ (d % 4)
 
 unfoldable pub otherLevels : ℕ → ℕ
-otherLevels d = cond (eqb d 0) 17216961135462248174 (cond (eqb d 1) 15987178197214944733 13527612320720337851)
+otherLevels d = 18446744073709551615 - level d
 
 -- The sets that change at port x.
 unfoldable pub atPort : Changed → ℕ → ℕ

@@ -1,83 +1,60 @@
 use native.Mathlib.Omega.{arith}
 use borrow.Author.Needs.{needs}
 use Rattle.cells_walk.specs.inner.Visit.{Afresh}
-use Rattle.cells_walk.proofs.Steps.{afresh-in, afresh-out, afresh-port, afresh-size, member-ready, comparison-ready, size-ready}
+use Rattle.cells_walk.proofs.Steps.{afresh-member, afresh-port, afresh-size, member-ready, comparison-ready, size-ready}
 use Rattle.cells_walk.proofs.literal_after.Statement.{statement}
 use Rattle.cells_walk.proofs.literal_after.Tie as tie
 
 mask-at-requires : tie.Need-mask-at-requires
 mask-at-requires c κs =
-    member-ready (c .before .before .pre) (omega (arith, c .if1 .taken)) (omega (arith, c .if1 .taken)) .1
+    member-ready (c .before .before .pre) (c .if1 .taken) .1
 
 port-at-requires : tie.Need-port-at-requires
 port-at-requires c κs =
-    member-ready (c .before .before .before .pre) (omega (arith, c .before .if1 .taken)) (omega (arith, c .before .if1 .taken)) .0
+    member-ready (c .before .before .before .pre) (c .before .if1 .taken) .0
 
 has-port-requires : tie.Need-has-port-requires
 has-port-requires c κs =
-    rw (c .port-at .ensures) (member-ready (c .before .before .before .before .pre) (omega (arith, c .before .before .if1 .taken)) (omega (arith, c .before .before .if1 .taken)) .2)
+    rw (c .port-at .ensures .0) (member-ready (c .before .before .before .before .pre) (c .before .before .if1 .taken) .2)
 
-unless-requires : tie.Need-unless-requires
-unless-requires c κs = search needs
+literal-penalty-requires : tie.Need-literal-penalty-requires
+literal-penalty-requires c κs = search needs
 
 returns : tie.Need-returns
 unfolding Afresh
 returns c =
-    afresh-in _ _ _ _ _ _ _ _ _ (c .before .before .before .before .before .before .pre .settled) _ (c .before .before .before .before .if1 .taken) (cc)
-
-mask-at-requires-2 : tie.Need-mask-at-requires-2
-mask-at-requires-2 c κs =
-    member-ready (c .before .before .before .pre) (omega (arith, c .if2 .taken)) (omega (arith, c .if2 .taken)) .1
+    afresh-member _ _ _ _ _ _ _ _ _ (c .before .before .before .before .before .before .pre .settled) _ (c .before .before .before .before .if1 .taken) (cc)
 
 port-at-requires-2 : tie.Need-port-at-requires-2
 port-at-requires-2 c κs =
-    member-ready (c .before .before .before .before .pre) (omega (arith, c .before .if2 .taken)) (omega (arith, c .before .if2 .taken)) .0
+    comparison-ready (c .before .before .before .pre) (c .if2 .taken) .0
 
-has-port-requires-2 : tie.Need-has-port-requires-2
-has-port-requires-2 c κs =
-    rw (c .port-at2 .ensures) (member-ready (c .before .before .before .before .before .pre) (omega (arith, c .before .before .if2 .taken)) (omega (arith, c .before .before .if2 .taken)) .2)
+port-at-requires-3 : tie.Need-port-at-requires-3
+port-at-requires-3 c κs =
+    comparison-ready (c .before .before .before .before .pre) (c .before .if2 .taken) .1
 
-unless-requires-2 : tie.Need-unless-requires-2
-unless-requires-2 c κs = search needs
+literal-penalty-requires-2 : tie.Need-literal-penalty-requires-2
+literal-penalty-requires-2 c κs = search needs
 
 returns-2 : tie.Need-returns-2
 unfolding Afresh
 returns-2 c =
-    afresh-out _ _ _ _ _ _ _ _ _ (c .before .before .before .before .before .before .before .pre .settled) _ (c .before .before .before .before .if2 .taken) (cc)
+    afresh-port _ _ _ _ _ _ _ _ _ (c .before .before .before .before .before .before .pre .settled) _ (c .before .before .before .if2 .taken) (cc)
 
-port-at-requires-3 : tie.Need-port-at-requires-3
-port-at-requires-3 c κs =
-    comparison-ready (c .before .before .before .before .pre) (c .if3 .taken) .0
-
-port-at-requires-4 : tie.Need-port-at-requires-4
-port-at-requires-4 c κs =
-    comparison-ready (c .before .before .before .before .before .pre) (c .before .if3 .taken) .1
-
-related-requires : tie.Need-related-requires
-related-requires c κs = search needs
-
-unless-requires-3 : tie.Need-unless-requires-3
-unless-requires-3 c κs = search needs
-
-returns-3 : tie.Need-returns-3
-unfolding Afresh
-returns-3 c =
-    afresh-port _ _ _ _ _ _ _ _ _ (c .before .before .before .before .before .before .before .before .pre .settled) _ (c .before .before .before .before .if3 .taken) (cc)
-
-mask-at-requires-3 : tie.Need-mask-at-requires-3
-mask-at-requires-3 c κs =
-    size-ready (c .before .before .before .before .pre) (c .before .before .if1 .left) (c .before .if2 .left) (c .if3 .left)
+mask-at-requires-2 : tie.Need-mask-at-requires-2
+mask-at-requires-2 c κs =
+    size-ready (c .before .before .before .pre) (c .before .if1 .left) (c .if2 .left)
 
 mask-size-requires : tie.Need-mask-size-requires
 mask-size-requires c κs = search needs
 
-size-penalty-requires : tie.Need-size-penalty-requires
-size-penalty-requires c κs = search needs
+literal-penalty-requires-3 : tie.Need-literal-penalty-requires-3
+literal-penalty-requires-3 c κs = search needs
 
-returns-4 : tie.Need-returns-4
+returns-3 : tie.Need-returns-3
 unfolding Afresh
-returns-4 c =
-    afresh-size _ _ _ _ _ _ _ _ _ (c .before .before .before .before .before .before .before .pre .settled) _ (c .before .before .before .before .before .if1 .left) (c .before .before .before .before .if2 .left) (c .before .before .before .if3 .left) (cc)
+returns-3 c =
+    afresh-size _ _ _ _ _ _ _ _ _ (c .before .before .before .before .before .before .pre .settled) _ (c .before .before .before .before .if1 .left) (c .before .before .before .if2 .left) (cc)
 
 pub literal-after-spec : {M : Type 1} → statement M
 literal-after-spec =
@@ -86,19 +63,13 @@ literal-after-spec =
     mask-at-requires
     port-at-requires
     has-port-requires
-    unless-requires
+    literal-penalty-requires
     returns
-    mask-at-requires-2
     port-at-requires-2
-    has-port-requires-2
-    unless-requires-2
-    returns-2
     port-at-requires-3
-    port-at-requires-4
-    related-requires
-    unless-requires-3
-    returns-3
-    mask-at-requires-3
+    literal-penalty-requires-2
+    returns-2
+    mask-at-requires-2
     mask-size-requires
-    size-penalty-requires
-    returns-4)
+    literal-penalty-requires-3
+    returns-3)

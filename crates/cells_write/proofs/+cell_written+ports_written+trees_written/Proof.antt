@@ -309,7 +309,7 @@ trees-written-loop-holds t c =
 
 trees-written-uses-at-requires : (t : ℕ) → trees-written-lts.Need-uses-at-requires (trees-written-claims t) (trees-written-at t) trees-written.Post trees-written-Inv-loop trees-written-μ-loop
 trees-written-uses-at-requires t c κs =
-    uses-room _ _ _ _ _ _ _ _ _ _ _ _ _ _ (some-left _ _ _ _ _ _ _ _ _ _ _ _ _ _ _ _ (c .before .loop .inv .ready) (c .loop-test .taken))
+    uses-room _ _ _ _ _ _ _ _ _ _ _ _ _ _ (some-left _ _ _ _ _ _ _ _ _ _ _ _ _ _ _ _ (c .before .loop .inv .ready .0) (c .loop-test .taken))
 
 trees-written-meet-requires : (t : ℕ) → trees-written-lts.Need-meet-requires (trees-written-claims t) (trees-written-at t) trees-written.Post trees-written-Inv-loop trees-written-μ-loop
 trees-written-meet-requires t c κs =
@@ -317,7 +317,7 @@ trees-written-meet-requires t c κs =
 
 trees-written-cell-written-requires : (t : ℕ) → trees-written-lts.Need-cell-written-requires (trees-written-claims t) (trees-written-at t) trees-written.Post trees-written-Inv-loop trees-written-μ-loop
 trees-written-cell-written-requires t c κs =
-    (omega (arith, c .before .before .before .before .before .before .before .before .before .before .before .before .pre .0, c .before .before .before .before .before .loop .inv .late), some-left _ _ _ _ _ _ _ _ _ _ _ _ _ _ _ _ (c .before .before .before .before .before .loop .inv .ready) (c .before .before .before .before .loop-test .taken))
+    (omega (arith, c .before .before .before .before .before .before .before .before .before .before .before .before .pre .0, c .before .before .before .before .before .loop .inv .late), some-left _ _ _ _ _ _ _ _ _ _ _ _ _ _ _ _ (c .before .before .before .before .before .loop .inv .ready .0) (c .before .before .before .before .loop-test .taken))
 
 trees-written-join-requires : (t : ℕ) → trees-written-lts.Need-join-requires (trees-written-claims t) (trees-written-at t) trees-written.Post trees-written-Inv-loop trees-written-μ-loop
 trees-written-join-requires t c κs =
@@ -325,7 +325,7 @@ trees-written-join-requires t c κs =
 
 trees-written-kept-requires : (t : ℕ) → trees-written-lts.Need-kept-requires (trees-written-claims t) (trees-written-at t) trees-written.Post trees-written-Inv-loop trees-written-μ-loop
 trees-written-kept-requires t c κs =
-    let r = some-left _ _ _ _ _ _ _ _ _ _ _ _ _ _ _ _ (c .before .before .before .before .before .loop .inv .ready) (c .before .before .before .before .loop-test .taken) in
+    let r = some-left _ _ _ _ _ _ _ _ _ _ _ _ _ _ _ _ (c .before .before .before .before .before .loop .inv .ready .0) (c .before .before .before .before .loop-test .taken) in
     (firsts-room _ _ _ _ _ _ _ _ _ _ _ _ _ _ r, cell-room _ _ _ _ _ _ _ _ _ _ _ _ _ _ r)
 
 trees-written-join-requires-2 : (t : ℕ) → trees-written-lts.Need-join-requires-2 (trees-written-claims t) (trees-written-at t) trees-written.Post trees-written-Inv-loop trees-written-μ-loop
@@ -334,19 +334,19 @@ trees-written-join-requires-2 t c κs =
 
 trees-written-end-at-requires : (t : ℕ) → trees-written-lts.Need-end-at-requires (trees-written-claims t) (trees-written-at t) trees-written.Post trees-written-Inv-loop trees-written-μ-loop
 trees-written-end-at-requires t c κs =
-    ends-room _ _ _ _ _ _ _ _ _ _ _ _ _ _ (some-left _ _ _ _ _ _ _ _ _ _ _ _ _ _ _ _ (c .before .before .before .before .loop .inv .ready) (c .before .before .before .loop-test .taken))
+    ends-room _ _ _ _ _ _ _ _ _ _ _ _ _ _ (some-left _ _ _ _ _ _ _ _ _ _ _ _ _ _ _ _ (c .before .before .before .before .loop .inv .ready .0) (c .before .before .before .loop-test .taken))
 
 trees-written-loop-less : (t : ℕ) → trees-written-lts.Need-loop-less (trees-written-claims t) (trees-written-at t) trees-written.Post trees-written-Inv-loop trees-written-μ-loop
 trees-written-loop-less t c =
-    let n = ahead-next _ _ _ _ _ _ _ _ _ _ _ _ _ _ _ _ _ _ _ _ _ _ _ (c .before .before .before .before .before .loop .inv) (c .before .before .before .before .loop-test .taken) (c .end-at .ensures) (⊎-elim (λ w. wrote-as _ _ _ _ _ _ _ _ _ _ _ _ _ _ _ _ _ _ _ _ (w .6) (w .7) record { found = w .2 .result; gives = w .2 .ensures .0; joined = w .5 .ensures; writes = w .2 .ensures .1; fit = all-fit _ (λ j. w .4 .given j .fits); long = w .2 .kept .1 .1 .1 .1 .1 .0 }) (λ w. wrote-as _ _ _ _ _ _ _ _ _ _ _ _ _ _ _ _ _ _ _ _ (w .4) (w .5) (let g = untouched-moved _ _ _ _ _ _ _ _ _ _ _ _ _ _ _ (c .before .before .before .uses-at .ensures) (sym (c .before .before .meet .ensures) ∙ w .0 .left) _ (gives-untouched _ _ _ _ _ _ _ _ _ _ _ _ _ _ _ _ (w .2 .ensures .0) (c .before .before .before .uses-at .ensures) _ (sym (c .before .before .meet .ensures) ∙ w .0 .left) refl (w .2 .ensures .1) (w .2 .ensures .2)) in record { found = w .2 .result; gives = g .0; joined = w .3 .ensures; writes = g .1; fit = c .before .before .before .before .before .loop .inv .ready .ready .cells-fit; long = refl })) (c .before .if1 .came)) in omega (arith, n .0, c .before .before .before .before .loop-test .taken)
+    let n = ahead-next _ _ _ _ _ _ _ _ _ _ _ _ _ _ _ _ _ _ _ _ _ _ _ (c .before .before .before .before .before .loop .inv) (c .before .before .before .before .loop-test .taken) (c .end-at .ensures) (⊎-elim (λ w. wrote-as _ _ _ _ _ _ _ _ _ _ _ _ _ _ _ _ _ _ _ _ (w .6) (w .7) record { found = w .2 .result; gives = w .2 .ensures .0; joined = w .5 .ensures; writes = w .2 .ensures .1; fit = all-fit _ (λ j. w .4 .given j .fits); long = w .2 .kept .1 .1 .1 .1 .1 .0 }) (λ w. wrote-as _ _ _ _ _ _ _ _ _ _ _ _ _ _ _ _ _ _ _ _ (w .4) (w .5) (let g = untouched-moved _ _ _ _ _ _ _ _ _ _ _ _ _ _ _ (c .before .before .before .uses-at .ensures) (sym (c .before .before .meet .ensures) ∙ w .0 .left) _ (gives-untouched _ _ _ _ _ _ _ _ _ _ _ _ _ _ _ _ (w .2 .ensures .0) (c .before .before .before .uses-at .ensures) _ (sym (c .before .before .meet .ensures) ∙ w .0 .left) refl (w .2 .ensures .1) (w .2 .ensures .2)) in record { found = w .2 .result; gives = g .0; joined = w .3 .ensures; writes = g .1; fit = c .before .before .before .before .before .loop .inv .ready .0 .ready .cells-fit; long = refl })) (c .before .if1 .came)) in omega (arith, n .0, c .before .before .before .before .loop-test .taken)
 
 trees-written-loop-again : (t : ℕ) → trees-written-lts.Need-loop-again (trees-written-claims t) (trees-written-at t) trees-written.Post trees-written-Inv-loop trees-written-μ-loop
 trees-written-loop-again t c =
-    ahead-next _ _ _ _ _ _ _ _ _ _ _ _ _ _ _ _ _ _ _ _ _ _ _ (c .before .before .before .before .before .loop .inv) (c .before .before .before .before .loop-test .taken) (c .end-at .ensures) (⊎-elim (λ w. wrote-as _ _ _ _ _ _ _ _ _ _ _ _ _ _ _ _ _ _ _ _ (w .6) (w .7) record { found = w .2 .result; gives = w .2 .ensures .0; joined = w .5 .ensures; writes = w .2 .ensures .1; fit = all-fit _ (λ j. w .4 .given j .fits); long = w .2 .kept .1 .1 .1 .1 .1 .0 }) (λ w. wrote-as _ _ _ _ _ _ _ _ _ _ _ _ _ _ _ _ _ _ _ _ (w .4) (w .5) (let g = untouched-moved _ _ _ _ _ _ _ _ _ _ _ _ _ _ _ (c .before .before .before .uses-at .ensures) (sym (c .before .before .meet .ensures) ∙ w .0 .left) _ (gives-untouched _ _ _ _ _ _ _ _ _ _ _ _ _ _ _ _ (w .2 .ensures .0) (c .before .before .before .uses-at .ensures) _ (sym (c .before .before .meet .ensures) ∙ w .0 .left) refl (w .2 .ensures .1) (w .2 .ensures .2)) in record { found = w .2 .result; gives = g .0; joined = w .3 .ensures; writes = g .1; fit = c .before .before .before .before .before .loop .inv .ready .ready .cells-fit; long = refl })) (c .before .if1 .came)) .1
+    ahead-next _ _ _ _ _ _ _ _ _ _ _ _ _ _ _ _ _ _ _ _ _ _ _ (c .before .before .before .before .before .loop .inv) (c .before .before .before .before .loop-test .taken) (c .end-at .ensures) (⊎-elim (λ w. wrote-as _ _ _ _ _ _ _ _ _ _ _ _ _ _ _ _ _ _ _ _ (w .6) (w .7) record { found = w .2 .result; gives = w .2 .ensures .0; joined = w .5 .ensures; writes = w .2 .ensures .1; fit = all-fit _ (λ j. w .4 .given j .fits); long = w .2 .kept .1 .1 .1 .1 .1 .0 }) (λ w. wrote-as _ _ _ _ _ _ _ _ _ _ _ _ _ _ _ _ _ _ _ _ (w .4) (w .5) (let g = untouched-moved _ _ _ _ _ _ _ _ _ _ _ _ _ _ _ (c .before .before .before .uses-at .ensures) (sym (c .before .before .meet .ensures) ∙ w .0 .left) _ (gives-untouched _ _ _ _ _ _ _ _ _ _ _ _ _ _ _ _ (w .2 .ensures .0) (c .before .before .before .uses-at .ensures) _ (sym (c .before .before .meet .ensures) ∙ w .0 .left) refl (w .2 .ensures .1) (w .2 .ensures .2)) in record { found = w .2 .result; gives = g .0; joined = w .3 .ensures; writes = g .1; fit = c .before .before .before .before .before .loop .inv .ready .0 .ready .cells-fit; long = refl })) (c .before .if1 .came)) .1
 
 trees-written-same-length : (t : ℕ) → trees-written-lts.Need-same-length (trees-written-claims t) (trees-written-at t) trees-written.Post trees-written-Inv-loop trees-written-μ-loop
 trees-written-same-length t c =
-    c .before .loop .inv .long
+    c .before .loop .inv .ready .1
 
 trees-written-returns : (t : ℕ) → trees-written-lts.Need-returns (trees-written-claims t) (trees-written-at t) trees-written.Post trees-written-Inv-loop trees-written-μ-loop
 trees-written-returns t c =

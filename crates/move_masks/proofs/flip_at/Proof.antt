@@ -25,7 +25,7 @@ same-length c = search needs
 
 returns : tie.Need-returns
 returns c =
-    rw (c .flip-port .ensures, c .before .before .wide .ensures)
+    rw (c .flip-port .ensures, c .before .before .wide .ensures .0)
 
 pub flip-at-spec : {M : Type 1} → statement M
 flip-at-spec =

@@ -2,11 +2,11 @@ use mathlib.Core.Path.{ap₂}
 use Prim.Native.Nat.{_+_}
 use native.Mathlib.Omega.{arith}
 use borrow.Author.Needs.{needs}
 use Rattle.logic.specs.Formula.{relationOf}
 use Rattle.logic.specs.Penalty.{sizePenalty}
 use Rattle.logic.proofs.Relations.{relation-high}
-use Rattle.logic.proofs.size_penalty.Statement.{statement}
-use Rattle.logic.proofs.size_penalty.Tie as tie
+use Rattle.cells_rule.proofs.size_penalty.Statement.{statement}
+use Rattle.cells_rule.proofs.size_penalty.Tie as tie
 
 add-excess : tie.Need-add-excess
 add-excess c = search needs

@@ -1,9 +1,9 @@
 use native.Mathlib.Omega.{arith}
 use Rattle.logic.specs.Formula.{relationOf}
 use Rattle.logic.specs.Penalty.{compare}
 use Rattle.logic.proofs.Relations.{relation-high}
-use Rattle.logic.proofs.related.Statement.{statement}
-use Rattle.logic.proofs.related.Tie as tie
+use Rattle.cells_rule.proofs.related.Statement.{statement}
+use Rattle.cells_rule.proofs.related.Tie as tie
 
 returns : tie.Need-returns
 unfolding relationOf compare

@@ -1,9 +1,9 @@
 use mathlib.Core.Path.{sym, ap}
 use mathlib.Core.Bool.{Bool, cond}
 use borrow.Author.Tests.{eq-eqb, ne-eqb}
 use Rattle.logic.specs.Configuration.{indicator}
-use Rattle.logic.proofs.equal.Statement.{statement}
-use Rattle.logic.proofs.equal.Tie as tie
+use Rattle.cells_rule.proofs.equal.Statement.{statement}
+use Rattle.cells_rule.proofs.equal.Tie as tie
 
 returns : tie.Need-returns
 unfolding indicator

@@ -1,7 +1,7 @@
 use mathlib.Core.Path.{refl}
 use Rattle.logic.specs.Configuration.{indicator}
-use Rattle.cells_sum.proofs.unless.Statement.{statement}
-use Rattle.cells_sum.proofs.unless.Tie as tie
+use Rattle.logic.proofs.unless.Statement.{statement}
+use Rattle.logic.proofs.unless.Tie as tie
 
 returns : tie.Need-returns
 unfolding indicator
