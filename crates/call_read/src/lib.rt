@@ -1,7 +1,6 @@
 // The call read: a plan's text to its plan table. Paper 01, sections Plan text and Grounds for refusal.
 use contracts::Answer;
-use table_format::HEADER;
-use table_format::RECORD;
+use table_format::table_bytes;
 use text_emit::write_plan;
 use text_grounds::core_answer;
 use text_parse::parse;
@@ -44,7 +43,7 @@ fn finish(u: u8, t: &[u16], e: usize, letters: &[u8], n: usize, table: &mut [u8]
         return Answer::Refused(c.refused);
     }
     let nodes = c.nodes as usize;
-    if table.len() < HEADER + RECORD * nodes {
+    if table.len() < table_bytes(sets.len(), nodes) {
         return Answer::Refused(12);
     }
     write_plan(u, sets, t, e, nodes, table);

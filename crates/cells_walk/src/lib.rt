@@ -9,11 +9,10 @@ use logic::has_port;
 use logic::mask_size;
 use logic::related;
 use logic::size_penalty;
-use table_format::HEADER;
-use table_format::RECORD;
 use table_format::a_of;
 use table_format::b_of;
 use table_format::kind_of;
+use table_format::record_at;
 use table_format::relation_of;
 ghost use mathlib.Core.Path.{_≡_};
 ghost use mathlib.Core.Bool.{cond, not, _&&_, _||_};
@@ -21,8 +20,7 @@ ghost use Prim.Native.Nat.{_+_, _*_, _/_, _%_, _^_, _≤_, _<_};
 ghost use lib.Dec.{leb, ltb};
 ghost use lib.ListN.{length, getD};
 ghost use Rattle.cells_touch.specs.inner.Hits.{meets, restWord};
-ghost use Rattle.table_format.specs.Bytes.{headerLength, recordLength, kindField};
-ghost use Rattle.cells_walk.specs.inner.Nodes.{recordAt};
+ghost use Rattle.table_format.specs.Bytes.{recordLength, kindField, recordsOf, recordAt};
 ghost use Rattle.cells_walk.specs.inner.Visit.{LiteralReady, Afresh, RecordReady, RecordAfresh};
 
 fn wide(x: u32) -> usize
@@ -68,11 +66,10 @@ pub fn uses_at(uses: &[u64], i: usize) -> u64
 }
 
 pub fn kind_at(table: &[u8], i: usize) -> u8
-    requires { ⌜ headerLength + recordLength * i + recordLength ≤ length (now table) ⌝ }
+    requires { ⌜ recordLength * i + recordLength ≤ length (recordsOf (now table)) ⌝ }
     ensures { λ r. ⌜ r ≡ kindField (recordAt (now (table .entry)) i) ⌝ }
 {
-    let at = HEADER + RECORD * i;
-    kind_of(&table[at..])
+    kind_of(record_at(table, i))
 }
 
 // The port of a variable.
@@ -151,8 +148,7 @@ pub fn literal_at(
     requires { ⌜ RecordReady ports sets depth (now table) i (now masks) digits ⌝ }
     ensures { λ r. ⌜ RecordAfresh ports sets depth (now (table .entry)) i (now (masks .entry)) digits r ⌝ }
 {
-    let at = HEADER + RECORD * i;
-    let part = &table[at..];
+    let part = record_at(table, i);
     literal_after(
         kind_of(part),
         relation_of(part),
