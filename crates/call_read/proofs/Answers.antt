@@ -1,16 +1,14 @@
 -- Reading's answer in each of its cases. Assumes nothing.
-use mathlib.Core.Path.{_≡_, sym, ap, ap₂, _∙_}
+use mathlib.Core.Path.{_≡_, sym, ap, _∙_}
 use mathlib.Core.Bool.{Bool, true, false, cond, _&&_}
 use mathlib.Core.List.{List, [], _∷_, _++_}
 use Prim.Native.Nat.{ℕ, suc, _≤_, _<_}
-use native.Mathlib.Omega.{arith}
 use lib.Dec.{leb, ltb}
 use lib.ListN.{length, take}
 use borrow.Author.Tests.{lt-ltb, le-ltb}
 use Rattle.logic.specs.Moves.{Ground, refusal}
 use Rattle.text_tree.specs.Tree.{Tree, tooDeep}
 use Rattle.text_tokens.specs.Tokens.{knownBytes}
-use Rattle.text_tokens.proofs.Laws.{token-moves}
 use Rattle.text_grammar.specs.declared.Syntax.{Syntax}
 use Rattle.text_grammar.specs.Parser.{Result, failed, read, parsed}
 use Rattle.text_grammar.specs.inner.Contract.{Whole}
@@ -19,7 +17,7 @@ use Rattle.text_core.specs.Grounds.{coreGrounds}
 use Rattle.contracts.specs.declared.Answer.{Answer}
 use Rattle.contracts.specs.declared.Answer.the-variants.{Refused}
 use Rattle.contracts.specs.Read.{tableLength, syntaxGrounds, readGrounds, readOr, reads}
-use Rattle.call_read.specs.inner.Contract.{FirstLetters, Kept, SomeText, Finishes}
+use Rattle.call_read.specs.inner.Contract.{Kept, SomeText, Finishes}
 use Rattle.text_core.proofs.Letters.{parsed-lettered}
 use Rattle.contracts.proofs.Grounds.{ports-in}
 
@@ -74,25 +72,22 @@ module _ (u : ℕ) (s B : List ℕ) where
               let g : refusal grounds ≡ rest = in-grammar ∙ ap (λ (b : Bool). cond b 4 rest) d in
               sym ((λ i. readOr (g i) u (e i) B))
 
--- what parsing and gathering leave
-module _ (s t : List ℕ) (r : Syntax) (W : Whole s t r) (letters : List ℕ) (n : ℕ) where
-  pub first-within : r .first ≤ length s
-  first-within = omega (arith, W .first, token-moves s 0 (omega arith) .within)
-
-  pub kept-text : FirstLetters s (r .first) letters n → length letters ≡ 17 → Kept t (r .end) letters n (W .sets) (W .tree)
-  kept-text F l = record {
+-- what parsing leaves
+module _ (s t letters : List ℕ) (r : Syntax) (W : Whole s t letters r) (room : length letters ≡ 17) where
+  kept-text : Kept t (r .end) letters (r .sets) (W .sets) (W .tree)
+  kept-text = record {
     stored = W .stored;
     lettered = parsed-lettered s (W .sets) (W .tree) (W .is);
-    letters-are = F .are ∙ sym (ap₂ (λ (m : ℕ) (x : List ℕ). take m x) (sym l) (W .letters));
+    letters-are = W .kept ∙ ap (λ (m : ℕ). take m (W .sets)) room;
   }
 
-  pub some-text : (u : ℕ) → 1 ≤ u → u ≤ 64 → FirstLetters s (r .first) letters n → length letters ≡ 17 → SomeText u t (r .end) letters n
-  some-text u h g F l = record { ports1 = h; ports64 = g; within = F .within; sets = W .sets; tree = W .tree; kept = kept-text F l }
+  pub some-text : (u : ℕ) → 1 ≤ u → u ≤ 64 → SomeText u t (r .end) letters (r .sets)
+  some-text u h g = record { ports1 = h; ports64 = g; within = W .few; sets = W .sets; tree = W .tree; kept = kept-text }
 
   -- the answer of a text that is in the grammar and not too deep
   pub read-last : (u : ℕ) (B O : List ℕ) (x : Answer) → 1 ≤ u → u ≤ 64 → length s ≤ 4096 → knownBytes s ≡ true → r .deep ≡ false
-      → FirstLetters s (r .first) letters n → length letters ≡ 17 → Finishes u t (r .end) letters n B O x → _≡_ {A = Answer × List ℕ} (x, O) (reads u s B)
+      → Finishes u t (r .end) letters (r .sets) B O x → _≡_ {A = Answer × List ℕ} (x, O) (reads u s B)
   unfolding Finishes
-  read-last u B O x h g short known deep F l E =
-      E (W .sets) (W .tree) (kept-text F l)
+  read-last u B O x h g short known deep E =
+      E (W .sets) (W .tree) kept-text
       ∙ read-rest u s B (ports-in u h g) short known (W .sets) (W .tree) (W .is) (sym (W .deeper) ∙ deep)

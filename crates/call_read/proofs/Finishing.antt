@@ -2,7 +2,7 @@
 use mathlib.Core.Path.{_≡_, refl, sym, ap, _∙_, subst}
 use mathlib.Core.Bool.{Bool, true, false, cond}
 use mathlib.Core.List.{List, [], _∷_, _++_}
-use Prim.Native.Nat.{ℕ, zero, suc, _+_, _*_, _-_, _≤_, _<_}
+use Prim.Native.Nat.{ℕ, zero, suc, _-_, _≤_, _<_}
 use native.Mathlib.Omega.{arith}
 use lib.Dec.{eqb, ltb}
 use lib.ListN.{length, take, drop}
@@ -19,7 +19,7 @@ use Rattle.text_core.specs.inner.Refusal.{coreRefusal}
 use Rattle.text_grounds.specs.inner.Answered.{Answered, Answers}
 use Rattle.text_core.specs.Grounds.{coreGrounds}
 use Rattle.text_grounds.proofs.Answering.{refusal-prefix}
-use Rattle.table_format.specs.Bytes.{headerLength, recordLength, encoding}
+use Rattle.table_format.specs.Bytes.{tableBytes, encoding}
 use Rattle.text_emit.specs.inner.Emits.{PlanReady, WritesPlan}
 use Rattle.contracts.specs.declared.Answer.{Answer}
 use Rattle.contracts.specs.declared.Answer.the-variants.{Accepted, Refused}
@@ -76,16 +76,21 @@ module _ (u : ℕ) (t : List ℕ) (e : ℕ) (letters : List ℕ) (n : ℕ) (S : 
         let w = whole-list sets (p .few) in (w, subst (λ (x : List ℕ). Passing u x a c) w p)
 
     module _ (B : List ℕ) (nodes : ℕ) (same : nodes ≡ c .nodes) where
-      pub finish-short : length B < headerLength + recordLength * nodes → Finishes u t e letters n B B (Refused 12)
+      pub finish-short : length B < tableBytes (length S) nodes → Finishes u t e letters n B B (Refused 12)
       unfolding Finishes readOr refusal tableLength planOf
       finish-short h sets a K =
-          let P = passing-all sets a K .1 in
+          let w = passing-all sets a K in
+          let P = w .1 in
           let count : nodes ≡ nodeCount (coreOf sets a) = same ∙ P .nodes-are in
-          let short : ltb (length B) (headerLength + recordLength * nodeCount (coreOf sets a)) ≡ true = lt-ltb (length B) _ (subst (λ (x : ℕ). length B < headerLength + recordLength * x) count h) in
+          let list : S ≡ sets = own ∙ K .letters-are ∙ w .0 in
+          let short : ltb (length B) (tableBytes (length sets) (nodeCount (coreOf sets a))) ≡ true = lt-ltb (length B) _ (rw (list, count) at h) in
           sym (ap (λ (x : ℕ). readOr x u (read sets a) B)
           (core-then u sets a _ (P .passing) ∙ ap (λ (x : Bool). cond x 12 0) short))
 
-      pub finish-ready : (sets : List ℕ) (a : Tree) → Kept t e letters n sets a → headerLength + recordLength * nodes ≤ length B → PlanReady S nodes B
+      pub finish-few : (sets : List ℕ) (a : Tree) → Kept t e letters n sets a → nodes ≤ 512
+      finish-few sets a K = let P = passing-all sets a K .1 in rw (same ∙ P .nodes-are) (ltb-false 512 _ (P .passing .few-nodes))
+
+      pub finish-ready : (sets : List ℕ) (a : Tree) → Kept t e letters n sets a → tableBytes (length S) nodes ≤ length B → PlanReady S nodes B
       finish-ready sets a K h =
           let w = passing-all sets a K in
           let P = w .1 in
@@ -93,11 +98,11 @@ module _ (u : ℕ) (t : List ℕ) (e : ℕ) (letters : List ℕ) (n : ℕ) (S : 
           record {
             few-sets = rw (own, K .letters-are, w .0) (P .few);
             some = rw count (some-nodes sets a);
-            few = rw count (ltb-false 512 _ (P .passing .few-nodes));
+            few = finish-few sets a K;
             room = h;
           }
 
-      pub finish-accepted : (O : List ℕ) → headerLength + recordLength * nodes ≤ length B → WritesPlan u S t e nodes B O
+      pub finish-accepted : (O : List ℕ) → tableBytes (length S) nodes ≤ length B → WritesPlan u S t e nodes B O
           → Finishes u t e letters n B O (Accepted (c .nodes) (c .cells))
       unfolding Finishes readOr refusal tableLength planOf WritesPlan ground7 ownCells
       finish-accepted O h W sets a K =
@@ -105,8 +110,8 @@ module _ (u : ℕ) (t : List ℕ) (e : ℕ) (letters : List ℕ) (n : ℕ) (S : 
           let P = w .1 in
           let count : nodes ≡ nodeCount (coreOf sets a) = same ∙ P .nodes-are in
           let list : S ≡ sets = own ∙ K .letters-are ∙ w .0 in
-          let fits : ltb (length B) (headerLength + recordLength * nodeCount (coreOf sets a)) ≡ false = le-ltb (length B) _ (subst (λ (x : ℕ). headerLength + recordLength * x ≤ length B) count h) in
-          let bytes : O ≡ encoding (planOf u sets a) ++ drop (headerLength + recordLength * nodeCount (coreOf sets a)) B =
+          let fits : ltb (length B) (tableBytes (length sets) (nodeCount (coreOf sets a))) ≡ false = le-ltb (length B) _ (rw (list, count) at h) in
+          let bytes : O ≡ encoding (planOf u sets a) ++ drop (tableBytes (length sets) (nodeCount (coreOf sets a))) B =
           rw (list, count) at (W a record { stored = K .stored; lettered = K .lettered; shallow = P .passing .quantifiers } (rw list count)) in
           (λ i. (Accepted (P .nodes-are i) (P .cells-are i), bytes i))
           ∙ sym (ap (λ (x : ℕ). readOr x u (read sets a) B) (core-then u sets a _ (P .passing) ∙ ap (λ (x : Bool). cond x 12 0) fits))

@@ -1,4 +1,3 @@
 -- Laws.
 pub mod Answers
 pub mod Finishing
-pub mod Gathering

@@ -1,37 +1,13 @@
 // The call read: a plan's text to its plan table. Paper 01, sections Plan text and Grounds for refusal.
 use contracts::Answer;
-use table_format::HEADER;
-use table_format::RECORD;
+use table_format::table_bytes;
 use text_emit::write_plan;
 use text_grounds::core_answer;
 use text_parse::parse;
-use text_tokens::SET;
 use text_tokens::known_bytes;
-use text_tokens::token_at;
 ghost use mathlib.Core.Path.{_≡_};
-ghost use Prim.Native.Nat.{_≤_};
-ghost use lib.ListN.{length};
 ghost use Rattle.contracts.specs.Read.{reads};
-ghost use Rattle.call_read.specs.inner.Contract.{FirstLetters, SomeText, Finishes};
-
-// The set letters at `at`, as many as there is room for; says how many.
-fn first_letters(text: &[u8], at: usize, letters: &mut [u8]) -> usize
-    requires { ⌜ at ≤ length (now text) ⌝ }
-    ensures { λ r. ⌜ FirstLetters (now (text .entry)) at (now (letters .exit)) r ⌝ }
-{
-    let mut i = at;
-    let mut n: usize = 0;
-    while n < letters.len() {
-        let t = token_at(text, i);
-        if t.kind != SET {
-            return n;
-        }
-        letters[n] = t.value;
-        i = t.next;
-        n += 1;
-    }
-    n
-}
+ghost use Rattle.call_read.specs.inner.Contract.{SomeText, Finishes};
 
 // Tries grounds 5 to 9 and 12 of a text in the grammar, and writes its plan table.
 fn finish(u: u8, t: &[u16], e: usize, letters: &[u8], n: usize, table: &mut [u8]) -> Answer
@@ -44,7 +20,7 @@ fn finish(u: u8, t: &[u16], e: usize, letters: &[u8], n: usize, table: &mut [u8]
         return Answer::Refused(c.refused);
     }
     let nodes = c.nodes as usize;
-    if table.len() < HEADER + RECORD * nodes {
+    if table.len() < table_bytes(sets.len(), nodes) {
         return Answer::Refused(12);
     }
     write_plan(u, sets, t, e, nodes, table);
@@ -71,14 +47,13 @@ pub fn read(u: u64, text: &[u8], table: &mut [u8]) -> Answer
         return Answer::Refused(2);
     }
     let mut tree = [0u16; 8192];
-    let s = parse(text, &mut tree);
+    let mut letters = [0u8; 17];
+    let s = parse(text, &mut tree, &mut letters);
     if !s.ok {
         return Answer::Refused(3);
     }
     if s.deep {
         return Answer::Refused(4);
     }
-    let mut letters = [0u8; 17];
-    let n = first_letters(text, s.first, &mut letters);
-    finish(u as u8, &tree, s.end, &letters, n, table)
+    finish(u as u8, &tree, s.end, &letters, s.sets, table)
 }

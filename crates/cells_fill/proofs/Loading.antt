@@ -15,10 +15,11 @@ use Rattle.logic.specs.Configuration.{Configuration, ownMasks, spelled, allWith
 use Rattle.table_format.specs.Bytes.{recordLength}
 use Rattle.table_format.specs.Rules.{treeCount, arityRule}
 use Rattle.table_format.specs.Decode.{sound, decode}
+use Rattle.table_format.specs.inner.Tests.{belowRoot}
 use Rattle.table_format.proofs.Parts.{span-within}
 use Rattle.table_format.proofs.Bytes.{record-pos}
 use Rattle.table_format.proofs.Encoding.{length-records, decode-sound, one-plan}
-use Rattle.table_format.proofs.Rooted.{belowRoot, rooted, RootedIs, rooted-cells}
+use Rattle.table_format.proofs.Rooted.{rooted, RootedIs, rooted-cells}
 use Rattle.cells_join.specs.inner.Joined.{unitOf, joinAll, joinOf}
 use Rattle.cells_fill.specs.inner.Fill.{startCell, treewise, config, table, FillPlaced, Fills, FillsPlan}
 use Rattle.cells_fill.proofs.Values.{own-cell, table-tree}

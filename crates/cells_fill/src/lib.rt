@@ -4,10 +4,10 @@ use cells_join::merge;
 use cells_join::put_unit;
 use cells_join::spread_of;
 use cells_literals::put_literal;
-use table_format::HEADER;
 use table_format::RECORD;
 use table_format::a_of;
 use table_format::b_of;
+use table_format::below_root;
 use table_format::end_of;
 use table_format::kind_of;
 use table_format::relation_of;
@@ -122,20 +122,7 @@ pub fn fill(table: &[u8], ports: usize, sets: usize, nodes: usize, masks: &[u64]
     requires { ⌜ FillReady (now table) ports sets nodes (now masks) (now cells) ⌝ }
     ensures { λ _. ⌜ FillsPlan (now (table .entry)) (now (masks .entry)) (now (cells .entry)) (now (cells .exit)) ⌝ }
 {
-    let from = HEADER + RECORD;
-    let last = HEADER + RECORD * nodes;
+    let below = below_root(table, nodes);
     put_unit(1, 1, cells);
-    fill_forest(
-        &table[from..last],
-        1,
-        0,
-        ports,
-        sets,
-        0,
-        1,
-        1,
-        1,
-        &masks[0..sets],
-        cells,
-    );
+    fill_forest(below, 1, 0, ports, sets, 0, 1, 1, 1, &masks[0..sets], cells);
 }

@@ -19,14 +19,14 @@ use Rattle.logic.specs.Cells.{placeOf, siblingFirst}
 use Rattle.logic.specs.Change.{Change, touched, modulus, cellOf, renewals}
 use Rattle.logic.proofs.Bound.{LiteralsAtMost, literals-low, ports-in-le}
 use Rattle.logic.proofs.Tables.{place-lt}
-use Rattle.table_format.specs.Bytes.{headerLength, recordLength, kindField, relationField, aField, bField, relationByte, aByte, bByte}
+use Rattle.table_format.specs.Bytes.{recordLength, kindField, relationField, aField, bField, recordsOf, recordAt, relationByte, aByte, bByte}
 use Rattle.table_format.specs.Rules.{treeCount, arityRule}
 use Rattle.cells_touch.specs.declared.Changed.{Changed}
 use Rattle.cells_touch.specs.inner.Hits.{meets, restWord, portWord}
 use Rattle.cells_sum.specs.inner.Walk.{adds, begun, gathered, changes, Joined}
 use Rattle.cells_sum.specs.declared.After.{After}
 use Rattle.cells_sum.specs.declared.Sum.{Sum}
-use Rattle.cells_walk.specs.inner.Nodes.{recordAt, NodeIs, LiteralFits, NodeFits, Fitting}
+use Rattle.cells_walk.specs.inner.Nodes.{NodeIs, LiteralFits, NodeFits, Fitting}
 use Rattle.cells_walk.specs.inner.Visit.{Visit, CellsFit, CellAfter, PortsVisit, PortsAfter, LiteralAt, RecordReady, RecordAfresh, Afresh}
 use Rattle.cells_walk.proofs.KindOf.{adds-kind, Quantifier, Joint, quantifier-of, joint-of, literal-of}
 use Rattle.cells_walk.proofs.Steps.{packed-lt}
@@ -162,7 +162,7 @@ module _ (u sets : ℕ) (c : Changed) (bytes firsts ends uses masks cells : List
       pub cell-room : getD firsts i 0 + place < length cells
       cell-room = room-here u sets (r .change) bytes firsts ends uses cells i (r .node) (r .children) (r .siblings) (r .first) d (r .tuple) place digits word (r .visit) (r .ready .masks-settled .ports1)
 
-      pub record-room : headerLength + recordLength * i + recordLength ≤ length bytes
+      pub record-room : recordLength * i + recordLength ≤ length (recordsOf bytes)
       record-room = node-ready .whole
 
       pub place-low : (place < 262144) × (u ≤ 64)

@@ -3,7 +3,7 @@ use mathlib.Core.Path.{_≡_, sym, ap, ap₂, _∙_, subst}
 use mathlib.Core.Bool.{true}
 use mathlib.Core.List.{List, _∷_, _++_, append-assoc}
 use Prim.Native.Nat.{ℕ, suc, _+_, _*_, _^_, _≤_}
-use native.Mathlib.Nat.{mul-suc, mul-add, zero-add, add-zero, add-assoc}
+use native.Mathlib.Nat.{mul-suc, mul-add, mul-zero, zero-add, add-zero}
 use native.Mathlib.Numerals.{add-one}
 use native.Mathlib.Omega.{arith}
 use lib.Bits.{bitOr}
@@ -16,27 +16,26 @@ use Rattle.logic.specs.inner.Literals.{Every, OfLiteral}
 use Rattle.logic.specs.Cells.{siblingFirst, firstCells}
 use Rattle.logic.proofs.Lists.{and-left, and-right}
 use Rattle.logic.proofs.Tables.{Stands, stands-left, stands-right}
-use Rattle.table_format.specs.Bytes.{headerLength, recordLength, kindField, relationField, aField, bField, recordOf, records, header, encoding}
+use Rattle.table_format.specs.Bytes.{recordLength, kindField, relationField, aField, bField, recordsOf, recordAt, recordOf, records, header, encoding}
 use Rattle.table_format.specs.Rules.{everyNode, arityRule, depthRule, literalRule, innerRule, nodeRule, planRule}
 use Rattle.table_format.specs.Decode.{sound, decode}
 use Rattle.table_format.specs.inner.Index.{ends, nodeUses, forestUses, usesTable, laid}
-use Rattle.table_format.proofs.Bytes.{kind-of-record, relation-of-record, a-of-record, b-of-record, length-record, length-header}
+use Rattle.table_format.proofs.Bytes.{kind-of-record, relation-of-record, a-of-record, b-of-record, length-record, records-of-header}
 use Rattle.table_format.proofs.Encoding.{length-records, decode-sound}
 use Rattle.table_format.proofs.Laid.{length-firsts, length-ends, length-uses}
 use Rattle.table_format.proofs.Rooted.{every-node, RootedIs, is-rooted, rooted-is}
-use Rattle.cells_walk.specs.inner.Nodes.{recordAt, NodeIs, Holds, LiteralFits, Fitting}
+use Rattle.cells_walk.specs.inner.Nodes.{NodeIs, Holds, LiteralFits, Fitting}
 
 -- the record of the node m after another
 record-after : (bytes : List ℕ) (i m : ℕ) → recordAt bytes (i + m) ≡ drop (recordLength * m) (recordAt bytes i)
 unfolding recordAt
 record-after bytes i m =
-    ap (λ (x : ℕ). drop x bytes) (ap (λ (x : ℕ). headerLength + x) (mul-add recordLength i m) ∙ sym (add-assoc headerLength (recordLength * i) (recordLength * m)))
-    ∙ sym (drop-drop (recordLength * m) (headerLength + recordLength * i) bytes)
+    ap (λ (x : ℕ). drop x (recordsOf bytes)) (mul-add recordLength i m) ∙ sym (drop-drop (recordLength * m) (recordLength * i) (recordsOf bytes))
 
 module _ (u : ℕ) (bytes firsts ends′ uses : List ℕ) where
   -- what stands in the tables from node i on
   record Standing (i : ℕ) (f : Forest) (b d p : ℕ) (rest : List ℕ) : Type 0 where
-    start : headerLength + recordLength * i ≤ length bytes
+    start : recordLength * i ≤ length (recordsOf bytes)
     bytes-are : recordAt bytes i ≡ records f i p ++ rest
     firsts-are : Stands firsts i (firstCells u f b d)
     ends-are : Stands ends′ i (ends f i)
@@ -75,9 +74,9 @@ module _ (u : ℕ) (bytes firsts ends′ uses : List ℕ) where
     long = ap length split ∙ length-append (recordOf n p end) later
         ∙ ap₂ _+_ (length-record n p end) (length-append (records c (suc i) i) (records s end p ++ rest) ∙ ap (λ (x : ℕ). x + length (records s end p ++ rest)) (length-records c (suc i) i))
 
-    room : headerLength + recordLength * i + (recordLength + (recordLength * nodeCount c + length (records s end p ++ rest))) ≡ length bytes
+    room : recordLength * i + (recordLength + (recordLength * nodeCount c + length (records s end p ++ rest))) ≡ length (recordsOf bytes)
     unfolding recordAt
-    room = omega (arith, long, length-drop (headerLength + recordLength * i) bytes, st .start)
+    room = omega (arith, long, length-drop (recordLength * i) (recordsOf bytes), st .start)
 
     one-more : recordLength * (i + 1) ≡ recordLength * i + recordLength
     one-more = mul-add recordLength i 1 ∙ ap (λ (x : ℕ). recordLength * i + x) (let e : recordLength * 1 ≡ recordLength = omega arith in e)
@@ -141,14 +140,11 @@ plan-holds bytes firsts ends′ uses P h x y z fs es us =
     let k = nodeCount (P .formula) in
     let w : bytes ≡ header (P .ports) (P .sets) k ++ (records (P .formula) 0 65535 ++ t .rest) =
     t .is ∙ append-assoc (header (P .ports) (P .sets) k) (records (P .formula) 0 65535) (t .rest) in
-    let l : length bytes ≡ headerLength + length (records (P .formula) 0 65535 ++ t .rest) =
-    ap length w ∙ length-append (header (P .ports) (P .sets) k) (records (P .formula) 0 65535 ++ t .rest)
-    ∙ ap (λ (j : ℕ). j + length (records (P .formula) 0 65535 ++ t .rest)) (length-header (P .ports) (P .sets) k) in
-    let zero-records : headerLength + recordLength * 0 ≡ headerLength = omega arith in
+    let own : recordsOf bytes ≡ records (P .formula) 0 65535 ++ t .rest =
+    ap recordsOf w ∙ records-of-header (P .ports) (P .sets) k (records (P .formula) 0 65535 ++ t .rest) in
     holds-standing (P .ports) bytes firsts ends′ uses (P .formula) 0 0 0 65535 (t .rest) record {
-      start = omega (arith, l, zero-records);
-      bytes-are = ap₂ drop zero-records w
-          ∙ drop-at (header (P .ports) (P .sets) k) (records (P .formula) 0 65535 ++ t .rest) headerLength (length-header (P .ports) (P .sets) k);
+      start = omega (arith, mul-zero recordLength);
+      bytes-are = ap₂ drop (mul-zero recordLength) own;
       firsts-are = subst (λ (xs : List ℕ). Stands xs 0 (firstCells (P .ports) (P .formula) 0 0)) (sym fs) (laid-stands x (firstCells (P .ports) (P .formula) 0 0));
       ends-are = subst (λ (xs : List ℕ). Stands xs 0 (ends (P .formula) 0)) (sym es) (laid-stands y (ends (P .formula) 0));
       uses-are = subst (λ (xs : List ℕ). Stands xs 0 (usesTable (P .formula))) (sym us) (laid-stands z (usesTable (P .formula)));

@@ -8,8 +8,7 @@ use native.Mathlib.Nat.{pow-suc, pow-zero, mod-eq-of-lt, div-eq-of-lt, add-mul-d
 use native.Mathlib.Omega.{arith}
 use native.Mathlib.Decide.{ℕ-discrete}
 use lib.Dec.{eqb}
-use lib.ListN.{length, getD, take, drop, length-drop}
-use lib.Seq.{take-all}
+use lib.ListN.{length, getD}
 use lib.Pow.{pow-add}
 use borrow.Author.Tests.{eq-eqb, ne-eqb}
 use Rattle.logic.specs.Formula.{Literal, isin, notin, port, size, kindNumber, relationOf}
@@ -95,13 +94,6 @@ port-packed v h (more {d = d} {p = p} {e = e} k t) l = go (ℕ-discrete v (lengt
         let j = length e - suc v in
         let w : length e ≡ v + suc j = omega (arith, length-tuple t) in
         rw (ne-eqb v (length e) n) (ap (λ (x : ℕ). (packed e + p * 256 ^ x) / 256 ^ v % 256) w ∙ digit-out (packed e) p v j ∙ f (omega (arith, length-tuple t)))
-
--- what is lent from a place to the end of a slice
-pub rest-all : (k : ℕ) (l : List ℕ) → take (length l - k) (drop k l) ≡ drop k l
-rest-all k l = take-all (length l - k) (drop k l) (rw (length-drop k l) (omega arith))
-
-pub rest-length : (l : List ℕ) (k m : ℕ) → k + m ≤ length l → m ≤ length (take (length l - k) (drop k l))
-rest-length l k m h = rw (rest-all k l, length-drop k l) (omega arith)
 
 -- which literal a kind says, and its penalty by the numbers that the code reads
 module _ (u sets d kind relation a b : ℕ) (masks : List ℕ) (digits : ℕ) (ready : MasksSettled u sets masks) where

@@ -8,11 +8,10 @@ use cells_touch::rest_word;
 use logic::has_port;
 use logic::mask_size;
 use logic::wide;
-use table_format::HEADER;
-use table_format::RECORD;
 use table_format::a_of;
 use table_format::b_of;
 use table_format::kind_of;
+use table_format::record_at;
 use table_format::relation_of;
 ghost use mathlib.Core.Path.{_≡_};
 ghost use mathlib.Core.Bool.{cond, not, _&&_, _||_};
@@ -20,8 +19,7 @@ ghost use Prim.Native.Nat.{_+_, _*_, _/_, _%_, _^_, _≤_, _<_};
 ghost use lib.Dec.{leb, ltb};
 ghost use lib.ListN.{length, getD};
 ghost use Rattle.cells_touch.specs.inner.Hits.{meets, restWord};
-ghost use Rattle.table_format.specs.Bytes.{headerLength, recordLength, kindField};
-ghost use Rattle.cells_walk.specs.inner.Nodes.{recordAt};
+ghost use Rattle.table_format.specs.Bytes.{recordLength, kindField, recordsOf, recordAt};
 ghost use Rattle.cells_walk.specs.inner.Visit.{LiteralReady, Afresh, RecordReady, RecordAfresh};
 
 // A cell's number at a place of its node.
@@ -64,11 +62,10 @@ pub fn uses_at(uses: &[u64], i: usize) -> u64
 
 // A node's kind.
 pub fn kind_at(table: &[u8], i: usize) -> u8
-    requires { ⌜ headerLength + recordLength * i + recordLength ≤ length (now table) ⌝ }
+    requires { ⌜ recordLength * i + recordLength ≤ length (recordsOf (now table)) ⌝ }
     ensures { λ r. ⌜ r ≡ kindField (recordAt (now (table .entry)) i) ⌝ }
 {
-    let at = HEADER + RECORD * i;
-    kind_of(&table[at..])
+    kind_of(record_at(table, i))
 }
 
 // The port of a variable: eight bits each, the outermost variable lowest.
@@ -137,8 +134,7 @@ pub fn literal_at(
     requires { ⌜ RecordReady ports sets depth (now table) i (now masks) digits ⌝ }
     ensures { λ r. ⌜ RecordAfresh ports sets depth (now (table .entry)) i (now (masks .entry)) digits r ⌝ }
 {
-    let at = HEADER + RECORD * i;
-    let part = &table[at..];
+    let part = record_at(table, i);
     literal_after(
         kind_of(part),
         relation_of(part),

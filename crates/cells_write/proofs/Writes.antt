@@ -15,7 +15,7 @@ use Rattle.logic.specs.Truth.{Tuple}
 use Rattle.logic.specs.Cells.{placeOf, siblingFirst}
 use Rattle.logic.specs.Change.{Change, nodeHit, forestHit, touched, modulus, OldCells, cellOf, newCell}
 use Rattle.logic.proofs.Lists.{or-left, or-right}
-use Rattle.table_format.specs.Bytes.{kindField}
+use Rattle.table_format.specs.Bytes.{kindField, recordAt}
 use Rattle.table_format.specs.Rules.{treeCount}
 use Rattle.cells_touch.specs.declared.Changed.{Changed}
 use Rattle.cells_touch.specs.inner.Hits.{meets, restWord, portWord}
@@ -23,7 +23,6 @@ use Rattle.cells_sum.specs.inner.Walk.{gathered, eachWritten, writtenBelow, wri
 use Rattle.cells_walk.proofs.Frame.{renewals-agree, changes-agree, later-agrees, port-agrees, written-tree, written-port}
 use Rattle.cells_sum.specs.declared.After.{After}
 use Rattle.cells_sum.specs.declared.Sum.{Sum}
-use Rattle.cells_walk.specs.inner.Nodes.{recordAt}
 use Rattle.cells_walk.specs.inner.Visit.{Visit, CellsFit, CellAfter, PortsVisit}
 use Rattle.cells_walk.proofs.KindOf.{quantifier-of, joint-of, literal-of}
 use Rattle.cells_walk.proofs.Visits.{visit-next, port-visit, port-untouched}

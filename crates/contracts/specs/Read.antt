@@ -1,7 +1,7 @@
 -- Reading a text: paper 01, sections Plan text and Grounds for refusal.
 use mathlib.Core.Bool.{true, false, not, _&&_}
 use mathlib.Core.List.{List, [], _∷_, _++_}
-use Prim.Native.Nat.{ℕ, zero, suc, _+_, _*_}
+use Prim.Native.Nat.{ℕ, zero, suc}
 use lib.Dec.{leb, ltb}
 use lib.ListN.{length, drop}
 use Rattle.logic.specs.Formula.{Plan, nodeCount}
@@ -12,7 +12,7 @@ use Rattle.text_tokens.specs.Tokens.{knownBytes}
 use Rattle.text_grammar.specs.Parser.{Result, failed, read, parsed}
 use Rattle.text_core.specs.Core.{planOf}
 use Rattle.text_core.specs.Grounds.{coreGrounds}
-use Rattle.table_format.specs.Bytes.{headerLength, recordLength, encoding}
+use Rattle.table_format.specs.Bytes.{tableBytes, encoding}
 use Rattle.contracts.specs.declared.Answer.{Answer}
 use Rattle.contracts.specs.declared.Answer.the-variants.{Accepted, Refused}
 
@@ -29,9 +29,9 @@ unfoldable pub readTotal : Answer → ℕ
 readTotal (Accepted nodes total) = total
 readTotal (Refused number) = 0
 
--- "Header, 9 bytes"; "Then 8 bytes a node": the length of a plan's table.
+-- "Header, 9 bytes"; "Then 8 bytes a node": the length of a plan's table, by its sets and nodes.
 unfoldable pub tableLength : Plan → ℕ
-tableLength P = headerLength + recordLength * nodeCount (P .formula)
+tableLength P = tableBytes (P .sets) (nodeCount (P .formula))
 
 -- Ground 3, "outside the grammar"; of a text in the grammar, 4 to 9, and 12, "output table too short", for a table of so many bytes.
 unfoldable pub syntaxGrounds : ℕ → ℕ → Result → List Ground

@@ -16,12 +16,13 @@ use Rattle.table_format.specs.Bytes.{recordLength, portsField, setsField, nodes
 use Rattle.table_format.specs.inner.Fields.{Bytes}
 use Rattle.table_format.specs.Rules.{treeCount}
 use Rattle.table_format.specs.inner.Index.{ends, nodeUses, forestUses, usesTable, laid}
+use Rattle.table_format.specs.inner.Tests.{belowRoot}
 use Rattle.table_check.specs.inner.Check.{Placed, Judged, PlanJudged, Room}
 use Rattle.table_format.proofs.Parts.{one-fits, span-within}
 use Rattle.table_format.proofs.Bytes.{record-pos}
 use Rattle.table_format.proofs.Encoding.{decode-complete}
 use Rattle.table_format.proofs.Laid.{same-forest, table-tree, laid-nothing, length-firsts, length-ends, length-uses}
-use Rattle.table_format.proofs.Rooted.{OpenTable, open-table, refused, belowRoot, FrontIs, length-below, rooted, count-below, rooted-cells, rooted-nodes, table-of}
+use Rattle.table_format.proofs.Rooted.{OpenTable, open-table, refused, FrontIs, length-below, rooted, count-below, rooted-cells, rooted-nodes, table-of}
 
 pub refuse-plan : (l : List ℕ) (r : Info) {x y z x′ y′ z′ : List ℕ} → r .ok ≡ false → (OpenTable l → ⊥) → PlanJudged l r x y z x′ y′ z′
 refuse-plan l r e h = record {
@@ -54,9 +55,9 @@ placed-below l f x y z room = record {
 
 -- the numbers as the code reads them
 module _ (l : List ℕ) (f : FrontIs l) (u n K : ℕ) (eu : u ≡ portsField l) (en : n ≡ setsField l) (ek : K ≡ nodesField l) (rc : Checked)
-    (x y z x₁ y₁ z₁ : List ℕ) (judged : Judged (belowRoot l K) 1 0 0 u n 0 1 rc x y z x₁ y₁ z₁) where
+    (part x y z x₁ y₁ z₁ : List ℕ) (lent : part ≡ belowRoot l K) (judged : Judged part 1 0 0 u n 0 1 rc x y z x₁ y₁ z₁) where
   j : Judged (belowRoot l (nodesField l)) 1 0 0 (portsField l) (setsField l) 0 1 rc x y z x₁ y₁ z₁
-  j = rw (eu, en, ek) at judged
+  j = rw (eu, en, lent ∙ ap (belowRoot l) ek) at judged
 
   pub bad-below : rc .ok ≡ false → OpenTable l → ⊥
   bad-below q o = j .refuses q (o .below) (o .parts)

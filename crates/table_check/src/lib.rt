@@ -1,10 +1,10 @@
 // Ground 11: the check of a whole plan table, which fills the index of its nodes (first cell, end, sets used at or below).
 // Paper 01, section Plan table.
-use table_format::HEADER;
 use table_format::MOST_CELLS;
 use table_format::RECORD;
 use table_format::a_of;
 use table_format::b_of;
+use table_format::below_root;
 use table_format::end_of;
 use table_format::kind_of;
 use table_format::nodes_of;
@@ -285,22 +285,8 @@ pub fn check(table: &[u8], firsts: &mut [u32], ends: &mut [u16], uses: &mut [u64
     let ports = ports_of(table);
     let sets = sets_of(table);
     let nodes = nodes_of(table);
-    let from = HEADER + RECORD;
-    let last = HEADER + RECORD * nodes;
-    let c = check_forest(
-        &table[from..last],
-        1,
-        0,
-        0,
-        0,
-        ports,
-        sets,
-        1,
-        1,
-        firsts,
-        ends,
-        uses,
-    );
+    let below = below_root(table, nodes);
+    let c = check_forest(below, 1, 0, 0, 0, ports, sets, 1, 1, firsts, ends, uses);
     if !c.ok {
         return no_plan();
     }

@@ -1,22 +1,29 @@
 -- The layout of the header and of a record: the laws that know which byte is where. Assumes nothing.
-use mathlib.Core.Path.{_≡_, refl, sym, ap, ap₂, _∙_}
+use mathlib.Core.Path.{_≡_, refl, sym, ap, ap₂, _∙_, subst}
 use mathlib.Core.Bool.{true}
 use mathlib.Core.List.{List, [], _∷_, _++_}
-use Prim.Native.Nat.{ℕ, zero, suc, _+_, _/_, _%_, _≤_, _<_}
+use Prim.Native.Nat.{ℕ, zero, suc, _+_, _-_, _*_, _/_, _%_, _≤_, _<_}
 use native.Mathlib.Nat.{add-zero}
 use native.Mathlib.Omega.{arith}
 use lib.Dec.{eqb}
-use lib.ListN.{length, getD, drop, List·getD-append}
-use lib.Seq.{drop-cons, getD-drop}
+use lib.ListN.{length, getD, set, drop, length-drop, List·getD-append}
+use lib.Seq.{drop-cons, drop-at, getD-drop}
 use borrow.Author.Tests.{eqb-true}
 use Rattle.logic.specs.Formula.{Node, kindNumber}
-use Rattle.table_format.specs.Bytes.{headerLength, recordLength, word, wordBytes, kindField, relationField, aField, bField, parentField, endField, marked, versionField, portsField, setsField, nodesField, relationByte, aByte, bByte, recordBytes, recordOf, header}
+use Rattle.table_format.specs.Bytes.{headerLength, recordLength, recordsFrom, recordsOf, recordAt, word, wordBytes, kindField, relationField, aField, bField, parentField, endField, marked, versionField, portsField, setsField, nodesField, relationByte, aByte, bByte, recordBytes, recordOf, header}
 use Rattle.table_format.specs.inner.Fields.{Bytes}
+use Rattle.table_format.specs.inner.Written.{Written}
+use Rattle.table_format.proofs.Writing.{written-then, written-byte}
 use Rattle.table_format.proofs.Conjunctions.{three-true}
 
 pub record-pos : 1 ≤ recordLength
 unfolding recordLength
 record-pos = omega arith
+
+-- the records begin behind the header
+pub header-within : (n : ℕ) → headerLength ≤ recordsFrom n
+unfolding recordsFrom
+header-within n = omega arith
 
 -- a number of 16 bits and its bytes
 word-of-bytes : (x : ℕ) → word (x % 256) (x / 256) ≡ x
@@ -62,8 +69,8 @@ module _ (n : Node) (p e : ℕ) (t : List ℕ) where
   end-of-record = word-of-bytes e
 
 -- the header that a table begins with
-pub length-header : (u n k : ℕ) → length (header u n k) ≡ headerLength
-unfolding header wordBytes headerLength
+pub length-header : (u n k : ℕ) → length (header u n k) ≡ recordsFrom n
+unfolding header wordBytes recordsFrom headerLength
 length-header u n k = refl
 
 module _ (u n k : ℕ) (t : List ℕ) where
@@ -87,7 +94,25 @@ module _ (u n k : ℕ) (t : List ℕ) where
   unfolding nodesField header wordBytes
   nodes-of-header = word-of-bytes k
 
--- the node count of a list that has a whole header
+-- and then the records
+pub records-of-header : (u n k : ℕ) (t : List ℕ) → recordsOf (header u n k ++ t) ≡ t
+unfolding recordsOf
+records-of-header u n k t =
+    ap (λ (x : ℕ). drop (recordsFrom x) (header u n k ++ t)) (sets-of-header u n k t) ∙ drop-at (header u n k) t (recordsFrom n) (length-header u n k)
+
+pub length-records-of : (l : List ℕ) → length (recordsOf l) ≡ length l - recordsFrom (setsField l)
+unfolding recordsOf
+length-records-of l = length-drop (recordsFrom (setsField l)) l
+
+pub record-fits : (l : List ℕ) (i : ℕ) → recordLength * i + recordLength ≤ length (recordsOf l) → recordLength ≤ length (recordAt l i)
+unfolding recordAt
+record-fits l i h = omega (arith, length-drop (recordLength * i) (recordsOf l))
+
+-- the counts of a list that has a whole header
+pub sets-of-front : (l t : List ℕ) → headerLength ≤ length l → setsField (l ++ t) ≡ setsField l
+unfolding setsField headerLength
+sets-of-front l t h = List·getD-append l t 0 6 (omega arith)
+
 pub nodes-of-front : (l t : List ℕ) → headerLength ≤ length l → nodesField (l ++ t) ≡ nodesField l
 unfolding nodesField headerLength
 nodes-of-front l t h = ap₂ word (List·getD-append l t 0 7 (omega arith)) (List·getD-append l t 0 8 (omega arith))
@@ -122,9 +147,9 @@ record-is n p e l b h kind relation a b′ parent end =
     record-split l b h ∙ λ i. recordBytes (kind i) (relation i) (a i) (b′ i) (parent i) (end i) ++ drop recordLength l
 
 -- and a marked one of version 1 with the header of its fields
-pub header-split : (l : List ℕ) → Bytes l → headerLength ≤ length l → marked l ≡ true → versionField l ≡ 1
-    → l ≡ header (portsField l) (setsField l) (nodesField l) ++ drop headerLength l
-unfolding headerLength header wordBytes marked versionField portsField setsField nodesField
+pub header-split : (l : List ℕ) → Bytes l → recordsFrom (setsField l) ≤ length l → marked l ≡ true → versionField l ≡ 1
+    → l ≡ header (portsField l) (setsField l) (nodesField l) ++ recordsOf l
+unfolding recordsOf recordsFrom headerLength header wordBytes marked versionField portsField setsField nodesField
 header-split l b h m v =
     let t = three-true (eqb (getD l 0 0) 80) (eqb (getD l 1 0) 76) (eqb (getD l 2 0) 78) m in
     listed-split 9 0 l h
@@ -133,8 +158,12 @@ header-split l b h m v =
     ∷ low-of-word (getD l 7 0) (getD l 8 0) _ refl (b 7) i ∷ high-of-word (getD l 7 0) (getD l 8 0) _ refl (b 7) i ∷ drop 9 l
 
 -- Lists of bytes.
-pub bytes-drop : (k : ℕ) (l : List ℕ) → Bytes l → Bytes (drop k l)
+bytes-drop : (k : ℕ) (l : List ℕ) → Bytes l → Bytes (drop k l)
 bytes-drop k l b i = rw (getD-drop k l i 0) (b (k + i))
+
+pub records-bytes-of : (l : List ℕ) → Bytes l → Bytes (recordsOf l)
+unfolding recordsOf
+records-bytes-of l b = bytes-drop (recordsFrom (setsField l)) l b
 
 bytes-cons : (x : ℕ) (xs : List ℕ) → x < 256 → Bytes xs → Bytes (x ∷ xs)
 bytes-cons x xs h r zero = h
@@ -173,3 +202,42 @@ header-bytes u n k hu hn hk =
     (bytes-cons 76 (78 ∷ (wordBytes 1 ++ l)) (omega arith)
     (bytes-cons 78 (wordBytes 1 ++ l) (omega arith)
     (bytes-append (wordBytes 1) l (word-bytes 1 (omega arith)) (bytes-cons u (n ∷ wordBytes k) hu (bytes-cons n (wordBytes k) hn (word-bytes k hk))))))
+
+-- a record written field by field, and a header
+module _ (at k r x y parent end : ℕ) (B M O : List ℕ) where
+  abbrev four : List ℕ
+  four = set (set (set (set B (at + 0) k) (at + 1) r) (at + 2) x) (at + 3) y
+
+  pub record-written : Written (at + 4) (wordBytes parent) four M → Written (at + 6) (wordBytes end) M O
+      → Written at (recordBytes k r x y parent end) B O
+  unfolding recordBytes wordBytes
+  record-written P E =
+      let b1 = set B (at + 0) k in
+      let one : Written at (k ∷ []) B b1 = subst (λ (p : ℕ). Written at (k ∷ []) B (set B p k)) (sym (add-zero at)) (written-byte at k B) in
+      let b2 = set b1 (at + 1) r in
+      let b3 = set b2 (at + 2) x in
+      let two = written-then at (k ∷ []) (r ∷ []) B b1 b2 one (written-byte (at + 1) r b1) in
+      let three = written-then at (k ∷ r ∷ []) (x ∷ []) B b2 b3 two (written-byte (at + 2) x b2) in
+      let all = written-then at (k ∷ r ∷ x ∷ []) (y ∷ []) B b3 four three (written-byte (at + 3) y b3) in
+      let up = written-then at (k ∷ r ∷ x ∷ y ∷ []) (wordBytes parent) B four M all P in
+      written-then at (k ∷ r ∷ x ∷ y ∷ wordBytes parent) (wordBytes end) B M O up E
+
+module _ (u n nodes : ℕ) (B M O : List ℕ) where
+  abbrev three : List ℕ
+  three = set (set (set B 0 80) 1 76) 2 78
+
+  abbrev five : List ℕ
+  five = set (set M 5 u) 6 n
+
+  pub header-written : Written 3 (wordBytes 1) three M → Written 7 (wordBytes nodes) five O → Written 0 (header u n nodes) B O
+  unfolding header wordBytes
+  header-written L W =
+      let b1 = set B 0 80 in
+      let b2 = set b1 1 76 in
+      let m1 = set M 5 u in
+      let x2 = written-then 0 (80 ∷ []) (76 ∷ []) B b1 b2 (written-byte 0 80 B) (written-byte 1 76 b1) in
+      let x3 = written-then 0 (80 ∷ 76 ∷ []) (78 ∷ []) B b2 three x2 (written-byte 2 78 b2) in
+      let x5 = written-then 0 (80 ∷ 76 ∷ 78 ∷ []) (wordBytes 1) B three M x3 L in
+      let x6 = written-then 0 (80 ∷ 76 ∷ 78 ∷ wordBytes 1) (u ∷ []) B M m1 x5 (written-byte 5 u M) in
+      let x7 = written-then 0 (80 ∷ 76 ∷ 78 ∷ (wordBytes 1 ++ (u ∷ []))) (n ∷ []) B m1 five x6 (written-byte 6 n m1) in
+      written-then 0 (80 ∷ 76 ∷ 78 ∷ (wordBytes 1 ++ (u ∷ n ∷ []))) (wordBytes nodes) B five O x7 W

@@ -14,11 +14,11 @@ use borrow.Author.Tests.{eqb-true, eq-eqb}
 use Rattle.logic.specs.Formula.{Relation, isin, notin, port, size, Node, root, all, any, and, or, lit, Forest, none, tree, Plan, kindNumber, nodeCount}
 use Rattle.logic.proofs.Lists.{and-left, and-right, and-true}
 use Rattle.logic.proofs.Relations.{relation-of-number}
-use Rattle.table_format.specs.Bytes.{headerLength, recordLength, kindField, relationField, aField, bField, endField, relationByte, aByte, bByte, nodeOf, recordOf, records, header, encoding}
+use Rattle.table_format.specs.Bytes.{recordLength, recordsOf, kindField, relationField, aField, bField, endField, relationByte, aByte, bByte, nodeOf, recordOf, records, header, encoding}
 use Rattle.table_format.specs.Rules.{planRule}
 use Rattle.table_format.specs.Decode.{TableOf, forestOf, candidate, begins, Decoded, broken, sound, decode}
 use Rattle.table_format.proofs.Parts.{childrenOf, siblingsOf, span-tree, span-children, span-forest}
-use Rattle.table_format.proofs.Bytes.{record-pos, length-record, kind-of-record, relation-of-record, a-of-record, b-of-record, end-of-record, length-header, ports-of-header, sets-of-header, nodes-of-header}
+use Rattle.table_format.proofs.Bytes.{record-pos, length-record, kind-of-record, relation-of-record, a-of-record, b-of-record, end-of-record, records-of-header, ports-of-header, sets-of-header, nodes-of-header}
 
 -- a node's bytes name it
 pub node-of-bytes : (n : Node) → nodeOf (kindNumber n) (relationByte n) (aByte n) (bByte n) ≡ n
@@ -144,11 +144,11 @@ candidate-of P rest =
     t = all-records ++ rest
 
     formula-of : ℕ → Forest
-    formula-of x = forestOf x (take (recordLength * x) (drop headerLength (front ++ t))) 0
+    formula-of x = forestOf x (take (recordLength * x) (recordsOf (front ++ t))) 0
 
-    own : take (recordLength * k) (drop headerLength (front ++ t)) ≡ all-records
+    own : take (recordLength * k) (recordsOf (front ++ t)) ≡ all-records
     own =
-        ap (take (recordLength * k)) (drop-at front t headerLength (length-header u n k))
+        ap (take (recordLength * k)) (records-of-header u n k t)
         ∙ take-at all-records rest (recordLength * k) (length-records (P .formula) 0 65535)
 
     spelled : formula-of k ≡ P .formula

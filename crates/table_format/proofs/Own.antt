@@ -2,7 +2,7 @@
 use mathlib.Core.Path.{_≡_, refl, sym, ap, ap₂, _∙_, subst}
 use mathlib.Core.Bool.{Bool, true, false, false≢true}
 use mathlib.Core.List.{List, [], _++_, append-assoc, append-nil}
-use Prim.Native.Nat.{ℕ, suc, _+_, _*_, _≤_, _<_}
+use Prim.Native.Nat.{ℕ, suc, _+_, _≤_, _<_}
 use native.Mathlib.Omega.{arith}
 use lib.Dec.{ltb}
 use lib.ListN.{length, take, drop, length-append, take-append-drop}
@@ -11,11 +11,11 @@ use borrow.Author.Tests.{leb-true, ltb-true, ltb-false}
 use Rattle.logic.specs.Formula.{isin, notin, port, size, Node, root, all, any, and, or, lit, Forest, none, tree, Plan, kindNumber, nodeCount, childDepth}
 use Rattle.logic.proofs.Lists.{and-left, and-right}
 use Rattle.logic.proofs.Relations.{relation-number-le}
-use Rattle.table_format.specs.Bytes.{headerLength, recordLength, nodesField, relationByte, aByte, bByte, recordOf, records, header, encoding}
+use Rattle.table_format.specs.Bytes.{headerLength, tableBytes, setsField, nodesField, relationByte, aByte, bByte, recordOf, records, header, encoding}
 use Rattle.table_format.specs.inner.Fields.{Bytes}
 use Rattle.table_format.specs.Rules.{everyNode, depthRule, literalRule, innerRule, nodeRule, planRule}
 use Rattle.table_format.specs.Decode.{TableOf, Decoded, broken, sound, decode, ownBytes}
-use Rattle.table_format.proofs.Bytes.{length-header, nodes-of-header, nodes-of-front, bytes-append, no-bytes, NodeBytes, record-bytes, header-bytes}
+use Rattle.table_format.proofs.Bytes.{header-within, length-header, sets-of-header, nodes-of-header, sets-of-front, nodes-of-front, bytes-append, no-bytes, NodeBytes, record-bytes, header-bytes}
 use Rattle.table_format.proofs.Encoding.{length-records, decode-complete, decode-sound}
 use Rattle.table_format.proofs.Rooted.{every-node, rooted, RootedIs, rooted-nodes, front-is, open-table, refused, is-rooted, rooted-is}
 
@@ -29,11 +29,13 @@ own-encoding : (P : Plan) (rest : List ℕ) → length (encoding P) ≡ ownBytes
 unfolding ownBytes encoding
 own-encoding P rest =
     let k = nodeCount (P .formula) in
+    let front = header (P .ports) (P .sets) k in
     let t = records (P .formula) 0 65535 in
-    length-append (header (P .ports) (P .sets) k) t
+    length-append front t
     ∙ ap₂ _+_ (length-header (P .ports) (P .sets) k) (length-records (P .formula) 0 65535)
-    ∙ ap (λ (x : ℕ). headerLength + recordLength * x)
-    (sym (ap nodesField (append-assoc (header (P .ports) (P .sets) k) t rest) ∙ nodes-of-header (P .ports) (P .sets) k (t ++ rest)))
+    ∙ sym (ap₂ tableBytes
+    (ap setsField (append-assoc front t rest) ∙ sets-of-header (P .ports) (P .sets) k (t ++ rest))
+    (ap nodesField (append-assoc front t rest) ∙ nodes-of-header (P .ports) (P .sets) k (t ++ rest)))
 
 own-table : (l rest : List ℕ) (P : Plan) → TableOf l P → TableOf (take (ownBytes l) l ++ rest) P
 own-table l rest P t = record {
@@ -49,9 +51,11 @@ own-same : (l rest : List ℕ) → ownBytes l ≤ length l → ownBytes (take (o
 unfolding ownBytes
 own-same l rest h =
     let m = ownBytes l in
-    let long : headerLength ≤ length (take m l) = omega (arith, length-take-le m l h) in
-    ap (λ (x : ℕ). headerLength + recordLength * x)
-    (nodes-of-front (take m l) rest long ∙ sym (nodes-of-front (take m l) (drop m l) long) ∙ ap nodesField (take-append-drop m l))
+    let own = take m l in
+    let long : headerLength ≤ length own = omega (arith, length-take-le m l h, header-within (setsField l)) in
+    ap₂ tableBytes
+    (sets-of-front own rest long ∙ sym (sets-of-front own (drop m l) long) ∙ ap setsField (take-append-drop m l))
+    (nodes-of-front own rest long ∙ sym (nodes-of-front own (drop m l) long) ∙ ap nodesField (take-append-drop m l))
 
 -- "Bytes [..] past a plan's own are never [..] read."
 pub own-only : (l rest : List ℕ) → ownBytes l ≤ length l → decode (take (ownBytes l) l ++ rest) ≡ decode l

@@ -1,6 +1,6 @@
 -- Parts of a table of records, for any length r of a record. A part begins with a record; those of its children follow, and then
 -- those of its later siblings. Assumes nothing.
-use mathlib.Core.Path.{_≡_, sym, ap, ap₂, _∙_}
+use mathlib.Core.Path.{_≡_, sym, ap, _∙_}
 use mathlib.Core.List.{List, _++_}
 use Prim.Native.Nat.{ℕ, zero, suc, _+_, _-_, _*_, _≤_, _<_}
 use native.Mathlib.Nat.{mul-zero, mul-suc, mul-add, mul-le-mul-left, le-mul-of-pos-right, le-of-mul-le-mul-left, eq-of-mul-eq-mul-left}
@@ -81,7 +81,3 @@ module _ (r : ℕ) (pos : 1 ≤ r) where
 
     pub siblings-below : r * e + (n - r * (e - i)) ≤ r * k
     siblings-below = omega (arith, nodes-of-tree)
-
--- what stands below the first record behind a header of h bytes
-pub below-first : (h r m : ℕ) (l : List ℕ) → take (h + r * m - (h + r)) (drop (h + r) l) ≡ childrenOf r m (drop h l)
-below-first h r m l = let e : h + r * m - (h + r) ≡ r * m - r = omega arith in ap₂ take e (sym (drop-drop r h l))

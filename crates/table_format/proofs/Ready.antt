@@ -1,15 +1,15 @@
 -- What a table that decodes says of its length and its cells. Assumes nothing.
-use mathlib.Core.Path.{_≡_, refl, ap, ap₂, _∙_}
+use mathlib.Core.Path.{_≡_, refl, sym, ap, ap₂, _∙_, subst}
 use mathlib.Core.List.{List, _++_}
-use Prim.Native.Nat.{ℕ, suc, _+_, _*_, _≤_}
-use native.Mathlib.Omega.{arith}
+use Prim.Native.Nat.{ℕ, suc, _≤_}
 use lib.ListN.{length}
 use Rattle.logic.specs.Formula.{root, Forest, none, tree, Plan, nodeCount}
 use Rattle.logic.specs.Cells.{cellCount, ownCells}
-use Rattle.table_format.specs.Bytes.{headerLength, recordLength, records, encoding}
+use Rattle.table_format.specs.Bytes.{tableBytes, setsField, records, encoding}
 use Rattle.table_format.specs.Decode.{sound, decode}
+use Rattle.table_format.specs.inner.Tests.{belowRoot}
 use Rattle.table_format.proofs.Encoding.{decode-sound}
-use Rattle.table_format.proofs.Rooted.{belowRoot, rooted, RootedIs, rooted-nodes, rooted-cells, rooted-long, rooted-below, is-rooted, rooted-is}
+use Rattle.table_format.proofs.Rooted.{rooted, RootedIs, rooted-nodes, rooted-cells, rooted-long, rooted-below, is-rooted, rooted-is}
 
 pub own-zero : (u n : ℕ) (c : Forest) → ownCells (rooted u n c) ≡ cellCount u (tree root c none) 0
 unfolding ownCells
@@ -26,7 +26,7 @@ pub record Ready (bytes : List ℕ) (P : Plan) (nodes : ℕ) : Type 0 where
   pub facts : RootedIs (P .ports) (P .sets) below
   pub count : nodes ≡ suc (nodeCount below)
   pub total : ownCells P ≡ suc (cellCount (P .ports) below 0)
-  pub long : headerLength + recordLength * nodes ≤ length bytes
+  pub long : tableBytes (setsField bytes) nodes ≤ length bytes
   pub part : belowRoot bytes nodes ≡ records below 1 0
 
 pub ready : (bytes : List ℕ) (P : Plan) (nodes : ℕ) → decode bytes ≡ sound P → nodes ≡ nodeCount (P .formula) → Ready bytes P nodes
@@ -42,6 +42,6 @@ ready bytes P nodes d k =
       facts = rooted-is P (t .rules);
       count = kk;
       total = ap ownCells (r .1) ∙ rooted-cells (P .ports) (P .sets) c;
-      long = omega (arith, ap (λ (x : ℕ). recordLength * x) kk, ap length e, rooted-long (P .ports) (P .sets) c (t .rest));
+      long = subst (λ (l : List ℕ). tableBytes (setsField l) nodes ≤ length l) (sym e) (rw kk (rooted-long (P .ports) (P .sets) c (t .rest)));
       part = ap₂ belowRoot e kk ∙ rooted-below (P .ports) (P .sets) c (t .rest);
     }

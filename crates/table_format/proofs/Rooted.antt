@@ -6,20 +6,20 @@ use Prim.Native.Nat.{ℕ, suc, _+_, _-_, _*_, _≤_, _<_}
 use native.Mathlib.Nat.{mul-suc, pow-zero}
 use native.Mathlib.Omega.{arith}
 use lib.Dec.{eqb, leb}
-use lib.ListN.{length, take, drop, length-append, length-drop}
+use lib.ListN.{length, take, drop, length-append}
 use lib.Seq.{take-at, drop-at}
 use borrow.Author.Tests.{eqb-true, eq-eqb, leb-true, le-leb}
 use Rattle.logic.specs.Formula.{Node, Forest, root, all, tree, any, kindNumber, and, nodeCount, or, childDepth, lit, isin, notin, port, size, none, Plan}
 use Rattle.logic.specs.Cells.{cellCount, ownCells}
 use Rattle.logic.proofs.Lists.{and-true}
-use Rattle.table_format.specs.Bytes.{recordLength, headerLength, kindField, relationField, aField, bField, parentField, endField, marked, versionField, portsField, setsField, nodesField, relationByte, aByte, bByte, recordOf, records, header, encoding}
+use Rattle.table_format.specs.Bytes.{headerLength, recordLength, recordsFrom, tableBytes, recordsOf, kindField, relationField, aField, bField, parentField, endField, marked, versionField, portsField, setsField, nodesField, relationByte, aByte, bByte, recordOf, records, header, encoding}
 use Rattle.table_format.specs.inner.Fields.{Bytes}
 use Rattle.table_format.specs.Rules.{everyNode, treeCount, arityRule, mayNest, nestingRule, depthRule, innerRule, formulaRule, nodeRule, mostCells, planRule}
 use Rattle.table_format.specs.Decode.{TableOf, Decoded, broken, sound, decode}
-use Rattle.table_format.specs.inner.Tests.{headerRule, rootRule, frontRule, Sound}
+use Rattle.table_format.specs.inner.Tests.{belowRoot, headerRule, rootRule, frontRule, Sound}
 use Rattle.table_format.proofs.Conjunctions.{two-true, four-true, three-true, all-three}
-use Rattle.table_format.proofs.Parts.{one-fits, cancel-children, length-children, parts-join, below-first}
-use Rattle.table_format.proofs.Bytes.{record-pos, length-record, kind-of-record, relation-of-record, a-of-record, b-of-record, parent-of-record, end-of-record, length-header, header-marked, version-of-header, ports-of-header, sets-of-header, nodes-of-header, record-is, header-split, bytes-drop}
+use Rattle.table_format.proofs.Parts.{one-fits, cancel-children, length-children, parts-join}
+use Rattle.table_format.proofs.Bytes.{record-pos, header-within, length-record, kind-of-record, relation-of-record, a-of-record, b-of-record, parent-of-record, end-of-record, length-header, records-of-header, length-records-of, header-marked, version-of-header, ports-of-header, sets-of-header, nodes-of-header, record-is, header-split, records-bytes-of}
 use Rattle.table_format.proofs.Encoding.{length-records, decode-sound}
 
 pub sound-length : {l : List ℕ} {i parent d sets above : ℕ} {f : Forest} → Sound l i parent d sets above f → length l ≡ recordLength * nodeCount f
@@ -58,10 +58,6 @@ only-root (lit (notin v S)) h = absurd (omega arith)
 only-root (lit (port r v w)) h = absurd (omega arith)
 only-root (lit (size r S c)) h = absurd (omega arith)
 
--- the records below the root, as the code lends them
-abbrev pub belowRoot : List ℕ → ℕ → List ℕ
-belowRoot l nodes = take (headerLength + recordLength * nodes - (headerLength + recordLength)) (drop (headerLength + recordLength) l)
-
 abbrev pub rooted : ℕ → ℕ → Forest → Plan
 rooted u n c = record { ports = u; sets = n; formula = tree root c none }
 
@@ -88,22 +84,22 @@ pub record FrontIs (l : List ℕ) : Type 0 where
   pub sets16 : setsField l ≤ 16
   pub nodes2 : 2 ≤ nodesField l
   pub nodes512 : nodesField l ≤ 512
-  pub whole : headerLength + recordLength * nodesField l ≤ length l
-  pub kind : kindField (drop headerLength l) ≡ 0
-  pub relation : relationField (drop headerLength l) ≡ 0
-  pub a : aField (drop headerLength l) ≡ 0
-  pub b : bField (drop headerLength l) ≡ 0
-  pub parent : parentField (drop headerLength l) ≡ 65535
-  pub end-is : endField (drop headerLength l) ≡ nodesField l
+  pub whole : tableBytes (setsField l) (nodesField l) ≤ length l
+  pub kind : kindField (recordsOf l) ≡ 0
+  pub relation : relationField (recordsOf l) ≡ 0
+  pub a : aField (recordsOf l) ≡ 0
+  pub b : bField (recordsOf l) ≡ 0
+  pub parent : parentField (recordsOf l) ≡ 65535
+  pub end-is : endField (recordsOf l) ≡ nodesField l
 
 pub front-is : (l : List ℕ) → frontRule l ≡ true → FrontIs l
 unfolding frontRule headerRule rootRule
 front-is l h =
     let K = nodesField l in
-    let D = drop headerLength l in
+    let D = recordsOf l in
     let u = portsField l in
     let n = setsField l in
-    let f = three-true (leb headerLength (length l) && headerRule l && leb 2 K && leb K 512) (leb (headerLength + recordLength * K) (length l)) (rootRule K D) h in
+    let f = three-true (leb headerLength (length l) && headerRule l && leb 2 K && leb K 512) (leb (tableBytes n K) (length l)) (rootRule K D) h in
     let c = four-true (leb headerLength (length l)) (headerRule l) (leb 2 K) (leb K 512) (f .0) in
     let hd = three-true (marked l) (eqb (versionField l) 1) ((leb 1 u && leb u 64) && (leb 1 n && leb n 16)) (c .1) in
     let counts = two-true (leb 1 u && leb u 64) (leb 1 n && leb n 16) (hd .2) in
@@ -130,12 +126,15 @@ front-is l h =
       end-is = eqb-true _ _ (links .1);
     }
 
+pub header-fits : (l : List ℕ) → FrontIs l → headerLength ≤ length l
+header-fits l f = omega (arith, f .whole, header-within (setsField l))
+
 is-front : (l : List ℕ) → FrontIs l → frontRule l ≡ true
 unfolding frontRule headerRule rootRule
 is-front l f =
     all-three _ _ _
     (and-true _ _
-    (all-three _ _ _ (le-leb headerLength (length l) (omega (arith, f .whole)))
+    (all-three _ _ _ (le-leb headerLength (length l) (header-fits l f))
     (all-three _ _ _ (f .mark) (eq-eqb _ _ (f .version))
     (and-true _ _ (and-true _ _ (le-leb _ _ (f .ports1)) (le-leb _ _ (f .ports64))) (and-true _ _ (le-leb _ _ (f .sets1)) (le-leb _ _ (f .sets16)))))
     (le-leb _ _ (f .nodes2))) (le-leb _ _ (f .nodes512)))
@@ -145,14 +144,14 @@ is-front l f =
 
 -- the part of a table whose front is right
 module _ (l : List ℕ) (f : FrontIs l) where
-  after-header : recordLength * nodesField l ≤ length (drop headerLength l)
-  after-header = omega (arith, f .whole, length-drop headerLength l)
+  after-header : recordLength * nodesField l ≤ length (recordsOf l)
+  after-header = omega (arith, f .whole, length-records-of l)
 
-  root-fits : recordLength ≤ length (drop headerLength l)
+  root-fits : recordLength ≤ length (recordsOf l)
   root-fits = omega (arith, after-header, one-fits recordLength record-pos (nodesField l) (omega (arith, f .nodes2)))
 
   pub length-below : length (belowRoot l (nodesField l)) ≡ recordLength * nodesField l - recordLength
-  length-below = ap length (below-first headerLength recordLength (nodesField l) l) ∙ length-children recordLength record-pos (nodesField l) (drop headerLength l) after-header
+  length-below = length-children recordLength record-pos (nodesField l) (recordsOf l) after-header
 
   pub count-below : {sets : ℕ} (c : Forest) → Sound (belowRoot l (nodesField l)) 1 0 0 sets 0 c → nodesField l ≡ suc (nodeCount c)
   count-below c s = cancel-children recordLength record-pos (nodeCount c) (nodesField l) (sym (sound-length s) ∙ length-below) (omega (arith, f .nodes2))
@@ -219,7 +218,7 @@ pub table-of : (l : List ℕ) (c : Forest) → FrontIs l → Bytes l → Sound (
     → cellCount (portsField l) c 0 < 1048576 → TableOf l (rooted (portsField l) (setsField l) c)
 unfolding kindNumber relationByte aByte bByte
 table-of l c f b s t few =
-    let D = drop headerLength l in
+    let D = recordsOf l in
     let K = nodesField l in
     let u = portsField l in
     let n = setsField l in
@@ -229,10 +228,10 @@ table-of l c f b s t few =
       rest = rest;
       is = header-split l b (omega (arith, f .whole)) (f .mark) (f .version)
           ∙ ap (λ (x : List ℕ). header u n K ++ x)
-          (record-is root 65535 K D (bytes-drop headerLength l b) (root-fits l f) (f .kind) (f .relation) (f .a) (f .b) (f .parent) (f .end-is)
+          (record-is root 65535 K D (records-bytes-of l b) (root-fits l f) (f .kind) (f .relation) (f .a) (f .b) (f .parent) (f .end-is)
           ∙ ap (λ (x : List ℕ). recordOf root 65535 K ++ x)
           (parts-join recordLength record-pos K D (after-header l f) (omega (arith, f .nodes2))
-          ∙ ap (λ (x : List ℕ). x ++ rest) (sym (below-first headerLength recordLength K l) ∙ s .is)))
+          ∙ ap (λ (x : List ℕ). x ++ rest) (s .is)))
           ∙ ap (λ (x : ℕ). rootedBytes u n x (records c 1 0 ++ rest)) kk
           ∙ sym (rooted-encoding u n c rest);
       rules = rooted-rule u n c record {
@@ -269,12 +268,13 @@ module _ (u n : ℕ) (c : Forest) (rest : List ℕ) where
   abbrev bytes : List ℕ
   bytes = rootedBytes u n k tail
 
-  past-header : drop headerLength bytes ≡ root-on
-  past-header = drop-at (header u n k) root-on headerLength (length-header u n k)
+  past-header : recordsOf bytes ≡ root-on
+  past-header = records-of-header u n k root-on
 
-  bytes-long : headerLength + recordLength * k ≤ length bytes
+  bytes-long : tableBytes (setsField bytes) k ≤ length bytes
   bytes-long = omega (
     arith,
+    ap recordsFrom (sets-of-header u n k root-on),
     length-append (header u n k) root-on,
     length-header u n k,
     length-append (recordOf root 65535 k) tail,
@@ -287,12 +287,11 @@ module _ (u n : ℕ) (c : Forest) (rest : List ℕ) where
   bytes-below : belowRoot bytes k ≡ records c 1 0
   bytes-below =
       let e : recordLength * nodeCount c ≡ recordLength * k - recordLength = omega (arith, mul-suc recordLength (nodeCount c)) in
-      below-first headerLength recordLength k bytes
-      ∙ ap (λ (x : List ℕ). take (recordLength * k - recordLength) x) (ap (drop recordLength) past-header ∙ drop-at (recordOf root 65535 k) tail recordLength (length-record root 65535 k))
+      ap (λ (x : List ℕ). take (recordLength * k - recordLength) x) (ap (drop recordLength) past-header ∙ drop-at (recordOf root 65535 k) tail recordLength (length-record root 65535 k))
       ∙ take-at (records c 1 0) rest (recordLength * k - recordLength) (length-records c 1 0 ∙ e)
 
   -- where the records below the root stand in the table of a root over c
-  pub rooted-long : headerLength + recordLength * k ≤ length (encoding (rooted u n c) ++ rest)
+  pub rooted-long : (let l = encoding (rooted u n c) ++ rest in tableBytes (setsField l) k ≤ length l)
   rooted-long = rw (rooted-encoding u n c rest) bytes-long
 
   pub rooted-below : belowRoot (encoding (rooted u n c) ++ rest) k ≡ records c 1 0

@@ -5,7 +5,7 @@ use Prim.Native.Nat.{_+_, ℕ, _≤_}
 use native.Mathlib.Omega.{arith}
 use lib.ListN.{set, length-append, length-drop, length, take, drop, take-append-drop}
 use lib.Seq.{set-at, length-take-le}
-use Rattle.table_format.specs.Bytes.{wordBytes, header}
+use Rattle.table_format.specs.Bytes.{wordBytes}
 use Rattle.table_format.specs.inner.Written.{Written}
 
 -- what is written from the start, and what stands behind it
@@ -48,26 +48,6 @@ written-byte at v b A [] T e lA l = absurd (omega arith)
 written-byte at v b A (x ∷ []) T e lA l = ap (λ (z : List ℕ). set z at v) e ∙ set-at A x T v at lA
 written-byte at v b A (x ∷ y ∷ X) T e lA l = absurd (omega arith)
 
-module _ (u n nodes : ℕ) (B M O : List ℕ) where
-  abbrev three : List ℕ
-  three = set (set (set B 0 80) 1 76) 2 78
-
-  abbrev five : List ℕ
-  five = set (set M 5 u) 6 n
-
-  pub header-written : Written 3 (wordBytes 1) three M → Written 7 (wordBytes nodes) five O → Written 0 (header u n nodes) B O
-  unfolding header wordBytes
-  header-written L W =
-      let b1 = set B 0 80 in
-      let b2 = set b1 1 76 in
-      let m1 = set M 5 u in
-      let x2 = written-then 0 (80 ∷ []) (76 ∷ []) B b1 b2 (written-byte 0 80 B) (written-byte 1 76 b1) in
-      let x3 = written-then 0 (80 ∷ 76 ∷ []) (78 ∷ []) B b2 three x2 (written-byte 2 78 b2) in
-      let x5 = written-then 0 (80 ∷ 76 ∷ 78 ∷ []) (wordBytes 1) B three M x3 L in
-      let x6 = written-then 0 (80 ∷ 76 ∷ 78 ∷ wordBytes 1) (u ∷ []) B M m1 x5 (written-byte 5 u M) in
-      let x7 = written-then 0 (80 ∷ 76 ∷ 78 ∷ (wordBytes 1 ++ (u ∷ []))) (n ∷ []) B m1 five x6 (written-byte 6 n m1) in
-      written-then 0 (80 ∷ 76 ∷ 78 ∷ (wordBytes 1 ++ (u ∷ n ∷ []))) (wordBytes nodes) B five O x7 W
-
 -- first the part behind, then the one in front
 pub written-front : (at : ℕ) (xs ys b m a : List ℕ) → Written (at + length xs) ys b m → Written at xs m a → Written at (xs ++ ys) b a
 unfolding Written
@@ -86,21 +66,3 @@ written-none at b A (x ∷ X) T e lA l = absurd (omega arith)
 pub word-written : (at x : ℕ) (b : List ℕ) (low high : ℕ) → (low ∷ high ∷ []) ≡ wordBytes x → Written at (wordBytes x) b (set (set b at low) (at + 1) high)
 word-written at x b low high e =
     rw (← e) (written-then at (low ∷ []) (high ∷ []) b (set b at low) _ (written-byte at low b) (written-byte (at + 1) high (set b at low)))
-
--- four bytes and two words
-module _ (at k r x y parent end : ℕ) (B M O : List ℕ) where
-  abbrev four : List ℕ
-  four = set (set (set (set B at k) (at + 1) r) (at + 2) x) (at + 3) y
-
-  pub record-written : Written (at + 4) (wordBytes parent) four M → Written (at + 6) (wordBytes end) M O
-      → Written at (k ∷ r ∷ x ∷ y ∷ (wordBytes parent ++ wordBytes end)) B O
-  unfolding wordBytes
-  record-written P E =
-      let b1 = set B at k in
-      let b2 = set b1 (at + 1) r in
-      let b3 = set b2 (at + 2) x in
-      let two = written-then at (k ∷ []) (r ∷ []) B b1 b2 (written-byte at k B) (written-byte (at + 1) r b1) in
-      let three = written-then at (k ∷ r ∷ []) (x ∷ []) B b2 b3 two (written-byte (at + 2) x b2) in
-      let all = written-then at (k ∷ r ∷ x ∷ []) (y ∷ []) B b3 four three (written-byte (at + 3) y b3) in
-      let up = written-then at (k ∷ r ∷ x ∷ y ∷ []) (wordBytes parent) B four M all P in
-      written-then at (k ∷ r ∷ x ∷ y ∷ wordBytes parent) (wordBytes end) B M O up E

@@ -3,7 +3,7 @@ use mathlib.Core.Bool.{Bool, _&&_}
 use mathlib.Core.List.{List, [], _∷_, _++_}
 use Prim.Native.Nat.{ℕ, zero, suc, _+_, _*_, _/_, _%_}
 use lib.Dec.{eqb}
-use lib.ListN.{getD}
+use lib.ListN.{getD, drop}
 use Rattle.logic.specs.Formula.{isin, notin, port, size, Node, root, all, any, and, or, lit, Forest, none, tree, Plan, relationNumber, relationOf, kindNumber, nodeCount}
 
 -- "Header, 9 bytes"; "Then 8 bytes a node".
@@ -13,6 +13,14 @@ headerLength = 9
 unfoldable pub recordLength : ℕ
 recordLength = 8
 
+-- Where the records of a table over so many sets begin: right behind the header, however many sets there are.
+unfoldable pub recordsFrom : ℕ → ℕ
+recordsFrom sets = headerLength
+
+-- How many bytes a table over so many sets and of so many nodes has.
+abbrev pub tableBytes : ℕ → ℕ → ℕ
+tableBytes sets nodes = recordsFrom sets + recordLength * nodes
+
 -- "stored numbers of 16 bits are little-endian"
 unfoldable pub word : ℕ → ℕ → ℕ
 word low high = low + 256 * high
@@ -20,40 +28,54 @@ word low high = low + 256 * high
 unfoldable pub wordBytes : ℕ → List ℕ
 wordBytes x = (x % 256) ∷ (x / 256) ∷ []
 
+-- A field of one byte and of 16 bits, by its place.
+abbrev pub byteField : ℕ → List ℕ → ℕ
+byteField at l = getD l at 0
+
+abbrev pub wordField : ℕ → List ℕ → ℕ
+wordField at l = word (getD l at 0) (getD l (at + 1) 0)
+
 -- "8 bytes a node: kind, relation, a, b, 16-bit parent, 16-bit end": the fields of the record that a part begins with.
 unfoldable pub kindField : List ℕ → ℕ
-kindField l = getD l 0 0
+kindField l = byteField 0 l
 
 unfoldable pub relationField : List ℕ → ℕ
-relationField l = getD l 1 0
+relationField l = byteField 1 l
 
 unfoldable pub aField : List ℕ → ℕ
-aField l = getD l 2 0
+aField l = byteField 2 l
 
 unfoldable pub bField : List ℕ → ℕ
-bField l = getD l 3 0
+bField l = byteField 3 l
 
 unfoldable pub parentField : List ℕ → ℕ
-parentField l = word (getD l 4 0) (getD l 5 0)
+parentField l = wordField 4 l
 
 unfoldable pub endField : List ℕ → ℕ
-endField l = word (getD l 6 0) (getD l 7 0)
+endField l = wordField 6 l
 
 -- "mark `PLN`, 16-bit version 1, u, n, 16-bit node count": the fields of the header that a table begins with.
 unfoldable pub marked : List ℕ → Bool
-marked l = eqb (getD l 0 0) 80 && eqb (getD l 1 0) 76 && eqb (getD l 2 0) 78
+marked l = eqb (byteField 0 l) 80 && eqb (byteField 1 l) 76 && eqb (byteField 2 l) 78
 
 unfoldable pub versionField : List ℕ → ℕ
-versionField l = word (getD l 3 0) (getD l 4 0)
+versionField l = wordField 3 l
 
 unfoldable pub portsField : List ℕ → ℕ
-portsField l = getD l 5 0
+portsField l = byteField 5 l
 
 unfoldable pub setsField : List ℕ → ℕ
-setsField l = getD l 6 0
+setsField l = byteField 6 l
 
 unfoldable pub nodesField : List ℕ → ℕ
-nodesField l = word (getD l 7 0) (getD l 8 0)
+nodesField l = wordField 7 l
+
+-- "Then 8 bytes a node": the part of a table that begins with its records, and the part that begins with node i's.
+unfoldable pub recordsOf : List ℕ → List ℕ
+recordsOf l = drop (recordsFrom (setsField l)) l
+
+unfoldable pub recordAt : List ℕ → ℕ → List ℕ
+recordAt l i = drop (recordLength * i) (recordsOf l)
 
 -- "Relation (kinds 7, 8)"; "Unused fields are 0."
 unfoldable pub relationByte : Node → ℕ

@@ -2,11 +2,11 @@
 use mathlib.Core.Path.{_≡_}
 use mathlib.Core.Bool.{Bool, true, false, cond, _&&_}
 use mathlib.Core.List.{List, [], _∷_, _++_}
-use Prim.Native.Nat.{ℕ, zero, suc, _+_, _-_, _*_}
+use Prim.Native.Nat.{ℕ, zero, suc, _-_, _*_}
 use lib.Dec.{eqb}
 use lib.ListN.{take, drop}
 use Rattle.logic.specs.Formula.{Forest, none, tree, Plan}
-use Rattle.table_format.specs.Bytes.{headerLength, recordLength, kindField, relationField, aField, bField, endField, portsField, setsField, nodesField, nodeOf, encoding}
+use Rattle.table_format.specs.Bytes.{recordLength, tableBytes, recordsOf, kindField, relationField, aField, bField, endField, portsField, setsField, nodesField, nodeOf, encoding}
 use Rattle.table_format.specs.Rules.{planRule}
 
 -- The table of a plan: the bytes begin with the plan's encoding, and the plan keeps the rules.
@@ -26,9 +26,9 @@ forestOf (suc m) (x ∷ xs) i =
     (forestOf m (take (span - recordLength) (drop recordLength l)) (suc i))
     (forestOf m (drop span l) (endField l))
 
--- "Bytes [..] past a plan's own": how many bytes are the plan's own, by the node count in the header.
+-- "Bytes [..] past a plan's own": how many bytes are the plan's own, by the set count and the node count in the header.
 unfoldable pub ownBytes : List ℕ → ℕ
-ownBytes l = headerLength + recordLength * nodesField l
+ownBytes l = tableBytes (setsField l) (nodesField l)
 
 -- The plan that bytes would be the table of.
 unfoldable pub candidate : List ℕ → Plan
@@ -37,7 +37,7 @@ candidate bytes =
     record {
       ports = portsField bytes;
       sets = setsField bytes;
-      formula = forestOf nodes (take (recordLength * nodes) (drop headerLength bytes)) 0;
+      formula = forestOf nodes (take (recordLength * nodes) (recordsOf bytes)) 0;
     }
 
 unfoldable pub begins : List ℕ → List ℕ → Bool

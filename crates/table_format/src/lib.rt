@@ -4,7 +4,8 @@ ghost use mathlib.Core.Bool.{_&&_};
 ghost use Prim.Native.Nat.{_<_, _+_, _*_, _≤_};
 ghost use lib.ListN.{length};
 ghost use Rattle.table_format.specs.inner.Fields.{FieldIs};
-ghost use Rattle.table_format.specs.Bytes.{word, kindField, relationField, aField, bField, parentField, endField, marked, versionField, portsField, setsField, nodesField, headerLength, recordLength, wordBytes, header};
+ghost use Rattle.table_format.specs.Bytes.{headerLength, recordLength, recordsFrom, tableBytes, wordField, wordBytes, kindField, relationField, aField, bField, parentField, endField, marked, versionField, portsField, setsField, nodesField, recordsOf, recordAt, header};
+ghost use Rattle.table_format.specs.inner.Tests.{belowRoot};
 ghost use Rattle.table_format.specs.inner.Written.{fieldBytes, Written};
 
 // A node's own bytes.
@@ -13,6 +14,80 @@ pub struct Fields {
     pub relation: u8,
     pub a: u8,
     pub b: u8,
+}
+
+// The length of a record and the places of its fields, and the same of the header.
+pub const RECORD: usize = 8;
+
+const KIND: usize = 0;
+
+const RELATION: usize = 1;
+
+const A: usize = 2;
+
+const B: usize = 3;
+
+const PARENT: usize = 4;
+
+const END: usize = 6;
+
+pub const HEADER: usize = 9;
+
+const VERSION: usize = 3;
+
+const PORTS: usize = 5;
+
+const SETS: usize = 6;
+
+const NODES: usize = 7;
+
+// A plan has at most so many nodes and cells.
+pub const MOST_NODES: usize = 512;
+
+pub const MOST_CELLS: usize = 1048576;
+
+// Where the records of a table over so many sets begin.
+pub fn records_from(sets: usize) -> usize
+    ensures { λ r. ⌜ r ≡ recordsFrom sets ⌝ }
+{
+    HEADER
+}
+
+// How many bytes a table over so many sets and of so many nodes has.
+pub fn table_bytes(sets: usize, nodes: usize) -> usize
+    requires { ⌜ nodes ≤ 512 ⌝ }
+    ensures { λ r. ⌜ r ≡ tableBytes sets nodes ⌝ }
+{
+    records_from(sets) + RECORD * nodes
+}
+
+// The part of a table that begins with its records.
+pub fn records_of(table: &[u8]) -> &[u8]
+    requires { ⌜ recordsFrom (setsField (now table)) ≤ length (now table) ⌝ }
+    ensures { λ r. ⌜ now r ≡ recordsOf (now (table .entry)) ⌝ }
+{
+    let from = records_from(sets_of(table));
+    &table[from..]
+}
+
+// The part of a table that begins with the record of node i.
+pub fn record_at(table: &[u8], i: usize) -> &[u8]
+    requires { ⌜ recordLength * i + recordLength ≤ length (recordsOf (now table)) ⌝ }
+    ensures { λ r. ⌜ (now r ≡ recordAt (now (table .entry)) i) × (recordLength ≤ length (now r)) ⌝ }
+{
+    let records = records_of(table);
+    let at = RECORD * i;
+    &records[at..]
+}
+
+// The records below the root.
+pub fn below_root(table: &[u8], nodes: usize) -> &[u8]
+    requires { ⌜ (1 ≤ nodes) × (nodes ≤ 512) × (tableBytes (setsField (now table)) nodes ≤ length (now table)) ⌝ }
+    ensures { λ r. ⌜ now r ≡ belowRoot (now (table .entry)) nodes ⌝ }
+{
+    let records = records_of(table);
+    let last = RECORD * nodes;
+    &records[RECORD..last]
 }
 
 // Writes a 16-bit number, the low byte first.
@@ -24,18 +99,18 @@ fn put_word(out: &mut [u8], at: usize, x: u16)
     out[at + 1] = (x / 256) as u8;
 }
 
-// Writes the record of node i.
+// Writes the record of node i of those that a part begins with.
 pub fn put_record(out: &mut [u8], i: usize, f: Fields, parent: u16, end: usize)
     requires { ⌜ (recordLength * i + recordLength ≤ length (now out)) × (end ≤ 512) ⌝ }
     ensures { λ _. ⌜ Written (recordLength * i) (fieldBytes f parent end) (now (out .entry)) (now (out .exit)) ⌝ }
 {
     let at = RECORD * i;
-    out[at] = f.kind;
-    out[at + 1] = f.relation;
-    out[at + 2] = f.a;
-    out[at + 3] = f.b;
-    put_word(out, at + 4, parent);
-    put_word(out, at + 6, end as u16);
+    out[at + KIND] = f.kind;
+    out[at + RELATION] = f.relation;
+    out[at + A] = f.a;
+    out[at + B] = f.b;
+    put_word(out, at + PARENT, parent);
+    put_word(out, at + END, end as u16);
 }
 
 // Writes the header: the mark `PLN`, version 1, u, n and the node count.
@@ -46,21 +121,11 @@ pub fn put_header(u: u8, n: u8, nodes: u16, table: &mut [u8])
     table[0] = 80;
     table[1] = 76;
     table[2] = 78;
-    put_word(table, 3, 1);
-    table[5] = u;
-    table[6] = n;
-    put_word(table, 7, nodes);
+    put_word(table, VERSION, 1);
+    table[PORTS] = u;
+    table[SETS] = n;
+    put_word(table, NODES, nodes);
 }
-
-// The length of a record, and of the header before the first.
-pub const RECORD: usize = 8;
-
-pub const HEADER: usize = 9;
-
-// A plan has at most so many nodes and cells.
-pub const MOST_NODES: usize = 512;
-
-pub const MOST_CELLS: usize = 1048576;
 
 pub fn wide(b: u8) -> usize
     ensures { λ r. ⌜ (r ≡ b) × (r < 256) ⌝ }
@@ -83,11 +148,13 @@ pub fn three(a: bool, b: bool, c: bool) -> bool
     both(both(a, b), c)
 }
 
-// A 16-bit number by its bytes.
-fn word_of(low: u8, high: u8) -> usize
-    ensures { λ r. ⌜ (r ≡ word low high) × (r < 65536) ⌝ }
+// The 16-bit number at a place.
+fn word_at(part: &[u8], at: usize) -> usize
+    requires { ⌜ at + 2 ≤ length (now part) ⌝ }
+    ensures { λ r. ⌜ FieldIs (wordField at) (now (part .entry)) r ⌝ }
 {
-    wide(low) + 256 * wide(high)
+    let next = at + 1;
+    wide(part[at]) + 256 * wide(part[next])
 }
 
 // The fields of the record that a part begins with.
@@ -95,42 +162,42 @@ pub fn kind_of(part: &[u8]) -> u8
     requires { ⌜ recordLength ≤ length (now part) ⌝ }
     ensures { λ r. ⌜ r ≡ kindField (now (part .entry)) ⌝ }
 {
-    part[0]
+    part[KIND]
 }
 
 pub fn relation_of(part: &[u8]) -> u8
     requires { ⌜ recordLength ≤ length (now part) ⌝ }
     ensures { λ r. ⌜ r ≡ relationField (now (part .entry)) ⌝ }
 {
-    part[1]
+    part[RELATION]
 }
 
 pub fn a_of(part: &[u8]) -> u8
     requires { ⌜ recordLength ≤ length (now part) ⌝ }
     ensures { λ r. ⌜ r ≡ aField (now (part .entry)) ⌝ }
 {
-    part[2]
+    part[A]
 }
 
 pub fn b_of(part: &[u8]) -> u8
     requires { ⌜ recordLength ≤ length (now part) ⌝ }
     ensures { λ r. ⌜ r ≡ bField (now (part .entry)) ⌝ }
 {
-    part[3]
+    part[B]
 }
 
 pub fn parent_of(part: &[u8]) -> usize
     requires { ⌜ recordLength ≤ length (now part) ⌝ }
     ensures { λ r. ⌜ FieldIs parentField (now (part .entry)) r ⌝ }
 {
-    word_of(part[4], part[5])
+    word_at(part, PARENT)
 }
 
 pub fn end_of(part: &[u8]) -> usize
     requires { ⌜ recordLength ≤ length (now part) ⌝ }
     ensures { λ r. ⌜ FieldIs endField (now (part .entry)) r ⌝ }
 {
-    word_of(part[6], part[7])
+    word_at(part, END)
 }
 
 // The fields of the header that a table begins with.
@@ -145,26 +212,26 @@ pub fn version_of(table: &[u8]) -> usize
     requires { ⌜ headerLength ≤ length (now table) ⌝ }
     ensures { λ r. ⌜ FieldIs versionField (now (table .entry)) r ⌝ }
 {
-    word_of(table[3], table[4])
+    word_at(table, VERSION)
 }
 
 pub fn ports_of(table: &[u8]) -> usize
     requires { ⌜ headerLength ≤ length (now table) ⌝ }
     ensures { λ r. ⌜ r ≡ portsField (now (table .entry)) ⌝ }
 {
-    wide(table[5])
+    wide(table[PORTS])
 }
 
 pub fn sets_of(table: &[u8]) -> usize
     requires { ⌜ headerLength ≤ length (now table) ⌝ }
     ensures { λ r. ⌜ r ≡ setsField (now (table .entry)) ⌝ }
 {
-    wide(table[6])
+    wide(table[SETS])
 }
 
 pub fn nodes_of(table: &[u8]) -> usize
     requires { ⌜ headerLength ≤ length (now table) ⌝ }
     ensures { λ r. ⌜ FieldIs nodesField (now (table .entry)) r ⌝ }
 {
-    word_of(table[7], table[8])
+    word_at(table, NODES)
 }

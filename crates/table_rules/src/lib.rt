@@ -2,7 +2,6 @@
 use logic::bit;
 use table_format::HEADER;
 use table_format::MOST_NODES;
-use table_format::RECORD;
 use table_format::a_of;
 use table_format::b_of;
 use table_format::both;
@@ -12,8 +11,10 @@ use table_format::kind_of;
 use table_format::nodes_of;
 use table_format::parent_of;
 use table_format::ports_of;
+use table_format::records_of;
 use table_format::relation_of;
 use table_format::sets_of;
+use table_format::table_bytes;
 use table_format::three;
 use table_format::version_of;
 use table_format::wide;
@@ -157,8 +158,8 @@ pub fn front_ok(table: &[u8]) -> bool
     if MOST_NODES < nodes {
         return false;
     }
-    if table.len() < HEADER + RECORD * nodes {
+    if table.len() < table_bytes(sets_of(table), nodes) {
         return false;
     }
-    root_ok(&table[HEADER..], nodes)
+    root_ok(records_of(table), nodes)
 }

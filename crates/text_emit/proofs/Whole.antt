@@ -9,7 +9,7 @@ use lib.ListN.{length, take, drop, length-drop}
 use lib.Seq.{length-take-le, take-at, drop-at, drop-drop}
 use Rattle.logic.specs.Formula.{root, Forest, none, kindNumber, nodeCount}
 use Rattle.text_core.specs.Core.{alone, place, coreOf, planOf}
-use Rattle.table_format.specs.Bytes.{headerLength, recordLength, relationByte, aByte, bByte, records, header, encoding}
+use Rattle.table_format.specs.Bytes.{recordLength, recordsFrom, tableBytes, relationByte, aByte, bByte, records, header, encoding}
 use Rattle.table_format.proofs.Bytes.{length-header}
 use Rattle.table_format.proofs.Encoding.{length-records}
 use Rattle.table_format.specs.declared.Fields.{Fields}
@@ -40,32 +40,33 @@ puts-core t e r sets B M O F E P W a S long =
     (recorded F root _ 65535 r M O (plain-shows 0 F root P refl (refl, refl, refl)) W)) long
 
 -- The header, and behind it a part lent for the records.
-pub writes-plan : (u nodes e last : ℕ) (sets t B M Y : List ℕ) → Written 0 (header u (length sets) nodes) B M → last ≡ headerLength + recordLength * nodes → last ≤ length B
-    → PutsCore t e sets (take (last - headerLength) (drop headerLength M)) Y
-    → WritesPlan u sets t e nodes B (take headerLength M ++ (Y ++ drop (last - headerLength) (drop headerLength M)))
+pub writes-plan : (u nodes e from last : ℕ) (sets t B M Y : List ℕ) → Written 0 (header u (length sets) nodes) B M
+    → from ≡ recordsFrom (length sets) → last ≡ tableBytes (length sets) nodes → last ≤ length B
+    → PutsCore t e sets (take (last - from) (drop from M)) Y
+    → WritesPlan u sets t e nodes B (take from M ++ (Y ++ drop (last - from) (drop from M)))
 unfolding WritesPlan PutsCore encoding planOf
-writes-plan u nodes e last sets t B M Y H is room C a S count =
+writes-plan u nodes e from last sets t B M Y H first is room C a S count =
     let h = header u (length sets) nodes in
-    let lh : length h ≡ headerLength = length-header u (length sets) nodes in
-    let rest : List ℕ = drop headerLength B in
+    let lh : length h ≡ from = length-header u (length sets) nodes ∙ sym first in
+    let rest : List ℕ = drop from B in
     let mid : M ≡ h ++ rest = written-start h B M H (omega arith) ∙ ap (λ (x : ℕ). h ++ drop x B) lh in
-    let front : take headerLength M ≡ h = ap (take headerLength) mid ∙ take-at h rest headerLength lh in
-    let back : drop headerLength M ≡ rest = ap (drop headerLength) mid ∙ drop-at h rest headerLength lh in
-    let n : last - headerLength ≡ recordLength * nodes = omega arith in
-    let long : length (take (last - headerLength) (drop headerLength M)) ≡ recordLength * nodeCount (coreOf sets a) =
-    ap (λ (l : List ℕ). length (take (last - headerLength) l)) back ∙ length-take-le (last - headerLength) rest (rw length-drop (omega arith)) ∙ n
+    let front : take from M ≡ h = ap (take from) mid ∙ take-at h rest from lh in
+    let back : drop from M ≡ rest = ap (drop from) mid ∙ drop-at h rest from lh in
+    let n : last - from ≡ recordLength * nodes = omega arith in
+    let long : length (take (last - from) (drop from M)) ≡ recordLength * nodeCount (coreOf sets a) =
+    ap (λ (l : List ℕ). length (take (last - from) l)) back ∙ length-take-le (last - from) rest (rw length-drop (omega arith)) ∙ n
     ∙ ap (λ (x : ℕ). recordLength * x) count in
     let own : Y ≡ records (coreOf sets a) 0 65535 = C a S long in
-    let tail : drop (last - headerLength) (drop headerLength M) ≡ drop (headerLength + recordLength * nodes) B =
-    ap₂ (λ (x : ℕ) (l : List ℕ). drop x l) n back ∙ drop-drop (recordLength * nodes) headerLength B in
+    let tail : drop (last - from) (drop from M) ≡ drop (tableBytes (length sets) nodes) B =
+    ap₂ (λ (x : ℕ) (l : List ℕ). drop x l) n back ∙ drop-drop (recordLength * nodes) from B ∙ ap (λ (x : ℕ). drop (x + recordLength * nodes) B) first in
     ap₂ (λ (x y : List ℕ). x ++ y) front (ap₂ (λ (x y : List ℕ). x ++ y) own tail)
     ∙ sym (append-assoc h (records (coreOf sets a) 0 65535) _)
-    ∙ ap (λ (x : ℕ). (header u (length sets) x ++ records (coreOf sets a) 0 65535) ++ drop (headerLength + recordLength * nodes) B) count
+    ∙ ap (λ (x : ℕ). (header u (length sets) x ++ records (coreOf sets a) 0 65535) ++ drop (tableBytes (length sets) nodes) B) count
 
-pub part-ready : (sets B M : List ℕ) (nodes last : ℕ) → PlanReady sets nodes B → length M ≡ length B → last ≡ headerLength + recordLength * nodes
-    → Ready sets 1 (take (last - headerLength) (drop headerLength M))
-unfolding headerLength recordLength
-part-ready sets B M nodes last P same is =
-    let long : length (take (last - headerLength) (drop headerLength M)) ≡ last - headerLength =
-    length-take-le (last - headerLength) (drop headerLength M) (rw length-drop (omega (arith, P .room))) in
+pub part-ready : (sets B M : List ℕ) (nodes from last : ℕ) → PlanReady sets nodes B → length M ≡ length B
+    → from ≡ recordsFrom (length sets) → last ≡ tableBytes (length sets) nodes → Ready sets 1 (take (last - from) (drop from M))
+unfolding recordLength
+part-ready sets B M nodes from last P same first is =
+    let long : length (take (last - from) (drop from M)) ≡ last - from =
+    length-take-le (last - from) (drop from M) (rw length-drop (omega (arith, P .room))) in
     record { few-sets = P .few-sets; placed = rw long (omega (arith, P .some)); few = rw long (omega (arith, P .few)) }

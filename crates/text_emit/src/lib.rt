@@ -1,9 +1,10 @@
 // Writes the plan table of a text's core formula, from the tree's records. Paper 01, sections Plan table and Plan text.
 use table_format::Fields;
-use table_format::HEADER;
 use table_format::RECORD;
 use table_format::put_header;
 use table_format::put_record;
+use table_format::records_from;
+use table_format::table_bytes;
 use text_names::set_number;
 use text_tree::flip;
 use text_tree::is_literal;
@@ -388,8 +389,9 @@ pub fn write_plan(u: u8, sets: &[u8], t: &[u16], e: usize, nodes: usize, table: 
     requires { ⌜ PlanReady (now sets) nodes (now table) ⌝ }
     ensures { λ _. ⌜ WritesPlan u (now (sets .entry)) (now (t .entry)) e nodes (now (table .entry)) (now (table .exit)) ⌝ }
 {
-    put_header(u, sets.len() as u8, nodes as u16, table);
-    let from = HEADER;
-    let last = HEADER + RECORD * nodes;
+    let n = sets.len();
+    put_header(u, n as u8, nodes as u16, table);
+    let from = records_from(n);
+    let last = table_bytes(n, nodes);
     put_core(t, e, sets, &mut table[from..last]);
 }

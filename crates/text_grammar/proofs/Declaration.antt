@@ -1,13 +1,15 @@
 -- The set letters of a declaration, and the reader's steps over a whole text. Assumes nothing.
-use mathlib.Core.Path.{_≡_, refl, sym, ap, _∙_}
-use mathlib.Core.List.{List, [], _∷_}
+use mathlib.Core.Path.{_≡_, refl, sym, ap, ap₂, _∙_}
+use mathlib.Core.List.{List, [], _∷_, _++_, append-assoc, append-nil}
 use mathlib.Core.Bool.{Bool, true, false}
-use Prim.Native.Nat.{ℕ, zero, suc, _+_, _*_, _≤_, _<_}
+use Prim.Native.Nat.{ℕ, zero, suc, _+_, _*_, _≤_, _<_, min}
 use native.Mathlib.Omega.{arith}
+use native.Mathlib.Numerals.{add-one}
 use native.Mathlib.Nat.{le-refl}
-use lib.ListN.{length}
-use lib.Dec.{eqb}
-use borrow.Author.Tests.{eqb-true, eqb-false, ne-eqb}
+use lib.ListN.{length, take, set, length-set, length-take}
+use lib.Seq.{length-take-le, take-suc-set, take-all, take-at}
+use lib.Dec.{eqb, ltb}
+use borrow.Author.Tests.{eqb-true, eqb-false, ne-eqb, ltb-true, ltb-false}
 use Rattle.text_tree.specs.Tree.{Tree}
 use Rattle.text_tokens.specs.declared.Token.{Token}
 use Rattle.text_tokens.specs.Tokens.{tokenAt}
@@ -17,7 +19,7 @@ use Rattle.text_grammar.specs.declared.Letters.{Letters}
 use Rattle.text_grammar.specs.declared.Syntax.{Syntax}
 use Rattle.text_grammar.specs.Grammar.{formula, kindAt, nextAt, valueAt}
 use Rattle.text_grammar.specs.Parser.{found, test, parseAt, lettersAt, afterLetters, failed, read, ended, declared, parsed}
-use Rattle.text_grammar.specs.inner.Contract.{Room, Reads, Lettered, Lent, Parsed}
+use Rattle.text_grammar.specs.inner.Contract.{Room, Reads, Keeps, Lettered, Lent, Parsed}
 use Rattle.text_grammar.proofs.Readers.{clash, kind-of, next-of, not-kind, moves}
 
 -- at the end of the text stands no token
@@ -78,59 +80,101 @@ same-letters (suc f) (suc g) s i h p q =
         }
     go false e r = same-stop (suc f) (suc g) s i (eqb-false _ _ e)
 
--- the reader's loop: `count` letters stand from `at` to i
-pub record Passed (s : List ℕ) (at i count : ℕ) : Type 0 where
+-- one letter more in the table: what was kept, and the letter in front of the others
+keeps-length : (n v : ℕ) (L M : List ℕ) (r : ℕ) → Keeps n v L M r → length M ≡ length L
+keeps-length n v L M r K = go (ltb n (length L)) refl
+  where
+    go : (b : Bool) → ltb n (length L) ≡ b → length M ≡ length L
+    go true e = ap length (K .holds (ltb-true n (length L) e) .0) ∙ length-set {A = ℕ} L n v
+    go false e = ap length (K .full (ltb-false n (length L) e) .0)
+
+keeps-few : (n v : ℕ) (L M : List ℕ) (r : ℕ) → Keeps n v L M r → n ≤ length L → r ≤ length M
+keeps-few n v L M r K h = go (ltb n (length L)) refl
+  where
+    go : (b : Bool) → ltb n (length L) ≡ b → r ≤ length M
+    go true e = let l = ltb-true n (length L) e in omega (arith, K .holds l .1, keeps-length n v L M r K)
+    go false e = omega (arith, K .full (ltb-false n (length L) e) .1, keeps-length n v L M r K)
+
+keeps-step : (n v : ℕ) (L M : List ℕ) (r : ℕ) → Keeps n v L M r → n ≤ length L → (X : List ℕ)
+    → take (length M) (take r M ++ X) ≡ take (length L) (take n L ++ (v ∷ X))
+keeps-step n v L M r K h X = ap (λ (m : ℕ). take m (take r M ++ X)) (keeps-length n v L M r K) ∙ go (ltb n (length L)) refl
+  where
+    whole : length L ≤ n → (Y : List ℕ) → take (length L) (take n L ++ Y) ≡ take n L
+    whole f Y = take-at (take n L) Y (length L) (length-take-le n L h ∙ omega arith)
+
+    go : (b : Bool) → ltb n (length L) ≡ b → take (length L) (take r M ++ X) ≡ take (length L) (take n L ++ (v ∷ X))
+    go true e =
+        let l = ltb-true n (length L) e in
+        let k = K .holds l in
+        ap (λ (Y : List ℕ). take (length L) (Y ++ X))
+        ((λ i. take (k .1 i) (k .0 i)) ∙ ap (λ (m : ℕ). take m (set L n v)) (add-one n) ∙ take-suc-set L n v l)
+        ∙ ap (take (length L)) (append-assoc (take n L) (v ∷ []) X)
+    go false e =
+        let f = ltb-false n (length L) e in
+        let k = K .full f in
+        ap (λ (Y : List ℕ). take (length L) (Y ++ X)) (λ i. take (k .1 i) (k .0 i)) ∙ whole f X ∙ sym (whole f (v ∷ X))
+
+-- the reader's loop: the letters from `at` to i are read, and the first n of them stand in the table L
+pub record Passed (s : List ℕ) (at i : ℕ) (L : List ℕ) (n : ℕ) : Type 0 where
   pub within : i ≤ length s
   pub onward : at ≤ i
-  pub few : count ≤ i
-  pub counts : (f g : ℕ) → length s ≤ f + at → length s ≤ g + i → count + length (lettersAt g s i) ≡ length (lettersAt f s at)
+  pub few : n ≤ length L
+  pub kept : (f g : ℕ) → length s ≤ f + at → length s ≤ g + i → take (length L) (take n L ++ lettersAt g s i) ≡ take (length L) (lettersAt f s at)
   pub ends : (f g : ℕ) → length s ≤ f + at → length s ≤ g + i → afterLetters g s i ≡ afterLetters f s at
 
-pub passed-none : (s : List ℕ) (at : ℕ) → at ≤ length s → Passed s at at 0
-passed-none s at h =
+pub passed-none : (s : List ℕ) (at : ℕ) (L : List ℕ) → at ≤ length s → Passed s at at L 0
+passed-none s at L h =
     record {
       within = h;
       onward = le-refl at;
       few = omega arith;
-      counts = λ f g p q. omega (arith, ap length (same-letters g f s at h q p .letters));
+      kept = λ f g p q. ap (take (length L)) (same-letters g f s at h q p .letters);
       ends = λ f g p q. same-letters g f s at h q p .after;
     }
 
-pub passed-one : (s : List ℕ) (at i count : ℕ) (t : Token) → Passed s at i count → t ≡ tokenAt s i → t .kind ≡ 23 → Passed s at (t .next) (count + 1)
-passed-one s at i count t P T y =
+pub passed-one : (s : List ℕ) (at i : ℕ) (L M : List ℕ) (n r : ℕ) (t : Token) → Passed s at i L n → t ≡ tokenAt s i → t .kind ≡ 23
+    → Keeps n (t .value) L M r → Passed s at (t .next) M r
+passed-one s at i L M n r t P T y K =
     let k = kind-of s i t T 23 y in
     let w = letter-passes s i (P .within) k in
-    let n : nextAt s i ≡ t .next = next-of s i t T in
+    let next : nextAt s i ≡ t .next = next-of s i t T in
+    let value : t .value ≡ valueAt s i = ap (λ (x : Token). x .value) T in
     let m : t .next ≤ length s = omega (arith, w .within) in
-    let L = length s in
+    let F = length s in
     record {
       within = m;
       onward = omega (arith, P .onward, w .on);
-      few = omega (arith, P .few, w .on);
-      counts = λ f g p q.
-          let a : length (lettersAt (suc L) s i) ≡ suc (length (lettersAt L s (t .next))) = ap length (letters-step s i L k) ∙ ap (λ (x : ℕ). suc (length (lettersAt L s x))) n in
-          let b : length (lettersAt g s (t .next)) ≡ length (lettersAt L s (t .next)) = ap length (same-letters g L s (t .next) m q (omega arith) .letters) in
-          omega (arith, P .counts f (suc L) p (omega arith), a, b);
+      few = keeps-few n (t .value) L M r K (P .few);
+      kept = λ f g p q.
+          keeps-step n (t .value) L M r K (P .few) (lettersAt g s (t .next))
+          ∙ ap (λ (l : List ℕ). take (length L) (take n L ++ l))
+          (ap₂ _∷_ value (same-letters g F s (t .next) m q (omega arith) .letters ∙ ap (lettersAt F s) (sym next)) ∙ sym (letters-step s i F k))
+          ∙ P .kept f (suc F) p (omega arith)
+          ∙ ap (λ (x : ℕ). take x (lettersAt f s at)) (sym (keeps-length n (t .value) L M r K));
       ends = λ f g p q.
-          same-letters g L s (t .next) m q (omega arith) .after ∙ ap (afterLetters L s) (sym n) ∙ sym (after-step s i L k) ∙ P .ends f (suc L) p (omega arith);
+          same-letters g F s (t .next) m q (omega arith) .after ∙ ap (afterLetters F s) (sym next) ∙ sym (after-step s i F k) ∙ P .ends f (suc F) p (omega arith);
     }
 
-pub passed-all : (s : List ℕ) (at i count : ℕ) → Passed s at i count → (kindAt s i ≡ 23 → ⊥) → Lettered s at (record { count = count; next = i })
-passed-all s at i count P z =
+pub passed-all : (s : List ℕ) (at i : ℕ) (L : List ℕ) (n : ℕ) → Passed s at i L n → (kindAt s i ≡ 23 → ⊥) → Lettered s at L (record { count = n; next = i })
+passed-all s at i L n P z =
     record {
-      counts = λ f p. let a : length (lettersAt (length s) s i) ≡ 0 = ap length (letters-stop s i (length s) z) in omega (arith, P .counts f (length s) p (omega arith), a);
+      few = P .few;
+      kept = λ f p.
+          sym (take-all (length L) (take n L) (omega (arith, length-take-le n L (P .few), P .few)))
+          ∙ ap (take (length L)) (sym (append-nil (take n L)) ∙ ap (λ (l : List ℕ). take n L ++ l) (sym (letters-stop s i (length s) z)))
+          ∙ P .kept f (length s) p (omega arith);
       ends = λ f p. sym (after-stop s i (length s) z) ∙ P .ends f (length s) p (omega arith);
       within = P .within;
       onward = P .onward;
     }
 
-pub passed-end : (s : List ℕ) (at i count : ℕ) → Passed s at i count → length s ≤ i → Lettered s at (record { count = count; next = i })
-passed-end s at i count P h = passed-all s at i count P (no-letter s i (P .within) h)
+pub passed-end : (s : List ℕ) (at i : ℕ) (L : List ℕ) (n : ℕ) → Passed s at i L n → length s ≤ i → Lettered s at L (record { count = n; next = i })
+passed-end s at i L n P h = passed-all s at i L n P (no-letter s i (P .within) h)
 
 -- the whole text
 
-no-syntax : (s after : List ℕ) (r : Syntax) → parsed s ≡ failed → r .ok ≡ false → Parsed s after r
-no-syntax s after r e q = record { accepts = λ y. clash (r .ok) y q; refuses = λ _. e }
+no-syntax : (s after letters : List ℕ) (r : Syntax) → parsed s ≡ failed → r .ok ≡ false → Parsed s after letters r
+no-syntax s after letters r e q = record { accepts = λ y. clash (r .ok) y q; refuses = λ _. e }
 
 empty : (xs : List ℕ) → length xs ≡ 0 → xs ≡ []
 empty [] e = refl
@@ -146,31 +190,34 @@ ended-more s xs a i e = rw e
 ended-here : (s xs : List ℕ) (a : Tree) (i : ℕ) → kindAt s i ≡ 0 → ended s xs (found a i) ≡ read xs a
 ended-here s xs a i e = rw e
 
-module _ (s out : List ℕ) (lent : Lent s out) (opening : Token) (O : opening ≡ tokenAt s 0) where
+module _ (s out before letters : List ℕ) (lent : Lent s out before) (same : length letters ≡ length before) (opening : Token) (O : opening ≡ tokenAt s 0) where
   pub opening-within : opening .next ≤ length s
   opening-within = moves s 0 opening O (omega arith) .within
 
-  pub whole-unopened : (opening .kind ≡ 1 → ⊥) → (o : List ℕ) (r : Syntax) → r .ok ≡ false → Parsed s o r
+  pub whole-unopened : (opening .kind ≡ 1 → ⊥) → (o : List ℕ) (r : Syntax) → r .ok ≡ false → Parsed s o letters r
   unfolding parsed
-  whole-unopened z o r q = no-syntax s o r (rw (not-kind s 0 opening O 1 z)) q
+  whole-unopened z o r q = no-syntax s o letters r (rw (not-kind s 0 opening O 1 z)) q
 
-  module _ (y : opening .kind ≡ 1) (sets : Letters) (S : Lettered s (opening .next) sets) where
+  module _ (y : opening .kind ≡ 1) (sets : Letters) (S : Lettered s (opening .next) letters sets) where
     opened : parsed s ≡ declared s (lettersAt (length s) s (opening .next)) (sets .next)
     unfolding parsed
     opened = rw (kind-of s 0 opening O 1 y, next-of s 0 opening O, ← S .ends (length s) (omega arith))
 
-    count-is : sets .count ≡ length (lettersAt (length s) s (opening .next))
-    count-is = S .counts (length s) (omega arith)
+    -- one letter at least is kept
+    count-is : sets .count ≡ min (length letters) (length (lettersAt (length s) s (opening .next)))
+    count-is =
+        sym (length-take-le (sets .count) letters (S .few)) ∙ ap length (S .kept (length s) (omega arith))
+        ∙ length-take (length letters) (lettersAt (length s) s (opening .next))
 
-    pub whole-unnamed : sets .count ≡ 0 → (o : List ℕ) (r : Syntax) → r .ok ≡ false → Parsed s o r
-    whole-unnamed e o r q = no-syntax s o r (opened ∙ ap (λ (xs : List ℕ). declared s xs (sets .next)) (empty (lettersAt (length s) s (opening .next)) (sym count-is ∙ e))) q
+    pub whole-unnamed : sets .count ≡ 0 → (o : List ℕ) (r : Syntax) → r .ok ≡ false → Parsed s o letters r
+    whole-unnamed e o r q = no-syntax s o letters r (opened ∙ ap (λ (xs : List ℕ). declared s xs (sets .next)) (empty (lettersAt (length s) s (opening .next)) (omega (arith, count-is, lent .some)))) q
 
     module _ (z : sets .count ≡ 0 → ⊥) (closing : Token) (C : closing ≡ tokenAt s (sets .next)) where
       close-step : declared s (lettersAt (length s) s (opening .next)) (sets .next) ≡ test (eqb (kindAt s (sets .next)) 2) (λ j. ended s (lettersAt (length s) s (opening .next)) (parseAt (4 * length s + 4) formula s j)) (λ j. failed) (nextAt s (sets .next))
-      close-step = declared-some s (lettersAt (length s) s (opening .next)) (sets .next) (λ e. z (count-is ∙ e))
+      close-step = declared-some s (lettersAt (length s) s (opening .next)) (sets .next) (λ e. z (omega (arith, count-is)))
 
-      pub whole-unclosed : (closing .kind ≡ 2 → ⊥) → (o : List ℕ) (r : Syntax) → r .ok ≡ false → Parsed s o r
-      whole-unclosed w o r q = no-syntax s o r (opened ∙ close-step ∙ rw (not-kind s (sets .next) closing C 2 w)) q
+      pub whole-unclosed : (closing .kind ≡ 2 → ⊥) → (o : List ℕ) (r : Syntax) → r .ok ≡ false → Parsed s o letters r
+      whole-unclosed w o r q = no-syntax s o letters r (opened ∙ close-step ∙ rw (not-kind s (sets .next) closing C 2 w)) q
 
       module _ (c : closing .kind ≡ 2) where
         closed-step : parsed s ≡ ended s (lettersAt (length s) s (opening .next)) (parseAt (4 * length s + 4) formula s (closing .next))
@@ -183,16 +230,16 @@ module _ (s out : List ℕ) (lent : Lent s out) (opening : Token) (O : opening �
         body-room = record { within = close-within; room = omega (arith, lent .short); wide = lent .wide; shallow = omega arith }
 
         module _ (o : List ℕ) (body : Reading) (B : Reads formula s out o (closing .next) 0 0 body) where
-          pub whole-none : body .ok ≡ false → (r : Syntax) → r .ok ≡ false → Parsed s o r
-          whole-none e r q = no-syntax s o r (closed-step ∙ ap (ended s (lettersAt (length s) s (opening .next))) (B (4 * length s + 4) (omega arith) .refuses e)) q
+          pub whole-none : body .ok ≡ false → (r : Syntax) → r .ok ≡ false → Parsed s o letters r
+          whole-none e r q = no-syntax s o letters r (closed-step ∙ ap (ended s (lettersAt (length s) s (opening .next))) (B (4 * length s + 4) (omega arith) .refuses e)) q
 
           module _ (e : body .ok ≡ true) (last : Token) (L : last ≡ tokenAt s (body .next)) where
-            pub whole-longer : (last .kind ≡ 0 → ⊥) → (r : Syntax) → r .ok ≡ false → Parsed s o r
+            pub whole-longer : (last .kind ≡ 0 → ⊥) → (r : Syntax) → r .ok ≡ false → Parsed s o letters r
             whole-longer w r q =
                 let R = B (4 * length s + 4) (omega arith) .accepts e in
-                no-syntax s o r (closed-step ∙ ap (ended s (lettersAt (length s) s (opening .next))) (R .is) ∙ ended-more s _ (R .tree) (body .next) (not-kind s (body .next) last L 0 w)) q
+                no-syntax s o letters r (closed-step ∙ ap (ended s (lettersAt (length s) s (opening .next))) (R .is) ∙ ended-more s _ (R .tree) (body .next) (not-kind s (body .next) last L 0 w)) q
 
-            pub whole-read : last .kind ≡ 0 → Parsed s o (record { ok = true; deep = body .deep; first = opening .next; sets = sets .count; end = body .count })
+            pub whole-read : last .kind ≡ 0 → Parsed s o letters (record { ok = true; deep = body .deep; sets = sets .count; end = body .count })
             whole-read w =
                 let R = B (4 * length s + 4) (omega arith) .accepts e in
                 record {
@@ -202,9 +249,8 @@ module _ (s out : List ℕ) (lent : Lent s out) (opening : Token) (O : opening �
                     is = closed-step ∙ ap (ended s (lettersAt (length s) s (opening .next))) (R .is) ∙ ended-here s _ (R .tree) (body .next) (kind-of s (body .next) last L 0 w);
                     stored = R .stored;
                     deeper = R .deeper;
-                    first = sym (next-of s 0 opening O);
-                    letters = refl;
-                    count = count-is;
+                    few = S .few;
+                    kept = S .kept (length s) (omega arith);
                     fits = omega (arith, R .short, R .within, lent .short);
                   };
                   refuses = λ q. clash true refl q;

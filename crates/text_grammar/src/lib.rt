@@ -10,18 +10,17 @@ pub struct Reading {
     pub count: usize,
 }
 
-// The set letters of a declaration: how many, and the position after them.
+// The set letters of a declaration: how many stand in the lent table, and the position after them.
 pub struct Letters {
     pub count: usize,
     pub next: usize,
 }
 
-// A text that is read: whether it is in the grammar (else ground 3), whether it is nested too deep (ground 4), the position
-// of the first set letter's token, how many set letters there are, and how many numbers the tree takes in the table.
+// A text that is read: whether it is in the grammar (else ground 3), whether it is nested too deep (ground 4), how many set
+// letters and how many numbers of the tree stand in the lent tables.
 pub struct Syntax {
     pub ok: bool,
     pub deep: bool,
-    pub first: usize,
     pub sets: usize,
     pub end: usize,
 }

@@ -16,7 +16,7 @@ ghost use mathlib.Core.Bool.{false};
 ghost use Prim.Native.Nat.{_≤_};
 ghost use lib.ListN.{length};
 ghost use Rattle.text_grammar.specs.Parser.{variableLiteral, sizeLiteral};
-ghost use Rattle.text_grammar.specs.inner.Contract.{Room, Outcome, Operands, Lettered};
+ghost use Rattle.text_grammar.specs.inner.Contract.{Room, Outcome, Operands, Keeps, Lettered};
 
 // Operators of records (crate syntax, specs/Stored.antt). Those of the other signs follow from the kinds of tokens: an
 // arrow's is its kind less ARROW, a quantifier's its kind less QUANTIFIER, that of `v < w` and its kin is the relation's
@@ -112,10 +112,21 @@ pub fn size_literal(text: &[u8], at: usize, out: &mut [u16], n: usize, d: usize)
     operand(text, s.value, t.kind + SIZE, NUMBER, t.next, out, n, d)
 }
 
-// The set letters at `at`.
-pub fn set_letters(text: &[u8], at: usize) -> Letters
+// One more letter behind the first n of a table, if there is room; says how many stand there then.
+fn keep(letters: &mut [u8], n: usize, letter: u8) -> usize
+    ensures { λ r. ⌜ Keeps n letter (now (letters .entry)) (now (letters .exit)) r ⌝ }
+{
+    if n < letters.len() {
+        letters[n] = letter;
+        return n + 1;
+    }
+    n
+}
+
+// The set letters at `at`, all passed, and the first of them kept, as many as there is room for.
+pub fn set_letters(text: &[u8], at: usize, letters: &mut [u8]) -> Letters
     requires { ⌜ at ≤ length (now text) ⌝ }
-    ensures { λ r. ⌜ Lettered (now (text .entry)) at r ⌝ }
+    ensures { λ r. ⌜ Lettered (now (text .entry)) at (now (letters .exit)) r ⌝ }
 {
     let mut i = at;
     let mut count: usize = 0;
@@ -127,8 +138,8 @@ pub fn set_letters(text: &[u8], at: usize) -> Letters
                 next: i,
             };
         }
+        count = keep(letters, count, t.value);
         i = t.next;
-        count += 1;
     }
     Letters {
         count: count,

@@ -17,22 +17,22 @@ fn no_syntax() -> Syntax
     Syntax {
         ok: false,
         deep: false,
-        first: 0,
         sets: 0,
         end: 0,
     }
 }
 
-// "Text: `[`, one or more upper-case set letters, `]`, formula.": reads a whole text; its tree goes into `out`.
-pub fn parse(text: &[u8], out: &mut [u16]) -> Syntax
-    requires { ⌜ Lent (now text) (now out) ⌝ }
-    ensures { λ r. ⌜ Parsed (now (text .entry)) (now (out .exit)) r ⌝ }
+// "Text: `[`, one or more upper-case set letters, `]`, formula.": reads a whole text; its tree goes into `out`, and the first of
+// its set letters into `letters`.
+pub fn parse(text: &[u8], out: &mut [u16], letters: &mut [u8]) -> Syntax
+    requires { ⌜ Lent (now text) (now out) (now letters) ⌝ }
+    ensures { λ r. ⌜ Parsed (now (text .entry)) (now (out .exit)) (now (letters .exit)) r ⌝ }
 {
     let opening = token_at(text, 0);
     if opening.kind != LEFT_SQUARE {
         return no_syntax();
     }
-    let sets = set_letters(text, opening.next);
+    let sets = set_letters(text, opening.next, letters);
     if sets.count == 0 {
         return no_syntax();
     }
@@ -51,7 +51,6 @@ pub fn parse(text: &[u8], out: &mut [u16]) -> Syntax
     Syntax {
         ok: true,
         deep: body.deep,
-        first: opening.next,
         sets: sets.count,
         end: body.count,
     }

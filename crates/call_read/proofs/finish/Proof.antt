@@ -1,8 +1,6 @@
 use mathlib.Core.Path.{refl}
-use native.Mathlib.Omega.{arith}
 use borrow.Author.Needs.{needs}
-use Rattle.table_format.specs.Bytes.{headerLength, recordLength}
-use Rattle.call_read.proofs.Finishing.{finish-refused, finish-short, finish-ready, finish-accepted, from-start}
+use Rattle.call_read.proofs.Finishing.{finish-refused, finish-short, finish-few, finish-ready, finish-accepted, from-start}
 use Rattle.call_read.proofs.finish.Statement.{statement}
 use Rattle.call_read.proofs.finish.Tie as tie
 
@@ -25,29 +23,24 @@ returns c =
 cast-nodes : tie.Need-cast-nodes
 cast-nodes c = search needs
 
-mul-if2 : tie.Need-mul-if2
-mul-if2 c = search needs
-
-add-if2 : tie.Need-add-if2
-add-if2 c = search needs
+table-bytes-requires : tie.Need-table-bytes-requires
+table-bytes-requires c κs =
+    finish-few (c .before .before .before .before .before .before .before .before .args .u) _ _ _ _ _ (from-start (c .before .before .before .before .before .before .before .before .args .n) (c .before .before .before .before .before .before .before .before .args .letters .now)) (c .before .before .before .core-answer .result) (c .before .before .before .core-answer .ensures) (c .before .if1 .left) (c .before .before .before .before .before .before .before .before .args .table .now) _ refl (c .before .before .before .before .before .before .before .before .pre .sets) (c .before .before .before .before .before .before .before .before .pre .tree) (c .before .before .before .before .before .before .before .before .pre .kept)
 
 returns-2 : tie.Need-returns-2
-unfolding headerLength recordLength
 returns-2 c =
-    finish-short _ _ _ _ _ _ (from-start (c .before .before .before .before .before .before .before .before .before .args .n) (c .before .before .before .before .before .before .before .before .before .args .letters .now)) (c .before .before .before .before .core-answer .result) (c .before .before .before .before .core-answer .ensures) (c .before .before .if1 .left) (c .before .before .before .before .before .before .before .before .before .args .table .now) (c .before .before .before .before .core-answer .result .nodes) refl (omega (arith, c .if2 .taken))
+    finish-short _ _ _ _ _ _ (from-start (c .before .before .before .before .before .before .before .before .before .before .args .n) (c .before .before .before .before .before .before .before .before .before .before .args .letters .now)) (c .before .before .before .before .before .core-answer .result) (c .before .before .before .before .before .core-answer .ensures) (c .before .before .before .if1 .left) (c .before .before .before .before .before .before .before .before .before .before .args .table .now) (c .before .before .before .before .before .core-answer .result .nodes) refl (rw (c .before .table-bytes .ensures) at (c .if2 .taken))
 
 write-plan-requires : tie.Need-write-plan-requires
-unfolding headerLength recordLength
 write-plan-requires c κs =
-    finish-ready (c .before .before .before .before .before .before .before .before .before .before .args .u) _ _ _ _ _ (from-start (c .before .before .before .before .before .before .before .before .before .before .args .n) (c .before .before .before .before .before .before .before .before .before .before .args .letters .now)) (c .before .before .before .before .before .core-answer .result) (c .before .before .before .before .before .core-answer .ensures) (c .before .before .before .if1 .left) _ _ refl (c .before .before .before .before .before .before .before .before .before .before .pre .sets) (c .before .before .before .before .before .before .before .before .before .before .pre .tree) (c .before .before .before .before .before .before .before .before .before .before .pre .kept) (c .before .if2 .left)
+    finish-ready (c .before .before .before .before .before .before .before .before .before .before .before .args .u) _ _ _ _ _ (from-start (c .before .before .before .before .before .before .before .before .before .before .before .args .n) (c .before .before .before .before .before .before .before .before .before .before .before .args .letters .now)) (c .before .before .before .before .before .before .core-answer .result) (c .before .before .before .before .before .before .core-answer .ensures) (c .before .before .before .before .if1 .left) _ _ refl (c .before .before .before .before .before .before .before .before .before .before .before .pre .sets) (c .before .before .before .before .before .before .before .before .before .before .before .pre .tree) (c .before .before .before .before .before .before .before .before .before .before .before .pre .kept) (rw (c .before .before .table-bytes .ensures) at (c .before .if2 .left))
 
 same-length : tie.Need-same-length
 same-length c = search needs
 
 returns-3 : tie.Need-returns-3
-unfolding headerLength recordLength
 returns-3 c =
-    finish-accepted _ _ _ _ _ _ (from-start (c .before .before .before .before .before .before .before .before .before .before .before .before .before .args .n) (c .before .before .before .before .before .before .before .before .before .before .before .before .before .args .letters .now)) (c .before .before .before .before .before .before .before .before .core-answer .result) (c .before .before .before .before .before .before .before .before .core-answer .ensures) (c .before .before .before .before .before .before .if1 .left) _ _ refl _ (c .before .before .before .before .if2 .left) (c .before .before .write-plan .ensures)
+    finish-accepted _ _ _ _ _ _ (from-start (c .before .before .before .before .before .before .before .before .before .before .before .before .before .before .args .n) (c .before .before .before .before .before .before .before .before .before .before .before .before .before .before .args .letters .now)) (c .before .before .before .before .before .before .before .before .before .core-answer .result) (c .before .before .before .before .before .before .before .before .before .core-answer .ensures) (c .before .before .before .before .before .before .before .if1 .left) _ _ refl _ (rw (c .before .before .before .before .before .table-bytes .ensures) at (c .before .before .before .before .if2 .left)) (c .before .before .write-plan .ensures)
 
 pub finish-spec : {M : Type 1} → statement M
 finish-spec =
@@ -59,8 +52,7 @@ finish-spec =
     core-answer-requires
     returns
     cast-nodes
-    mul-if2
-    add-if2
+    table-bytes-requires
     returns-2
     write-plan-requires
     same-length

@@ -7,19 +7,14 @@ use lib.ListN.{length, take}
 use Rattle.logic.specs.Moves.{refusal}
 use Rattle.text_tree.specs.Tree.{Tree}
 use Rattle.text_tree.specs.inner.Stored.{Stored}
-use Rattle.text_grammar.specs.Parser.{read, lettersAt}
+use Rattle.text_grammar.specs.Parser.{read}
 use Rattle.text_core.specs.Names.{Lettered}
 use Rattle.text_core.specs.Core.{planOf}
 use Rattle.text_core.specs.Grounds.{coreGrounds}
 use Rattle.contracts.specs.declared.Answer.{Answer}
 use Rattle.contracts.specs.Read.{tableLength, readOr}
 
--- The first set letters of a text, as many as there is room for. Ground 5 is decided by the first 17.
-pub record FirstLetters (s : List ℕ) (at : ℕ) (after : List ℕ) (r : ℕ) : Type 0 where
-  pub within : r ≤ length after
-  pub are : take r after ≡ take (length after) (lettersAt (length s) s at)
-
--- A text in the grammar: its tree in the table t, the first of its set letters in another.
+-- A text in the grammar: its tree in the table t, the first of its set letters in another. Ground 5 is decided by the first 17.
 pub record Kept (t : List ℕ) (e : ℕ) (letters : List ℕ) (n : ℕ) (sets : List ℕ) (a : Tree) : Type 0 where
   pub stored : Stored t e a
   pub lettered : Lettered a

@@ -2,76 +2,49 @@ use mathlib.Core.Path.{_≡_}
 use Prim.Native.Nat.{_-_}
 use native.Mathlib.Omega.{arith}
 use borrow.Author.Needs.{needs}
-use Rattle.table_format.specs.Bytes.{headerLength, recordLength}
 use Rattle.table_format.proofs.Ready.{ready}
 use Rattle.cells_fill.proofs.Loading.{placed-plan, plan-filled}
 use Rattle.cells_fill.proofs.fill.Statement.{statement}
 use Rattle.cells_fill.proofs.fill.Tie as tie
 
-add-from : tie.Need-add-from
-add-from c = search needs
-
-mul-last : tie.Need-mul-last
-mul-last c =
-    omega (arith, (ready (c .before .before .before .args .table .now) (c .before .before .before .pre .plan) (c .before .before .before .args .nodes) (c .before .before .before .pre .decodes) (c .before .before .before .pre .nodes-are)) .facts .nodes512, (ready (c .before .before .before .args .table .now) (c .before .before .before .pre .plan) (c .before .before .before .args .nodes) (c .before .before .before .pre .decodes) (c .before .before .before .pre .nodes-are)) .count)
-
-add-last : tie.Need-add-last
-add-last c =
-    omega (arith, (ready (c .before .before .before .args .table .now) (c .before .before .before .pre .plan) (c .before .before .before .args .nodes) (c .before .before .before .pre .decodes) (c .before .before .before .pre .nodes-are)) .facts .nodes512, (ready (c .before .before .before .args .table .now) (c .before .before .before .pre .plan) (c .before .before .before .args .nodes) (c .before .before .before .pre .decodes) (c .before .before .before .pre .nodes-are)) .count)
+below-root-requires : tie.Need-below-root-requires
+below-root-requires c κs =
+    let r = ready (c .before .before .before .args .table .now) (c .before .before .before .pre .plan) (c .before .before .before .args .nodes) (c .before .before .before .pre .decodes) (c .before .before .before .pre .nodes-are) in
+    (omega (arith, r .count), omega (arith, r .facts .nodes512, r .count), r .long)
 
 put-unit-requires : tie.Need-put-unit-requires
 put-unit-requires c κs =
-    omega (arith, (ready (c .before .before .before .before .args .table .now) (c .before .before .before .before .pre .plan) (c .before .before .before .before .args .nodes) (c .before .before .before .before .pre .decodes) (c .before .before .before .before .pre .nodes-are)) .total, c .before .before .before .before .pre .own-cells)
+    omega (arith, (ready (c .before .before .before .before .before .args .table .now) (c .before .before .before .before .before .pre .plan) (c .before .before .before .before .before .args .nodes) (c .before .before .before .before .before .pre .decodes) (c .before .before .before .before .before .pre .nodes-are)) .total, c .before .before .before .before .before .pre .own-cells)
 
 sub-fill-forest : tie.Need-sub-fill-forest
-sub-fill-forest c =
-    omega (arith, (ready (c .before .before .before .before .before .before .before .args .table .now) (c .before .before .before .before .before .before .before .pre .plan) (c .before .before .before .before .before .before .before .args .nodes) (c .before .before .before .before .before .before .before .pre .decodes) (c .before .before .before .before .before .before .before .pre .nodes-are)) .facts .nodes2, (ready (c .before .before .before .before .before .before .before .args .table .now) (c .before .before .before .before .before .before .before .pre .plan) (c .before .before .before .before .before .before .before .args .nodes) (c .before .before .before .before .before .before .before .pre .decodes) (c .before .before .before .before .before .before .before .pre .nodes-are)) .count)
+sub-fill-forest c = search needs
 
 part-fill-forest-start : tie.Need-part-fill-forest-start
-part-fill-forest-start c =
-    omega (arith, (ready (c .before .before .before .before .before .before .before .args .table .now) (c .before .before .before .before .before .before .before .pre .plan) (c .before .before .before .before .before .before .before .args .nodes) (c .before .before .before .before .before .before .before .pre .decodes) (c .before .before .before .before .before .before .before .pre .nodes-are)) .facts .nodes2, (ready (c .before .before .before .before .before .before .before .args .table .now) (c .before .before .before .before .before .before .before .pre .plan) (c .before .before .before .before .before .before .before .args .nodes) (c .before .before .before .before .before .before .before .pre .decodes) (c .before .before .before .before .before .before .before .pre .nodes-are)) .count)
+part-fill-forest-start c = search needs
 
 part-fill-forest-end : tie.Need-part-fill-forest-end
-unfolding headerLength recordLength
-part-fill-forest-end c =
-    omega (arith, (ready (c .before .before .before .before .before .before .before .args .table .now) (c .before .before .before .before .before .before .before .pre .plan) (c .before .before .before .before .before .before .before .args .nodes) (c .before .before .before .before .before .before .before .pre .decodes) (c .before .before .before .before .before .before .before .pre .nodes-are)) .long)
-
-sub-fill-forest-2 : tie.Need-sub-fill-forest-2
-sub-fill-forest-2 c = search needs
-
-part-fill-forest-start-2 : tie.Need-part-fill-forest-start-2
-part-fill-forest-start-2 c = search needs
-
-part-fill-forest-end-2 : tie.Need-part-fill-forest-end-2
-part-fill-forest-end-2 c = search needs
+part-fill-forest-end c = search needs
 
 fill-forest-requires : tie.Need-fill-forest-requires
-unfolding headerLength recordLength
 fill-forest-requires c κs =
-    let e0 : c .before .before .before .before .before .before .before .before .before .before .args .sets - 0 ≡ c .before .before .before .before .before .before .before .before .before .before .args .sets = omega arith in rw (e0, c .before .before .before .before .before .before .before .before .before .before .pre .ports-are, c .before .before .before .before .before .before .before .before .before .before .pre .sets-are) (placed-plan (c .before .before .before .before .before .before .before .before .before .before .args .table .now) (c .before .before .before .before .before .before .before .before .before .before .pre .plan) (c .before .before .before .before .before .before .before .before .before .before .args .nodes) (c .before .before .before .before .before .before .before .before .before .before .args .masks .now) _ (ready (c .before .before .before .before .before .before .before .before .before .before .args .table .now) (c .before .before .before .before .before .before .before .before .before .before .pre .plan) (c .before .before .before .before .before .before .before .before .before .before .args .nodes) (c .before .before .before .before .before .before .before .before .before .before .pre .decodes) (c .before .before .before .before .before .before .before .before .before .before .pre .nodes-are)) (omega (arith, c .before .before .before .before .before .before .before .before .before .before .pre .own-masks, c .before .before .before .before .before .before .before .before .before .before .pre .sets-are)) (rw (c .before .before .before .before .before .before .before .before .before .before .pre .ports-are, c .before .before .before .before .before .before .before .before .before .before .pre .sets-are) at (c .before .before .before .before .before .before .before .before .before .before .pre .within)) (omega (arith, c .before .before .before .before .before .put-unit .kept .1 .1 .0, c .before .before .before .before .before .before .before .before .before .before .pre .own-cells)))
+    let e0 : c .before .before .before .before .before .before .before .before .before .before .args .sets - 0 ≡ c .before .before .before .before .before .before .before .before .before .before .args .sets = omega arith in rw (e0, c .before .before .before .before .before .before .below-root .ensures, c .before .before .before .before .before .before .before .before .before .before .pre .ports-are, c .before .before .before .before .before .before .before .before .before .before .pre .sets-are) (placed-plan (c .before .before .before .before .before .before .before .before .before .before .args .table .now) (c .before .before .before .before .before .before .before .before .before .before .pre .plan) (c .before .before .before .before .before .before .before .before .before .before .args .nodes) (c .before .before .before .before .before .before .before .before .before .before .args .masks .now) _ (ready (c .before .before .before .before .before .before .before .before .before .before .args .table .now) (c .before .before .before .before .before .before .before .before .before .before .pre .plan) (c .before .before .before .before .before .before .before .before .before .before .args .nodes) (c .before .before .before .before .before .before .before .before .before .before .pre .decodes) (c .before .before .before .before .before .before .before .before .before .before .pre .nodes-are)) (omega (arith, c .before .before .before .before .before .before .before .before .before .before .pre .own-masks, c .before .before .before .before .before .before .before .before .before .before .pre .sets-are)) (rw (c .before .before .before .before .before .before .before .before .before .before .pre .ports-are, c .before .before .before .before .before .before .before .before .before .before .pre .sets-are) at (c .before .before .before .before .before .before .before .before .before .before .pre .within)) (omega (arith, c .before .before .before .before .put-unit .kept .1 .1 .0, c .before .before .before .before .before .before .before .before .before .before .pre .own-cells)))
 
 same-length : tie.Need-same-length
 same-length c = search needs
 
 returns : tie.Need-returns
-unfolding headerLength recordLength
 returns c =
-    let e0 : c .before .before .before .before .before .before .before .before .before .before .before .before .before .args .sets - 0 ≡ c .before .before .before .before .before .before .before .before .before .before .before .before .before .args .sets = omega arith in plan-filled (c .before .before .before .before .before .before .before .before .before .before .before .before .before .args .table .now) (c .before .before .before .before .before .before .before .before .before .before .before .before .before .pre .plan) (c .before .before .before .before .before .before .before .before .before .before .before .before .before .args .nodes) (c .before .before .fill-forest .result) (c .before .before .before .before .before .before .before .before .before .before .before .before .before .args .masks .now) (c .before .before .before .before .before .before .before .before .before .before .before .before .before .args .cells .now) _ _ (c .before .before .before .before .before .before .before .before .before .before .before .before .before .pre .decodes) (ready (c .before .before .before .before .before .before .before .before .before .before .before .before .before .args .table .now) (c .before .before .before .before .before .before .before .before .before .before .before .before .before .pre .plan) (c .before .before .before .before .before .before .before .before .before .before .before .before .before .args .nodes) (c .before .before .before .before .before .before .before .before .before .before .before .before .before .pre .decodes) (c .before .before .before .before .before .before .before .before .before .before .before .before .before .pre .nodes-are)) (c .before .before .before .before .before .before .before .before .before .before .before .before .before .pre .own-cells) (c .before .before .before .before .before .before .before .before .put-unit .ensures) (rw (e0, c .before .before .before .before .before .before .before .before .before .before .before .before .before .pre .ports-are, c .before .before .before .before .before .before .before .before .before .before .before .before .before .pre .sets-are) at (c .before .before .fill-forest .ensures))
+    let e0 : c .before .before .before .before .before .before .before .before .before .before .before .before .before .args .sets - 0 ≡ c .before .before .before .before .before .before .before .before .before .before .before .before .before .args .sets = omega arith in plan-filled (c .before .before .before .before .before .before .before .before .before .before .before .before .before .args .table .now) (c .before .before .before .before .before .before .before .before .before .before .before .before .before .pre .plan) (c .before .before .before .before .before .before .before .before .before .before .before .before .before .args .nodes) (c .before .before .fill-forest .result) (c .before .before .before .before .before .before .before .before .before .before .before .before .before .args .masks .now) (c .before .before .before .before .before .before .before .before .before .before .before .before .before .args .cells .now) _ _ (c .before .before .before .before .before .before .before .before .before .before .before .before .before .pre .decodes) (ready (c .before .before .before .before .before .before .before .before .before .before .before .before .before .args .table .now) (c .before .before .before .before .before .before .before .before .before .before .before .before .before .pre .plan) (c .before .before .before .before .before .before .before .before .before .before .before .before .before .args .nodes) (c .before .before .before .before .before .before .before .before .before .before .before .before .before .pre .decodes) (c .before .before .before .before .before .before .before .before .before .before .before .before .before .pre .nodes-are)) (c .before .before .before .before .before .before .before .before .before .before .before .before .before .pre .own-cells) (c .before .before .before .before .before .before .before .put-unit .ensures) (rw (e0, c .before .before .before .before .before .before .before .before .before .below-root .ensures, c .before .before .before .before .before .before .before .before .before .before .before .before .before .pre .ports-are, c .before .before .before .before .before .before .before .before .before .before .before .before .before .pre .sets-are) at (c .before .before .fill-forest .ensures))
 
 pub fill-spec : {M : Type 1} → statement M
 fill-spec =
     tie.close
     (tie.spec
-    add-from
-    mul-last
-    add-last
+    below-root-requires
     put-unit-requires
     sub-fill-forest
     part-fill-forest-start
     part-fill-forest-end
-    sub-fill-forest-2
-    part-fill-forest-start-2
-    part-fill-forest-end-2
     fill-forest-requires
     same-length
     returns)

@@ -4,24 +4,20 @@ use mathlib.Core.Bool.{true}
 use mathlib.Core.List.{List}
 use Prim.Native.Nat.{ℕ, suc, _+_, _*_, _^_, _≤_, _<_}
 use lib.Bits.{bitOr}
-use lib.ListN.{length, getD, drop}
+use lib.ListN.{length, getD}
 use Rattle.logic.specs.Formula.{Literal, isin, notin, port, size, Node, Forest, none, tree, kindNumber, nodeCount, childDepth}
 use Rattle.logic.specs.inner.Literals.{Every, OfLiteral}
 use Rattle.logic.specs.Cells.{siblingFirst}
-use Rattle.table_format.specs.Bytes.{headerLength, recordLength, kindField, relationField, aField, bField, relationByte, aByte, bByte}
+use Rattle.table_format.specs.Bytes.{recordLength, kindField, relationField, aField, bField, recordsOf, recordAt, relationByte, aByte, bByte}
 use Rattle.table_format.specs.Rules.{treeCount, arityRule}
 use Rattle.table_format.specs.inner.Index.{nodeUses, forestUses}
-
--- The part of a plan table that begins with the record of node i.
-unfoldable pub recordAt : List ℕ → ℕ → List ℕ
-recordAt bytes i = drop (headerLength + recordLength * i) bytes
 
 pub record NodeIs (bytes firsts ends uses : List ℕ) (i : ℕ) (n : Node) (c : Forest) (b : ℕ) : Type 0 where
   pub kind-is : kindField (recordAt bytes i) ≡ kindNumber n
   pub relation-is : relationField (recordAt bytes i) ≡ relationByte n
   pub a-is : aField (recordAt bytes i) ≡ aByte n
   pub b-is : bField (recordAt bytes i) ≡ bByte n
-  pub whole : headerLength + recordLength * i + recordLength ≤ length bytes
+  pub whole : recordLength * i + recordLength ≤ length (recordsOf bytes)
   pub first-is : getD firsts i 0 ≡ b
   pub end-is : getD ends i 0 ≡ i + suc (nodeCount c)
   pub uses-are : getD uses i 0 ≡ bitOr (nodeUses n) (forestUses c)

@@ -17,8 +17,8 @@ use Rattle.cells_touch.specs.inner.Hits.{HitWord}
 use Rattle.cells_sum.specs.inner.Walk.{gathered, changes}
 use Rattle.cells_sum.specs.declared.After.{After}
 use Rattle.cells_sum.specs.declared.Sum.{Sum}
-use Rattle.table_format.specs.Bytes.{headerLength, recordLength, kindField, relationField, aField, bField, relationByte, aByte, bByte}
-use Rattle.cells_walk.specs.inner.Nodes.{recordAt, Holds, LiteralFits, Fitting}
+use Rattle.table_format.specs.Bytes.{recordLength, kindField, relationField, aField, bField, recordsOf, recordAt, relationByte, aByte, bByte}
+use Rattle.cells_walk.specs.inner.Nodes.{Holds, LiteralFits, Fitting}
 
 -- The ports of a tuple in one number, eight bits a variable, the outermost lowest.
 unfoldable pub packed : Tuple → ℕ
@@ -83,7 +83,7 @@ Afresh u sets d kind relation a b masks digits r =
 
 -- The same of the record of node i.
 pub record RecordReady (u sets d : ℕ) (bytes : List ℕ) (i : ℕ) (masks : List ℕ) (digits : ℕ) : Type 0 where
-  pub whole : headerLength + recordLength * i + recordLength ≤ length bytes
+  pub whole : recordLength * i + recordLength ≤ length (recordsOf bytes)
   pub literal : LiteralReady u sets d (kindField (recordAt bytes i)) (relationField (recordAt bytes i)) (aField (recordAt bytes i)) (bField (recordAt bytes i)) masks digits
 
 unfoldable pub RecordAfresh : ℕ → ℕ → ℕ → List ℕ → ℕ → List ℕ → ℕ → ℕ → Type 0

@@ -3,8 +3,7 @@ use mathlib.Core.Bool.{false≢true}
 use native.Mathlib.Omega.{arith}
 use borrow.Author.Needs.{needs}
 use borrow.Author.Tests.{not-true, not-false}
-use Rattle.table_format.specs.Bytes.{headerLength, recordLength}
-use Rattle.table_format.proofs.Rooted.{front-is}
+use Rattle.table_format.proofs.Rooted.{front-is, header-fits}
 use Rattle.table_check.proofs.Whole.{refuse-plan, placed-below, bad-below, bad-count, bad-total, accept-plan}
 use Rattle.table_check.proofs.check.Statement.{statement}
 use Rattle.table_check.proofs.check.Tie as tie
@@ -22,49 +21,24 @@ returns c =
     refuse-plan (c .before .before .before .before .before .before .before .args .table .now) (c .no-plan .result) (c .no-plan .ensures) (λ o. false≢true (sym (sym (c .before .before .front-ok .ensures) ∙ not-true _ (c .before .if1 .taken)) ∙ o .front))
 
 ports-of-requires : tie.Need-ports-of-requires
-unfolding headerLength recordLength
 ports-of-requires c κs =
-    omega (arith, (front-is (c .before .before .before .before .before .before .args .table .now) (sym (c .before .front-ok .ensures) ∙ not-false _ (c .if1 .left))) .whole)
+    header-fits (c .before .before .before .before .before .before .args .table .now) (front-is (c .before .before .before .before .before .before .args .table .now) (sym (c .before .front-ok .ensures) ∙ not-false _ (c .if1 .left)))
 
 sets-of-requires : tie.Need-sets-of-requires
-unfolding headerLength recordLength
 sets-of-requires c κs =
-    omega (arith, (front-is (c .before .before .before .before .before .before .before .args .table .now) (sym (c .before .before .front-ok .ensures) ∙ not-false _ (c .before .if1 .left))) .whole)
+    header-fits (c .before .before .before .before .before .before .before .args .table .now) (front-is (c .before .before .before .before .before .before .before .args .table .now) (sym (c .before .before .front-ok .ensures) ∙ not-false _ (c .before .if1 .left)))
 
 nodes-of-requires : tie.Need-nodes-of-requires
-unfolding headerLength recordLength
 nodes-of-requires c κs =
-    omega (arith, (front-is (c .before .before .before .before .before .before .before .before .args .table .now) (sym (c .before .before .before .front-ok .ensures) ∙ not-false _ (c .before .before .if1 .left))) .whole)
+    header-fits (c .before .before .before .before .before .before .before .before .args .table .now) (front-is (c .before .before .before .before .before .before .before .before .args .table .now) (sym (c .before .before .before .front-ok .ensures) ∙ not-false _ (c .before .before .if1 .left)))
 
-add-from : tie.Need-add-from
-add-from c =
-    search needs
-
-mul-last : tie.Need-mul-last
-mul-last c =
-    omega (arith, (front-is (c .before .before .before .before .before .before .before .before .before .args .table .now) (sym (c .before .before .before .before .front-ok .ensures) ∙ not-false _ (c .before .before .before .if1 .left))) .nodes512, c .nodes-of .ensures .is)
-
-add-last : tie.Need-add-last
-add-last c =
-    omega (arith, (front-is (c .before .before .before .before .before .before .before .before .before .args .table .now) (sym (c .before .before .before .before .front-ok .ensures) ∙ not-false _ (c .before .before .before .if1 .left))) .nodes512, c .nodes-of .ensures .is)
-
-sub-check-forest : tie.Need-sub-check-forest
-sub-check-forest c =
-    omega (arith, (front-is (c .before .before .before .before .before .before .before .before .before .args .table .now) (sym (c .before .before .before .before .front-ok .ensures) ∙ not-false _ (c .before .before .before .if1 .left))) .nodes2, c .nodes-of .ensures .is)
-
-part-check-forest-start : tie.Need-part-check-forest-start
-part-check-forest-start c =
-    omega (arith, (front-is (c .before .before .before .before .before .before .before .before .before .args .table .now) (sym (c .before .before .before .before .front-ok .ensures) ∙ not-false _ (c .before .before .before .if1 .left))) .nodes2, c .nodes-of .ensures .is)
-
-part-check-forest-end : tie.Need-part-check-forest-end
-unfolding headerLength recordLength
-part-check-forest-end c =
-    omega (arith, (front-is (c .before .before .before .before .before .before .before .before .before .args .table .now) (sym (c .before .before .before .before .front-ok .ensures) ∙ not-false _ (c .before .before .before .if1 .left))) .whole, c .nodes-of .ensures .is)
+below-root-requires : tie.Need-below-root-requires
+below-root-requires c κs =
+    let f = front-is (c .before .before .before .before .before .before .before .before .before .args .table .now) (sym (c .before .before .before .before .front-ok .ensures) ∙ not-false _ (c .before .before .before .if1 .left)) in (omega (arith, f .nodes2, c .nodes-of .ensures .is), omega (arith, f .nodes512, c .nodes-of .ensures .is), rw (c .nodes-of .ensures .is) (f .whole))
 
 check-forest-requires : tie.Need-check-forest-requires
-unfolding headerLength recordLength
 check-forest-requires c κs =
-    rw (c .before .before .before .before .before .before .ports-of .ensures, c .before .before .before .before .before .sets-of .ensures, c .before .before .before .before .nodes-of .ensures .is) (placed-below (c .before .before .before .before .before .before .before .before .before .before .before .before .before .args .table .now) (front-is (c .before .before .before .before .before .before .before .before .before .before .before .before .before .args .table .now) (sym (c .before .before .before .before .before .before .before .before .front-ok .ensures) ∙ not-false _ (c .before .before .before .before .before .before .before .if1 .left))) (c .before .before .before .before .before .before .before .before .before .before .before .before .before .args .firsts .now) (c .before .before .before .before .before .before .before .before .before .before .before .before .before .args .ends .now) (c .before .before .before .before .before .before .before .before .before .before .before .before .before .args .uses .now) (c .before .before .before .before .before .before .before .before .before .before .before .before .before .pre))
+    rw (c .before .before .before .before .before .before .ports-of .ensures, c .before .before .before .before .before .sets-of .ensures, c .before .before .before .below-root .ensures, c .before .before .before .before .nodes-of .ensures .is) (placed-below (c .before .before .before .before .before .before .before .before .before .before .before .before .before .args .table .now) (front-is (c .before .before .before .before .before .before .before .before .before .before .before .before .before .args .table .now) (sym (c .before .before .before .before .before .before .before .before .front-ok .ensures) ∙ not-false _ (c .before .before .before .before .before .before .before .if1 .left))) (c .before .before .before .before .before .before .before .before .before .before .before .before .before .args .firsts .now) (c .before .before .before .before .before .before .before .before .before .before .before .before .before .args .ends .now) (c .before .before .before .before .before .before .before .before .before .before .before .before .before .args .uses .now) (c .before .before .before .before .before .before .before .before .before .before .before .before .before .pre))
 
 no-plan-requires-2 : tie.Need-no-plan-requires-2
 no-plan-requires-2 c κs =
@@ -83,9 +57,8 @@ same-length-3 c =
     search needs
 
 returns-2 : tie.Need-returns-2
-unfolding headerLength recordLength
 returns-2 c =
-    refuse-plan (c .before .before .before .before .before .before .before .before .before .before .before .before .before .before .before .before .before .before .before .before .before .before .before .args .table .now) (c .no-plan2 .result) (c .no-plan2 .ensures) (bad-below (c .before .before .before .before .before .before .before .before .before .before .before .before .before .before .before .before .before .before .before .before .before .before .before .args .table .now) (front-is (c .before .before .before .before .before .before .before .before .before .before .before .before .before .before .before .before .before .before .before .before .before .before .before .args .table .now) (sym (c .before .before .before .before .before .before .before .before .before .before .before .before .before .before .before .before .before .before .front-ok .ensures) ∙ not-false _ (c .before .before .before .before .before .before .before .before .before .before .before .before .before .before .before .before .before .if1 .left))) (c .before .before .before .before .before .before .before .before .before .before .before .before .before .before .before .before .ports-of .result) (c .before .before .before .before .before .before .before .before .before .before .before .before .before .before .before .sets-of .result) (c .before .before .before .before .before .before .before .before .before .before .before .before .before .before .nodes-of .result) (c .before .before .before .before .before .before .before .before .before .before .before .before .before .before .before .before .ports-of .ensures) (c .before .before .before .before .before .before .before .before .before .before .before .before .before .before .before .sets-of .ensures) (c .before .before .before .before .before .before .before .before .before .before .before .before .before .before .nodes-of .ensures .is) (c .before .before .before .before .before .before .before .before .before .check-forest .result) _ _ _ _ _ _ (c .before .before .before .before .before .before .before .before .before .check-forest .ensures) (not-true _ (c .before .if2 .taken)))
+    refuse-plan (c .before .before .before .before .before .before .before .before .before .before .before .before .before .before .before .before .before .before .before .before .before .before .before .args .table .now) (c .no-plan2 .result) (c .no-plan2 .ensures) (bad-below (c .before .before .before .before .before .before .before .before .before .before .before .before .before .before .before .before .before .before .before .before .before .before .before .args .table .now) (front-is (c .before .before .before .before .before .before .before .before .before .before .before .before .before .before .before .before .before .before .before .before .before .before .before .args .table .now) (sym (c .before .before .before .before .before .before .before .before .before .before .before .before .before .before .before .before .before .before .front-ok .ensures) ∙ not-false _ (c .before .before .before .before .before .before .before .before .before .before .before .before .before .before .before .before .before .if1 .left))) (c .before .before .before .before .before .before .before .before .before .before .before .before .before .before .before .before .ports-of .result) (c .before .before .before .before .before .before .before .before .before .before .before .before .before .before .before .sets-of .result) (c .before .before .before .before .before .before .before .before .before .before .before .before .before .before .nodes-of .result) (c .before .before .before .before .before .before .before .before .before .before .before .before .before .before .before .before .ports-of .ensures) (c .before .before .before .before .before .before .before .before .before .before .before .before .before .before .before .sets-of .ensures) (c .before .before .before .before .before .before .before .before .before .before .before .before .before .before .nodes-of .ensures .is) (c .before .before .before .before .before .before .before .before .before .check-forest .result) _ _ _ _ _ _ _ (c .before .before .before .before .before .before .before .before .before .before .before .before .before .below-root .ensures) (c .before .before .before .before .before .before .before .before .before .check-forest .ensures) (not-true _ (c .before .if2 .taken)))
 
 no-plan-requires-3 : tie.Need-no-plan-requires-3
 no-plan-requires-3 c κs =
@@ -104,9 +77,8 @@ same-length-6 c =
     search needs
 
 returns-3 : tie.Need-returns-3
-unfolding headerLength recordLength
 returns-3 c =
-    refuse-plan (c .before .before .before .before .before .before .before .before .before .before .before .before .before .before .before .before .before .before .before .before .before .before .before .before .before .args .table .now) (c .no-plan3 .result) (c .no-plan3 .ensures) (bad-count (c .before .before .before .before .before .before .before .before .before .before .before .before .before .before .before .before .before .before .before .before .before .before .before .before .before .args .table .now) (front-is (c .before .before .before .before .before .before .before .before .before .before .before .before .before .before .before .before .before .before .before .before .before .before .before .before .before .args .table .now) (sym (c .before .before .before .before .before .before .before .before .before .before .before .before .before .before .before .before .before .before .before .before .front-ok .ensures) ∙ not-false _ (c .before .before .before .before .before .before .before .before .before .before .before .before .before .before .before .before .before .before .before .if1 .left))) (c .before .before .before .before .before .before .before .before .before .before .before .before .before .before .before .before .before .before .ports-of .result) (c .before .before .before .before .before .before .before .before .before .before .before .before .before .before .before .before .before .sets-of .result) (c .before .before .before .before .before .before .before .before .before .before .before .before .before .before .before .before .nodes-of .result) (c .before .before .before .before .before .before .before .before .before .before .before .before .before .before .before .before .before .before .ports-of .ensures) (c .before .before .before .before .before .before .before .before .before .before .before .before .before .before .before .before .before .sets-of .ensures) (c .before .before .before .before .before .before .before .before .before .before .before .before .before .before .before .before .nodes-of .ensures .is) (c .before .before .before .before .before .before .before .before .before .before .before .check-forest .result) _ _ _ _ _ _ (c .before .before .before .before .before .before .before .before .before .before .before .check-forest .ensures) (not-false _ (c .before .before .before .if2 .left)) (c .before .if3 .taken))
+    refuse-plan (c .before .before .before .before .before .before .before .before .before .before .before .before .before .before .before .before .before .before .before .before .before .before .before .before .before .args .table .now) (c .no-plan3 .result) (c .no-plan3 .ensures) (bad-count (c .before .before .before .before .before .before .before .before .before .before .before .before .before .before .before .before .before .before .before .before .before .before .before .before .before .args .table .now) (front-is (c .before .before .before .before .before .before .before .before .before .before .before .before .before .before .before .before .before .before .before .before .before .before .before .before .before .args .table .now) (sym (c .before .before .before .before .before .before .before .before .before .before .before .before .before .before .before .before .before .before .before .before .front-ok .ensures) ∙ not-false _ (c .before .before .before .before .before .before .before .before .before .before .before .before .before .before .before .before .before .before .before .if1 .left))) (c .before .before .before .before .before .before .before .before .before .before .before .before .before .before .before .before .before .before .ports-of .result) (c .before .before .before .before .before .before .before .before .before .before .before .before .before .before .before .before .before .sets-of .result) (c .before .before .before .before .before .before .before .before .before .before .before .before .before .before .before .before .nodes-of .result) (c .before .before .before .before .before .before .before .before .before .before .before .before .before .before .before .before .before .before .ports-of .ensures) (c .before .before .before .before .before .before .before .before .before .before .before .before .before .before .before .before .before .sets-of .ensures) (c .before .before .before .before .before .before .before .before .before .before .before .before .before .before .before .before .nodes-of .ensures .is) (c .before .before .before .before .before .before .before .before .before .before .before .check-forest .result) _ _ _ _ _ _ _ (c .before .before .before .before .before .before .before .before .before .before .before .before .before .before .before .below-root .ensures) (c .before .before .before .before .before .before .before .before .before .before .before .check-forest .ensures) (not-false _ (c .before .before .before .if2 .left)) (c .before .if3 .taken))
 
 no-plan-requires-4 : tie.Need-no-plan-requires-4
 no-plan-requires-4 c κs =
@@ -125,16 +97,15 @@ same-length-9 c =
     search needs
 
 returns-4 : tie.Need-returns-4
-unfolding headerLength recordLength
 returns-4 c =
-    refuse-plan (c .before .before .before .before .before .before .before .before .before .before .before .before .before .before .before .before .before .before .before .before .before .before .before .before .before .before .before .args .table .now) (c .no-plan4 .result) (c .no-plan4 .ensures) (bad-total (c .before .before .before .before .before .before .before .before .before .before .before .before .before .before .before .before .before .before .before .before .before .before .before .before .before .before .before .args .table .now) (front-is (c .before .before .before .before .before .before .before .before .before .before .before .before .before .before .before .before .before .before .before .before .before .before .before .before .before .before .before .args .table .now) (sym (c .before .before .before .before .before .before .before .before .before .before .before .before .before .before .before .before .before .before .before .before .before .before .front-ok .ensures) ∙ not-false _ (c .before .before .before .before .before .before .before .before .before .before .before .before .before .before .before .before .before .before .before .before .before .if1 .left))) (c .before .before .before .before .before .before .before .before .before .before .before .before .before .before .before .before .before .before .before .before .ports-of .result) (c .before .before .before .before .before .before .before .before .before .before .before .before .before .before .before .before .before .before .before .sets-of .result) (c .before .before .before .before .before .before .before .before .before .before .before .before .before .before .before .before .before .before .nodes-of .result) (c .before .before .before .before .before .before .before .before .before .before .before .before .before .before .before .before .before .before .before .before .ports-of .ensures) (c .before .before .before .before .before .before .before .before .before .before .before .before .before .before .before .before .before .before .before .sets-of .ensures) (c .before .before .before .before .before .before .before .before .before .before .before .before .before .before .before .before .before .before .nodes-of .ensures .is) (c .before .before .before .before .before .before .before .before .before .before .before .before .before .check-forest .result) _ _ _ _ _ _ (c .before .before .before .before .before .before .before .before .before .before .before .before .before .check-forest .ensures) (not-false _ (c .before .before .before .before .before .if2 .left)) (c .before .if4 .taken))
+    refuse-plan (c .before .before .before .before .before .before .before .before .before .before .before .before .before .before .before .before .before .before .before .before .before .before .before .before .before .before .before .args .table .now) (c .no-plan4 .result) (c .no-plan4 .ensures) (bad-total (c .before .before .before .before .before .before .before .before .before .before .before .before .before .before .before .before .before .before .before .before .before .before .before .before .before .before .before .args .table .now) (front-is (c .before .before .before .before .before .before .before .before .before .before .before .before .before .before .before .before .before .before .before .before .before .before .before .before .before .before .before .args .table .now) (sym (c .before .before .before .before .before .before .before .before .before .before .before .before .before .before .before .before .before .before .before .before .before .before .front-ok .ensures) ∙ not-false _ (c .before .before .before .before .before .before .before .before .before .before .before .before .before .before .before .before .before .before .before .before .before .if1 .left))) (c .before .before .before .before .before .before .before .before .before .before .before .before .before .before .before .before .before .before .before .before .ports-of .result) (c .before .before .before .before .before .before .before .before .before .before .before .before .before .before .before .before .before .before .before .sets-of .result) (c .before .before .before .before .before .before .before .before .before .before .before .before .before .before .before .before .before .before .nodes-of .result) (c .before .before .before .before .before .before .before .before .before .before .before .before .before .before .before .before .before .before .before .before .ports-of .ensures) (c .before .before .before .before .before .before .before .before .before .before .before .before .before .before .before .before .before .before .before .sets-of .ensures) (c .before .before .before .before .before .before .before .before .before .before .before .before .before .before .before .before .before .before .nodes-of .ensures .is) (c .before .before .before .before .before .before .before .before .before .before .before .before .before .check-forest .result) _ _ _ _ _ _ _ (c .before .before .before .before .before .before .before .before .before .before .before .before .before .before .before .before .before .below-root .ensures) (c .before .before .before .before .before .before .before .before .before .before .before .before .before .check-forest .ensures) (not-false _ (c .before .before .before .before .before .if2 .left)) (c .before .if4 .taken))
 
 note-requires : tie.Need-note-requires
 note-requires c κs =
     (omega (arith, c .before .before .before .before .before .before .before .before .before .before .before .before .before .before .before .check-forest .kept .1 .1 .1 .1 .1 .1 .1 .1 .1 .0, c .before .before .before .before .before .before .before .before .before .before .before .before .before .before .before .before .before .before .before .before .before .before .before .before .before .before .before .before .before .pre .of-firsts), omega (arith, c .before .before .before .before .before .before .before .before .before .before .before .before .before .before .before .check-forest .kept .1 .1 .1 .1 .1 .1 .1 .1 .1 .1 .0, c .before .before .before .before .before .before .before .before .before .before .before .before .before .before .before .before .before .before .before .before .before .before .before .before .before .before .before .before .before .pre .of-ends), omega (arith, c .before .before .before .before .before .before .before .before .before .before .before .before .before .before .before .check-forest .kept .1 .1 .1 .1 .1 .1 .1 .1 .1 .1 .1 .0, c .before .before .before .before .before .before .before .before .before .before .before .before .before .before .before .before .before .before .before .before .before .before .before .before .before .before .before .before .before .pre .of-uses), omega arith, omega (arith, (front-is (c .before .before .before .before .before .before .before .before .before .before .before .before .before .before .before .before .before .before .before .before .before .before .before .before .before .before .before .before .before .args .table .now) (sym (c .before .before .before .before .before .before .before .before .before .before .before .before .before .before .before .before .before .before .before .before .before .before .before .before .front-ok .ensures) ∙ not-false _ (c .before .before .before .before .before .before .before .before .before .before .before .before .before .before .before .before .before .before .before .before .before .before .before .if1 .left))) .nodes512, c .before .before .before .before .before .before .before .before .before .before .before .before .before .before .before .before .before .before .before .before .nodes-of .ensures .is))
 
-add-t13 : tie.Need-add-t13
-add-t13 c =
+add-t25 : tie.Need-add-t25
+add-t25 c =
     search needs
 
 same-length-10 : tie.Need-same-length-10
@@ -150,9 +121,8 @@ same-length-12 c =
     search needs
 
 returns-5 : tie.Need-returns-5
-unfolding headerLength recordLength
 returns-5 c =
-    accept-plan (c .before .before .before .before .before .before .before .before .before .before .before .before .before .before .before .before .before .before .before .before .before .before .before .before .before .before .before .before .before .before .before .before .before .before .before .before .before .args .table .now) (front-is (c .before .before .before .before .before .before .before .before .before .before .before .before .before .before .before .before .before .before .before .before .before .before .before .before .before .before .before .before .before .before .before .before .before .before .before .before .before .args .table .now) (sym (c .before .before .before .before .before .before .before .before .before .before .before .before .before .before .before .before .before .before .before .before .before .before .before .before .before .before .before .before .before .before .before .before .front-ok .ensures) ∙ not-false _ (c .before .before .before .before .before .before .before .before .before .before .before .before .before .before .before .before .before .before .before .before .before .before .before .before .before .before .before .before .before .before .before .if1 .left))) (c .before .before .before .before .before .before .before .before .before .before .before .before .before .before .before .before .before .before .before .before .before .before .before .before .before .before .before .before .before .before .ports-of .result) (c .before .before .before .before .before .before .before .before .before .before .before .before .before .before .before .before .before .before .before .before .before .before .before .before .before .before .before .before .before .sets-of .result) (c .before .before .before .before .before .before .before .before .before .before .before .before .before .before .before .before .before .before .before .before .before .before .before .before .before .before .before .before .nodes-of .result) (c .before .before .before .before .before .before .before .before .before .before .before .before .before .before .before .before .before .before .before .before .before .before .before .before .before .before .before .before .before .before .ports-of .ensures) (c .before .before .before .before .before .before .before .before .before .before .before .before .before .before .before .before .before .before .before .before .before .before .before .before .before .before .before .before .before .sets-of .ensures) (c .before .before .before .before .before .before .before .before .before .before .before .before .before .before .before .before .before .before .before .before .before .before .before .before .before .before .before .before .nodes-of .ensures .is) (c .before .before .before .before .before .before .before .before .before .before .before .before .before .before .before .before .before .before .before .before .before .before .before .check-forest .result) _ _ _ _ _ _ (c .before .before .before .before .before .before .before .before .before .before .before .before .before .before .before .before .before .before .before .before .before .before .before .check-forest .ensures) (c .before .before .before .before .before .before .before .before .before .before .before .before .before .before .before .before .before .before .before .before .before .before .before .before .before .before .before .before .nodes-of .ensures .bytes) (not-false _ (c .before .before .before .before .before .before .before .before .before .before .before .before .before .before .before .if2 .left)) (c .before .before .before .before .before .before .before .before .before .before .before .before .before .if3 .left) (c .before .before .before .before .before .before .before .before .before .before .before .if4 .left) (c .before .before .before .before .before .before .before .before .before .before .before .before .before .before .before .before .before .before .before .before .before .before .before .before .before .before .before .before .before .before .before .before .before .before .before .before .before .pre) _ _ _ (c .before .before .before .before .before .before .before .note .ensures) _ refl refl refl refl refl
+    accept-plan (c .before .before .before .before .before .before .before .before .before .before .before .before .before .before .before .before .before .before .before .before .before .before .before .before .before .before .before .before .before .before .before .before .before .before .before .before .before .args .table .now) (front-is (c .before .before .before .before .before .before .before .before .before .before .before .before .before .before .before .before .before .before .before .before .before .before .before .before .before .before .before .before .before .before .before .before .before .before .before .before .before .args .table .now) (sym (c .before .before .before .before .before .before .before .before .before .before .before .before .before .before .before .before .before .before .before .before .before .before .before .before .before .before .before .before .before .before .before .before .front-ok .ensures) ∙ not-false _ (c .before .before .before .before .before .before .before .before .before .before .before .before .before .before .before .before .before .before .before .before .before .before .before .before .before .before .before .before .before .before .before .if1 .left))) (c .before .before .before .before .before .before .before .before .before .before .before .before .before .before .before .before .before .before .before .before .before .before .before .before .before .before .before .before .before .before .ports-of .result) (c .before .before .before .before .before .before .before .before .before .before .before .before .before .before .before .before .before .before .before .before .before .before .before .before .before .before .before .before .before .sets-of .result) (c .before .before .before .before .before .before .before .before .before .before .before .before .before .before .before .before .before .before .before .before .before .before .before .before .before .before .before .before .nodes-of .result) (c .before .before .before .before .before .before .before .before .before .before .before .before .before .before .before .before .before .before .before .before .before .before .before .before .before .before .before .before .before .before .ports-of .ensures) (c .before .before .before .before .before .before .before .before .before .before .before .before .before .before .before .before .before .before .before .before .before .before .before .before .before .before .before .before .before .sets-of .ensures) (c .before .before .before .before .before .before .before .before .before .before .before .before .before .before .before .before .before .before .before .before .before .before .before .before .before .before .before .before .nodes-of .ensures .is) (c .before .before .before .before .before .before .before .before .before .before .before .before .before .before .before .before .before .before .before .before .before .before .before .check-forest .result) _ _ _ _ _ _ _ (c .before .before .before .before .before .before .before .before .before .before .before .before .before .before .before .before .before .before .before .before .before .before .before .before .before .before .before .below-root .ensures) (c .before .before .before .before .before .before .before .before .before .before .before .before .before .before .before .before .before .before .before .before .before .before .before .check-forest .ensures) (c .before .before .before .before .before .before .before .before .before .before .before .before .before .before .before .before .before .before .before .before .before .before .before .before .before .before .before .before .nodes-of .ensures .bytes) (not-false _ (c .before .before .before .before .before .before .before .before .before .before .before .before .before .before .before .if2 .left)) (c .before .before .before .before .before .before .before .before .before .before .before .before .before .if3 .left) (c .before .before .before .before .before .before .before .before .before .before .before .if4 .left) (c .before .before .before .before .before .before .before .before .before .before .before .before .before .before .before .before .before .before .before .before .before .before .before .before .before .before .before .before .before .before .before .before .before .before .before .before .before .pre) _ _ _ (c .before .before .before .before .before .before .before .note .ensures) _ refl refl refl refl refl
 
 pub check-spec : {M : Type 1} → statement M
 check-spec =
@@ -164,12 +134,7 @@ check-spec =
     ports-of-requires
     sets-of-requires
     nodes-of-requires
-    add-from
-    mul-last
-    add-last
-    sub-check-forest
-    part-check-forest-start
-    part-check-forest-end
+    below-root-requires
     check-forest-requires
     no-plan-requires-2
     same-length
@@ -187,7 +152,7 @@ check-spec =
     same-length-9
     returns-4
     note-requires
-    add-t13
+    add-t25
     same-length-10
     same-length-11
     same-length-12

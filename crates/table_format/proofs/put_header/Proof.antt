@@ -2,7 +2,7 @@ use mathlib.Core.Path.{_∙_}
 use native.Mathlib.Omega.{arith}
 use lib.ListN.{length-set}
 use Rattle.table_format.specs.Bytes.{headerLength}
-use Rattle.table_format.proofs.Writing.{header-written}
+use Rattle.table_format.proofs.Bytes.{header-written}
 use Rattle.table_format.proofs.put_header.Statement.{statement}
 use Rattle.table_format.proofs.put_header.Tie as tie
 

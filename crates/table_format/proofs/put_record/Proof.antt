@@ -2,9 +2,9 @@ use mathlib.Core.Path.{_∙_}
 use native.Mathlib.Omega.{arith}
 use lib.ListN.{length-set}
 use borrow.Author.Needs.{needs}
-use Rattle.table_format.specs.Bytes.{recordLength, recordBytes}
+use Rattle.table_format.specs.Bytes.{recordLength}
 use Rattle.table_format.specs.inner.Written.{fieldBytes}
-use Rattle.table_format.proofs.Writing.{record-written}
+use Rattle.table_format.proofs.Bytes.{record-written}
 use Rattle.table_format.proofs.put_record.Statement.{statement}
 use Rattle.table_format.proofs.put_record.Tie as tie
 
@@ -13,14 +13,19 @@ unfolding recordLength
 mul-at c =
     omega (arith, c .before .pre .0)
 
+add-out : tie.Need-add-out
+unfolding recordLength
+add-out c =
+    omega (arith, c .before .pre .0)
+
 slice-write-out : tie.Need-slice-write-out
 unfolding recordLength
 slice-write-out c =
     omega (arith, c .before .pre .0)
 
-add-out : tie.Need-add-out
+add-out-2 : tie.Need-add-out-2
 unfolding recordLength
-add-out c =
+add-out-2 c =
     omega (arith, c .before .pre .0)
 
 slice-write-out-2 : tie.Need-slice-write-out-2
@@ -28,9 +33,9 @@ unfolding recordLength
 slice-write-out-2 c =
     simp length-set (omega (arith, c .before .pre .0))
 
-add-out-2 : tie.Need-add-out-2
+add-out-3 : tie.Need-add-out-3
 unfolding recordLength
-add-out-2 c =
+add-out-3 c =
     omega (arith, c .before .pre .0)
 
 slice-write-out-3 : tie.Need-slice-write-out-3
@@ -38,9 +43,9 @@ unfolding recordLength
 slice-write-out-3 c =
     simp length-set (omega (arith, c .before .pre .0))
 
-add-out-3 : tie.Need-add-out-3
+add-out-4 : tie.Need-add-out-4
 unfolding recordLength
-add-out-3 c =
+add-out-4 c =
     omega (arith, c .before .pre .0)
 
 slice-write-out-4 : tie.Need-slice-write-out-4
@@ -76,7 +81,7 @@ same-length c =
     c .before .before .put-word2 .kept .0 ∙ (c .before .before .before .before .before .before .put-word .kept .0 ∙ simp length-set)
 
 returns : tie.Need-returns
-unfolding recordLength fieldBytes recordBytes
+unfolding recordLength fieldBytes
 returns c =
     record-written _ _ _ _ _ _ _ _ _ _ (c .before .before .before .before .before .before .put-word .ensures) (c .before .before .put-word2 .ensures)
 
@@ -85,12 +90,13 @@ put-record-spec =
     tie.close
     (tie.spec
     mul-at
-    slice-write-out
     add-out
-    slice-write-out-2
+    slice-write-out
     add-out-2
-    slice-write-out-3
+    slice-write-out-2
     add-out-3
+    slice-write-out-3
+    add-out-4
     slice-write-out-4
     add-put-word
     put-word-requires

@@ -2,11 +2,11 @@
 use mathlib.Core.Path.{_≡_}
 use mathlib.Core.Bool.{Bool, true, false, cond, _&&_}
 use mathlib.Core.List.{List}
-use Prim.Native.Nat.{ℕ, _+_, _*_, _^_, _≤_, _<_}
+use Prim.Native.Nat.{ℕ, _+_, _-_, _*_, _^_, _≤_, _<_}
 use lib.Dec.{eqb, leb, ltb}
-use lib.ListN.{length, drop, set}
+use lib.ListN.{length, take, drop}
 use Rattle.logic.specs.Formula.{Forest}
-use Rattle.table_format.specs.Bytes.{headerLength, recordLength, kindField, relationField, aField, bField, parentField, endField, marked, versionField, portsField, setsField, nodesField, records}
+use Rattle.table_format.specs.Bytes.{headerLength, recordLength, tableBytes, recordsOf, kindField, relationField, aField, bField, parentField, endField, marked, versionField, portsField, setsField, nodesField, records}
 use Rattle.table_format.specs.Rules.{everyNode, mayNest, nestingRule, depthRule, nodeRule}
 
 -- The rules of a node's first four bytes, by its kind: what an encoding and the rule of an inner node ask of them.
@@ -48,6 +48,10 @@ pub record Sound (l : List ℕ) (i parent d sets above : ℕ) (f : Forest) : Typ
   pub rules : everyNode (nodeRule sets) f d ≡ true
   pub nested : nestingRule above f ≡ true
 
+-- The records below the root of a table of so many nodes.
+abbrev pub belowRoot : List ℕ → ℕ → List ℕ
+belowRoot l nodes = take (recordLength * nodes - recordLength) (drop recordLength (recordsOf l))
+
 -- The rules of a header but its node count, and of the root's record where the plan has so many nodes.
 unfoldable pub headerRule : List ℕ → Bool
 headerRule l =
@@ -63,5 +67,5 @@ rootRule nodes l =
 unfoldable pub frontRule : List ℕ → Bool
 frontRule l =
     let nodes = nodesField l in
-    leb headerLength (length l) && headerRule l && leb 2 nodes && leb nodes 512 && leb (headerLength + recordLength * nodes) (length l)
-    && rootRule nodes (drop headerLength l)
+    leb headerLength (length l) && headerRule l && leb 2 nodes && leb nodes 512 && leb (tableBytes (setsField l) nodes) (length l)
+    && rootRule nodes (recordsOf l)

@@ -1,10 +1,12 @@
 use mathlib.Core.Path.{sym, ap, _∙_}
+use Prim.Native.Nat.{ℕ}
 use native.Mathlib.Omega.{arith}
+use lib.ListN.{length}
 use borrow.Author.Tests.{le-leb, lt-leb, not-true, not-false}
 use borrow.Author.Needs.{needs}
-use Rattle.table_format.specs.Bytes.{headerLength, recordLength}
+use Rattle.table_format.specs.Bytes.{headerLength, recordLength, tableBytes}
 use Rattle.table_format.specs.inner.Tests.{rootRule, frontRule}
-use Rattle.table_format.proofs.Parts.{rest-all}
+use Rattle.table_format.proofs.Bytes.{length-records-of}
 use Rattle.table_rules.proofs.front_ok.Statement.{statement}
 use Rattle.table_rules.proofs.front_ok.Tie as tie
 
@@ -38,40 +40,33 @@ unfolding frontRule headerLength
 returns-4 c =
     rw (← (c .before .before .nodes-of .ensures .is), le-leb _ _ (c .before .before .before .before .before .if1 .left), sym (c .before .before .before .before .header-ok .ensures) ∙ not-false _ (c .before .before .before .if2 .left), le-leb _ _ (c .before .if3 .left), lt-leb _ _ (c .if4 .taken))
 
-mul-if5 : tie.Need-mul-if5
-mul-if5 c =
-    search needs
+sets-of-requires : tie.Need-sets-of-requires
+unfolding headerLength
+sets-of-requires c κs =
+    omega arith
 
-add-if5 : tie.Need-add-if5
-add-if5 c =
+table-bytes-requires : tie.Need-table-bytes-requires
+table-bytes-requires c κs =
     search needs
 
 returns-5 : tie.Need-returns-5
-unfolding frontRule headerLength recordLength
+unfolding frontRule headerLength
 returns-5 c =
-    rw (← (c .before .before .before .nodes-of .ensures .is), le-leb _ _ (c .before .before .before .before .before .before .if1 .left), sym (c .before .before .before .before .before .header-ok .ensures) ∙ not-false _ (c .before .before .before .before .if2 .left), le-leb _ _ (c .before .before .if3 .left), le-leb _ _ (c .before .if4 .left), lt-leb _ _ (c .if5 .taken))
+    rw (← (c .before .before .before .before .before .nodes-of .ensures .is), le-leb _ _ (c .before .before .before .before .before .before .before .before .if1 .left), sym (c .before .before .before .before .before .before .before .header-ok .ensures) ∙ not-false _ (c .before .before .before .before .before .before .if2 .left), le-leb _ _ (c .before .before .before .before .if3 .left), le-leb _ _ (c .before .before .before .if4 .left), ← (c .before .table-bytes .ensures ∙ ap (λ (x : ℕ). tableBytes x (c .before .before .before .before .before .nodes-of .result)) (c .before .before .sets-of .ensures)), lt-leb _ _ (c .if5 .taken))
 
-sub-root-ok : tie.Need-sub-root-ok
-sub-root-ok c =
-    search needs
-
-part-root-ok-start : tie.Need-part-root-ok-start
-part-root-ok-start c =
-    search needs
-
-part-root-ok-end : tie.Need-part-root-ok-end
-part-root-ok-end c =
-    search needs
+records-of-requires : tie.Need-records-of-requires
+records-of-requires c κs =
+    omega (arith, c .if5 .left, c .before .table-bytes .ensures ∙ ap (λ (x : ℕ). tableBytes x (c .before .before .before .before .before .nodes-of .result)) (c .before .before .sets-of .ensures))
 
 root-ok-requires : tie.Need-root-ok-requires
 unfolding recordLength
 root-ok-requires c κs =
-    omega arith
+    omega (arith, c .before .if5 .left, c .before .before .table-bytes .ensures ∙ ap (λ (x : ℕ). tableBytes x (c .before .before .before .before .before .before .nodes-of .result)) (c .before .before .before .sets-of .ensures), ap length (c .records-of .ensures), length-records-of (c .before .before .before .before .before .before .before .before .before .before .before .args .table .now))
 
 returns-6 : tie.Need-returns-6
-unfolding frontRule headerLength recordLength
+unfolding frontRule headerLength
 returns-6 c =
-    rw (← (c .before .before .before .before .before .nodes-of .ensures .is), le-leb _ _ (c .before .before .before .before .before .before .before .before .if1 .left), sym (c .before .before .before .before .before .before .before .header-ok .ensures) ∙ not-false _ (c .before .before .before .before .before .before .if2 .left), le-leb _ _ (c .before .before .before .before .if3 .left), le-leb _ _ (c .before .before .before .if4 .left), le-leb _ _ (c .before .before .if5 .left)) (c .root-ok .ensures ∙ ap (rootRule (c .before .before .before .before .before .nodes-of .result)) (rest-all headerLength (c .before .before .before .before .before .before .before .before .before .before .args .table .now)))
+    rw (← (c .before .before .before .before .before .before .before .nodes-of .ensures .is), le-leb _ _ (c .before .before .before .before .before .before .before .before .before .before .if1 .left), sym (c .before .before .before .before .before .before .before .before .before .header-ok .ensures) ∙ not-false _ (c .before .before .before .before .before .before .before .before .if2 .left), le-leb _ _ (c .before .before .before .before .before .before .if3 .left), le-leb _ _ (c .before .before .before .before .before .if4 .left), ← (c .before .before .before .table-bytes .ensures ∙ ap (λ (x : ℕ). tableBytes x (c .before .before .before .before .before .before .before .nodes-of .result)) (c .before .before .before .before .sets-of .ensures)), le-leb _ _ (c .before .before .if5 .left)) (c .root-ok .ensures ∙ ap (rootRule (c .before .before .before .before .before .before .before .nodes-of .result)) (c .before .records-of .ensures))
 
 pub front-ok-spec : {M : Type 1} → statement M
 front-ok-spec =
@@ -83,11 +78,9 @@ front-ok-spec =
     nodes-of-requires
     returns-3
     returns-4
-    mul-if5
-    add-if5
+    sets-of-requires
+    table-bytes-requires
     returns-5
-    sub-root-ok
-    part-root-ok-start
-    part-root-ok-end
+    records-of-requires
     root-ok-requires
     returns-6)

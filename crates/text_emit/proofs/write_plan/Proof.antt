@@ -1,7 +1,7 @@
-use mathlib.Core.Path.{refl}
 use native.Mathlib.Omega.{arith}
+use lib.ListN.{length}
 use borrow.Author.Needs.{needs}
-use Rattle.table_format.specs.Bytes.{headerLength, recordLength}
+use Rattle.table_format.proofs.Bytes.{header-within}
 use Rattle.text_emit.proofs.Whole.{writes-plan, part-ready}
 use Rattle.text_emit.proofs.write_plan.Statement.{statement}
 use Rattle.text_emit.proofs.write_plan.Tie as tie
@@ -13,13 +13,15 @@ cast-put-header-2 : tie.Need-cast-put-header-2
 cast-put-header-2 c = search needs
 
 put-header-requires : tie.Need-put-header-requires
-put-header-requires c κs = search needs
+put-header-requires c κs =
+    omega (arith, header-within (length (c .before .before .before .before .args .sets .now)), c .before .before .before .before .pre .room)
 
-mul-last : tie.Need-mul-last
-mul-last c = search needs
+records-from-requires : tie.Need-records-from-requires
+records-from-requires c κs = search needs
 
-add-last : tie.Need-add-last
-add-last c = search needs
+table-bytes-requires : tie.Need-table-bytes-requires
+table-bytes-requires c κs =
+    omega (arith, c .before .before .before .before .before .before .before .before .pre .few)
 
 sub-put-core : tie.Need-sub-put-core
 sub-put-core c = search needs
@@ -28,22 +30,19 @@ part-put-core-start : tie.Need-part-put-core-start
 part-put-core-start c = search needs
 
 part-put-core-end : tie.Need-part-put-core-end
-unfolding headerLength recordLength
 part-put-core-end c =
-    omega (arith, c .before .before .put-header .kept .1 .1 .1 .0, c .before .before .before .before .before .before .before .pre .room)
+    omega (arith, c .before .before .before .before .put-header .kept .1 .1 .1 .0, c .before .before .before .before .before .before .before .before .before .pre .room, c .table-bytes .ensures)
 
 put-core-requires : tie.Need-put-core-requires
-unfolding headerLength recordLength
 put-core-requires c κs =
-    part-ready _ (c .before .before .before .before .before .before .before .before .args .table .now) (c .before .before .before .put-header .last .1 .1 .1 .0) (c .before .before .before .before .before .before .before .before .args .nodes) _ (c .before .before .before .before .before .before .before .before .pre) (c .before .before .before .put-header .kept .1 .1 .1 .0) refl
+    part-ready _ (c .before .before .before .before .before .before .before .before .before .before .args .table .now) (c .before .before .before .before .before .put-header .last .1 .1 .1 .0) (c .before .before .before .before .before .before .before .before .before .before .args .nodes) _ _ (c .before .before .before .before .before .before .before .before .before .before .pre) (c .before .before .before .before .before .put-header .kept .1 .1 .1 .0) (c .before .before .records-from .ensures) (c .before .table-bytes .ensures)
 
 same-length : tie.Need-same-length
 same-length c = search needs
 
 returns : tie.Need-returns
-unfolding headerLength recordLength
 returns c =
-    writes-plan _ _ _ _ _ _ _ _ _ (c .before .before .before .before .before .before .put-header .ensures) refl (c .before .before .before .before .before .before .before .before .before .before .before .pre .room) (c .before .before .put-core .ensures)
+    writes-plan _ _ _ _ _ _ _ _ _ _ (c .before .before .before .before .before .before .before .before .put-header .ensures) (c .before .before .before .before .before .records-from .ensures) (c .before .before .before .before .table-bytes .ensures) (omega (arith, c .before .before .before .before .before .before .before .before .before .before .before .before .before .pre .room, c .before .before .before .before .table-bytes .ensures)) (c .before .before .put-core .ensures)
 
 pub write-plan-spec : {M : Type 1} → statement M
 write-plan-spec =
@@ -52,8 +51,8 @@ write-plan-spec =
     cast-put-header
     cast-put-header-2
     put-header-requires
-    mul-last
-    add-last
+    records-from-requires
+    table-bytes-requires
     sub-put-core
     part-put-core-start
     part-put-core-end

@@ -2,7 +2,7 @@
 use mathlib.Core.Path.{_≡_}
 use mathlib.Core.Bool.{Bool, true, false, not}
 use mathlib.Core.List.{List, _++_}
-use Prim.Native.Nat.{ℕ, zero, suc, _+_, _*_, _≤_}
+use Prim.Native.Nat.{ℕ, zero, suc, _*_, _≤_}
 use lib.ListN.{length, drop}
 use Rattle.logic.specs.Formula.{Literal, lit, Forest, none, tree, kindNumber, nodeCount}
 use Rattle.text_tree.specs.Tree.{Join, conj, disj, imp, rev, iff, Tree}
@@ -10,7 +10,7 @@ use Rattle.text_tree.specs.inner.Stored.{joinOperator, Stored}
 use Rattle.text_core.specs.Names.{fourth, Lettered}
 use Rattle.text_names.specs.inner.Faults.{ReadAs}
 use Rattle.text_core.specs.Core.{Above, alone, inside, jointNode, Part, two, literalAt, joinWith, place, coreOf, planOf}
-use Rattle.table_format.specs.Bytes.{headerLength, recordLength, records, encoding}
+use Rattle.table_format.specs.Bytes.{recordLength, tableBytes, records, encoding}
 use Rattle.text_emit.specs.declared.Bound.{Bound}
 use Rattle.text_emit.specs.declared.Up.{Up}
 use Rattle.text_emit.specs.inner.Fields.{boundLetters}
@@ -111,9 +111,9 @@ pub record PlanReady (sets : List ℕ) (nodes : ℕ) (table : List ℕ) : Type 0
   pub few-sets : length sets ≤ 16
   pub some : 1 ≤ nodes
   pub few : nodes ≤ 512
-  pub room : headerLength + recordLength * nodes ≤ length table
+  pub room : tableBytes (length sets) nodes ≤ length table
 
 -- "Reading [..] writes the plan table": the bytes of the plan, and behind them what stood there.
 unfoldable pub WritesPlan : ℕ → List ℕ → List ℕ → ℕ → ℕ → List ℕ → List ℕ → Type 0
 WritesPlan u sets t e nodes before after =
-    (a : Tree) → Sound t e 0 a → nodes ≡ nodeCount (coreOf sets a) → after ≡ encoding (planOf u sets a) ++ drop (headerLength + recordLength * nodes) before
+    (a : Tree) → Sound t e 0 a → nodes ≡ nodeCount (coreOf sets a) → after ≡ encoding (planOf u sets a) ++ drop (tableBytes (length sets) nodes) before

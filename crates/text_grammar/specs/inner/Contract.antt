@@ -3,14 +3,14 @@ use mathlib.Core.Path.{_≡_}
 use mathlib.Core.List.{List}
 use mathlib.Core.Bool.{true, false}
 use Prim.Native.Nat.{ℕ, suc, _+_, _*_, _-_, _≤_, _<_}
-use lib.ListN.{length, getD}
+use lib.ListN.{length, getD, set, take}
 use Rattle.logic.specs.Formula.{Literal}
 use Rattle.text_tree.specs.Tree.{Tree, tooDeep}
 use Rattle.text_tree.specs.inner.Stored.{literalOperator, literalPayload, Record, Stored}
 use Rattle.text_grammar.specs.declared.Reading.{Reading}
 use Rattle.text_grammar.specs.declared.Letters.{Letters}
 use Rattle.text_grammar.specs.declared.Syntax.{Syntax}
-use Rattle.text_grammar.specs.Grammar.{Level, unit, nextAt}
+use Rattle.text_grammar.specs.Grammar.{Level, unit}
 use Rattle.text_grammar.specs.Parser.{Part, missing, found, mapPart, operand, rank, parseAt, lettersAt, afterLetters, failed, read, parsed}
 
 -- A reader at position `at` of the text s, with n numbers in the table and d of `(`, `~` and quantifiers around it. Each
@@ -62,30 +62,36 @@ pub record Form (operator : ℕ) : Type 0 where
 abbrev pub Operands : List ℕ → List ℕ → List ℕ → ℕ → ℕ → ℕ → ℕ → ℕ → ℕ → Reading → Type 0
 Operands s before after first operator wanted at n d r = (m : Form operator) → Outcome (operand s wanted (m .make first) at) s before after at n d r
 
--- The set letters at `at`, for every bound that suffices.
-pub record Lettered (s : List ℕ) (at : ℕ) (r : Letters) : Type 0 where
-  pub counts : (f : ℕ) → length s ≤ f + at → r .count ≡ length (lettersAt f s at)
+-- A letter v goes into the table behind n others, if there is room.
+pub record Keeps (n v : ℕ) (before after : List ℕ) (r : ℕ) : Type 0 where
+  pub holds : n < length before → (after ≡ set before n v) × (r ≡ n + 1)
+  pub full : length before ≤ n → (after ≡ before) × (r ≡ n)
+
+-- The set letters at `at`, for every bound that suffices: the first of them, as many as there is room for, stand in the table.
+pub record Lettered (s : List ℕ) (at : ℕ) (letters : List ℕ) (r : Letters) : Type 0 where
+  pub few : r .count ≤ length letters
+  pub kept : (f : ℕ) → length s ≤ f + at → take (r .count) letters ≡ take (length letters) (lettersAt f s at)
   pub ends : (f : ℕ) → length s ≤ f + at → r .next ≡ afterLetters f s at
   pub within : r .next ≤ length s
   pub onward : at ≤ r .next
 
 -- What the reader of a whole text asks.
-pub record Lent (s out : List ℕ) : Type 0 where
+pub record Lent (s out letters : List ℕ) : Type 0 where
   pub short : length s ≤ 4096
   pub wide : 8192 ≤ length out
+  pub some : 1 ≤ length letters
 
--- What it ensures: the text's set letters and tree, the tree's records in the table, and ground 4.
-pub record Whole (s after : List ℕ) (r : Syntax) : Type 0 where
+-- What it ensures: the text's set letters and tree, the tree's records and the first letters in the tables, and ground 4.
+pub record Whole (s after letters : List ℕ) (r : Syntax) : Type 0 where
   pub sets : List ℕ
   pub tree : Tree
   pub is : parsed s ≡ read sets tree
   pub stored : Stored after (r .end) tree
   pub deeper : r .deep ≡ tooDeep 0 tree
-  pub first : r .first ≡ nextAt s 0
-  pub letters : sets ≡ lettersAt (length s) s (r .first)
-  pub count : r .sets ≡ length sets
+  pub few : r .sets ≤ length letters
+  pub kept : take (r .sets) letters ≡ take (length letters) sets
   pub fits : r .end ≤ 8192
 
-pub record Parsed (s after : List ℕ) (r : Syntax) : Type 0 where
-  pub accepts : r .ok ≡ true → Whole s after r
+pub record Parsed (s after letters : List ℕ) (r : Syntax) : Type 0 where
+  pub accepts : r .ok ≡ true → Whole s after letters r
   pub refuses : r .ok ≡ false → parsed s ≡ failed
