@@ -1,54 +1,33 @@
 -- Load's answer and cells in each of its cases, and what an accepted load means. Assumes nothing.
 use mathlib.Core.Path.{_≡_, sym, ap, _∙_}
 use mathlib.Core.Logic.{_↔_}
-use mathlib.Core.Bool.{true, false, not, _||_}
+use mathlib.Core.Bool.{true, not, _||_}
 use mathlib.Core.List.{List, [], _∷_, _++_}
-use Prim.Native.Nat.{ℕ, suc, _≤_, _<_}
+use Prim.Native.Nat.{ℕ, suc, _≤_}
 use lib.Dec.{ltb}
 use lib.ListN.{length, getD, take, drop, take-append-drop, List·getD-append}
-use borrow.Author.Tests.{lt-ltb, le-ltb}
+use borrow.Author.Tests.{le-ltb}
 use Rattle.logic.specs.Formula.{Plan}
 use Rattle.logic.specs.Configuration.{ownMasks, spelled, allWithin}
 use Rattle.logic.specs.Truth.{PlanTrue}
 use Rattle.logic.specs.Cells.{ownCells, cells, rootPenalty}
 use Rattle.logic.specs.Moves.{refusal}
 use Rattle.logic.proofs.Theorems.{Nonempty, root-zero, length-cells}
-use Rattle.table_format.specs.Decode.{Decoded, broken, sound, decode}
+use Rattle.table_format.specs.Decode.{Decoded, sound, decode}
 use Rattle.contracts.specs.declared.Loaded.{Loaded}
 use Rattle.contracts.specs.declared.Loaded.the-variants.{Accepted, Refused}
 use Rattle.contracts.specs.Load.{loadGrounds, loadOr, loadPlan, loads, loadRoot}
-
-pub load-broken : (bytes masks xs : List ℕ) → decode bytes ≡ broken → _≡_ {A = Loaded × List ℕ} (Refused 11, xs) (loads (decode bytes) masks xs)
-unfolding loads
-load-broken bytes masks xs d = ap (λ (x : Decoded). loads x masks xs) (sym d)
 
 -- the first ground that applies to a plan
 abbrev ground : Plan → List ℕ → List ℕ → ℕ
 ground P masks xs = refusal (loadGrounds P (take (ownMasks P) masks) (length masks) (length xs))
 
-load-refused : (bytes masks xs : List ℕ) (P : Plan) (g : ℕ) → decode bytes ≡ sound P → ground P masks xs ≡ suc g
-    → _≡_ {A = Loaded × List ℕ} (Refused (suc g), xs) (loads (decode bytes) masks xs)
+-- a ground applies
+pub load-refused : (masks xs : List ℕ) (P : Plan) (g : ℕ) → ground P masks xs ≡ suc g → _≡_ {A = Loaded × List ℕ} (Refused (suc g), xs) (loads (sound P) masks xs)
 unfolding loads loadPlan loadOr
-load-refused bytes masks xs P g d e =
-    sym (ap (λ (x : Decoded). loads x masks xs) d
-    ∙ ap (λ (x : ℕ). let r = loadOr x P (take (ownMasks P) masks) (take (ownCells P) xs) in (r .0, r .1 ++ drop (ownCells P) xs)) e
+load-refused masks xs P g e =
+    sym (ap (λ (x : ℕ). let r = loadOr x P (take (ownMasks P) masks) (take (ownCells P) xs) in (r .0, r .1 ++ drop (ownCells P) xs)) e
     ∙ ap (λ (l : List ℕ). (Refused (suc g), l)) (take-append-drop (ownCells P) xs))
-
-pub load-few-masks : (bytes masks xs : List ℕ) (P : Plan) → decode bytes ≡ sound P → length masks < ownMasks P
-    → _≡_ {A = Loaded × List ℕ} (Refused 12, xs) (loads (decode bytes) masks xs)
-unfolding loadGrounds refusal
-load-few-masks bytes masks xs P d h = load-refused bytes masks xs P 11 d (rw (lt-ltb (length masks) (ownMasks P) h))
-
-pub load-few-cells : (bytes masks xs : List ℕ) (P : Plan) → decode bytes ≡ sound P → ownMasks P ≤ length masks → length xs < ownCells P
-    → _≡_ {A = Loaded × List ℕ} (Refused 12, xs) (loads (decode bytes) masks xs)
-unfolding loadGrounds refusal
-load-few-cells bytes masks xs P d h l = load-refused bytes masks xs P 11 d (rw (le-ltb (length masks) (ownMasks P) h, lt-ltb (length xs) (ownCells P) l))
-
-pub load-not-within : (bytes masks xs : List ℕ) (P : Plan) → decode bytes ≡ sound P → ownMasks P ≤ length masks → ownCells P ≤ length xs
-    → allWithin (P .ports) (take (ownMasks P) masks) ≡ false → _≡_ {A = Loaded × List ℕ} (Refused 13, xs) (loads (decode bytes) masks xs)
-unfolding loadGrounds refusal
-load-not-within bytes masks xs P d h l s =
-    load-refused bytes masks xs P 12 d (rw (le-ltb (length masks) (ownMasks P) h, le-ltb (length xs) (ownCells P) l, s))
 
 -- no ground applies
 pub accepted : (masks xs : List ℕ) (P : Plan) → ownMasks P ≤ length masks → ownCells P ≤ length xs → allWithin (P .ports) (take (ownMasks P) masks) ≡ true
