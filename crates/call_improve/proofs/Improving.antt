@@ -25,7 +25,7 @@ use Rattle.move_make.specs.inner.Judged.{Carried}
 use Rattle.move_make.proofs.Answering.{two-lengths}
 use Rattle.move_best.specs.declared.Choice.{Choice}
 use Rattle.move_best.specs.inner.Choosing.{BestFound, FoundOr}
-use Rattle.move_best.proofs.Trying.{root-cell}
+use Rattle.call_open.proofs.Opening.{root-cell}
 use Rattle.move_best.proofs.Answering.{best-found, none-lower}
 
 module _ (P : Plan) (kinds : ℕ) (own : List ℕ) (masks-length x y : ℕ) where

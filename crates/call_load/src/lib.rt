@@ -1,8 +1,7 @@
 // The call load: checks the tables and fills every cell. Paper 01, section Penalty.
-use call_open::masks_ok;
+use call_open::open_tables;
 use cells_fill::fill;
 use contracts::Loaded;
-use table_check::check;
 ghost use mathlib.Core.Path.{_≡_};
 ghost use Rattle.contracts.specs.State.{tables};
 ghost use Rattle.contracts.specs.Load.{loads};
@@ -15,26 +14,13 @@ pub fn load(table: &[u8], masks: &[u64], cells: &mut [u32]) -> Loaded
     let mut firsts = [0u32; 512];
     let mut ends = [0u16; 512];
     let mut uses = [0u64; 512];
-    let info = check(table, &mut firsts, &mut ends, &mut uses);
-    if !info.ok {
-        return Loaded::Refused(11);
+    let o = open_tables(table, masks, cells.len(), &mut firsts, &mut ends, &mut uses);
+    if o.number != 0 {
+        return Loaded::Refused(o.number);
     }
-    let ports = info.ports;
-    let sets = info.sets;
-    let nodes = info.nodes;
-    let total = info.cells;
-    if masks.len() < sets {
-        return Loaded::Refused(12);
-    }
-    if cells.len() < total {
-        return Loaded::Refused(12);
-    }
-    if !masks_ok(masks, sets, ports) {
-        return Loaded::Refused(13);
-    }
-    fill(table, ports, sets, nodes, masks, cells);
+    fill(table, o.ports, o.sets, o.nodes, masks, cells);
     Loaded::Accepted {
         root: cells[0],
-        cells: total as u32,
+        cells: o.cells as u32,
     }
 }

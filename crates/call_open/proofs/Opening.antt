@@ -7,19 +7,21 @@ use native.Mathlib.Omega.{arith}
 use lib.Dec.{ltb}
 use lib.ListN.{length, take}
 use borrow.Author.Tests.{lt-ltb, le-ltb}
-use Rattle.logic.specs.Formula.{Plan}
+use Rattle.logic.specs.Formula.{Plan, nodeCount}
 use Rattle.logic.specs.Configuration.{ownMasks, allWithin}
 use Rattle.logic.specs.Cells.{ownCells}
 use Rattle.logic.specs.Moves.{refusal}
 use Rattle.table_format.specs.Decode.{Decoded, broken, sound, decode}
+use Rattle.table_format.proofs.Encoding.{decode-sound, one-plan}
+use Rattle.table_format.proofs.Ready.{ready}
 use Rattle.cells_walk.specs.inner.Root.{Indexed}
 use Rattle.call_open.specs.declared.Opened.{Opened}
-use Rattle.call_open.specs.inner.Opening.{openGrounds, openNumber, Opens}
+use Rattle.call_open.specs.inner.Opening.{openGrounds, openNumber, OpenPlan, Opens}
 
 module _ (bytes masks : List ℕ) (shortest : ℕ) (r : Opened) (x y z : List ℕ) where
   -- a number other than 0 opens nothing
   closes : (g : ℕ) → r .number ≡ suc g → suc g ≡ openNumber (decode bytes) masks shortest → Opens bytes masks shortest r x y z
-  closes g h q = record { number-is = h ∙ q; opens = λ e. absurd (omega (arith, h, e)) }
+  closes g h q = record { number-is = h ∙ q; opens = λ e. absurd (omega (arith, h, e)); nodes-are = λ e. absurd (omega (arith, h, e)); cells-are = λ e. absurd (omega (arith, h, e)) }
 
   pub opens-broken : r .number ≡ 11 → decode bytes ≡ broken → Opens bytes masks shortest r x y z
   unfolding openNumber
@@ -41,9 +43,9 @@ module _ (bytes masks : List ℕ) (shortest : ℕ) (r : Opened) (x y z : List �
       pub opens-not-within : r .number ≡ 13 → allWithin (P .ports) (take (ownMasks P) masks) ≡ false → Opens bytes masks shortest r x y z
       opens-not-within h w = closes 12 h (sym (number-of false true (ap₂ _||_ (le-ltb _ _ m) (le-ltb _ _ l)) (ap not w)))
 
-      pub opens-all : r .number ≡ 0 → r .ports ≡ P .ports → r .sets ≡ P .sets → Indexed P x y z → allWithin (P .ports) (take (ownMasks P) masks) ≡ true
-          → Opens bytes masks shortest r x y z
-      opens-all h u n i w = record {
+      pub opens-all : r .number ≡ 0 → r .ports ≡ P .ports → r .sets ≡ P .sets → r .nodes ≡ nodeCount (P .formula) → r .cells ≡ ownCells P → Indexed P x y z
+          → allWithin (P .ports) (take (ownMasks P) masks) ≡ true → Opens bytes masks shortest r x y z
+      opens-all h u n k c i w = record {
         number-is = h ∙ sym (number-of false false (ap₂ _||_ (le-ltb _ _ m) (le-ltb _ _ l)) (ap not w));
         opens = λ _. record {
           plan = P;
@@ -55,4 +57,30 @@ module _ (bytes masks : List ℕ) (shortest : ℕ) (r : Opened) (x y z : List �
           own-cells = l;
           within = w;
         };
+        nodes-are = λ _ Q e. k ∙ ap (λ (X : Plan). nodeCount (X .formula)) (same Q e);
+        cells-are = λ _ Q e. c ∙ ap ownCells (same Q e);
       }
+        where
+          same : (Q : Plan) → decode bytes ≡ sound Q → P ≡ Q
+          same Q e = one-plan bytes P Q (decode-sound bytes P d) (decode-sound bytes Q e)
+
+-- open for the shortest of the cell tables, open for a longer one
+pub open-longer : (ports sets : ℕ) (bytes masks : List ℕ) (shortest n : ℕ) (x y z : List ℕ) → OpenPlan ports sets bytes masks shortest x y z → shortest ≤ n
+    → OpenPlan ports sets bytes masks n x y z
+open-longer ports sets bytes masks shortest n x y z o l = record {
+  plan = o .plan;
+  decodes = o .decodes;
+  ports-are = o .ports-are;
+  sets-are = o .sets-are;
+  indexed = o .indexed;
+  own-masks = o .own-masks;
+  own-cells = omega (arith, o .own-cells, l);
+  within = o .within;
+}
+
+-- a plan has a cell, its root's, and a number of cells that 32 bits hold
+pub root-cell : (bytes : List ℕ) (P : Plan) → decode bytes ≡ sound P → 0 < ownCells P
+root-cell bytes P d = let r = ready bytes P (nodeCount (P .formula)) d refl in omega (arith, r .total)
+
+pub few-cells : (bytes : List ℕ) (P : Plan) → decode bytes ≡ sound P → ownCells P < 4294967296
+few-cells bytes P d = let r = ready bytes P (nodeCount (P .formula)) d refl in omega (arith, r .total, r .facts .few)

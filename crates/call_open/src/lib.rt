@@ -9,7 +9,7 @@ ghost use Rattle.table_check.specs.inner.Check.{Room};
 ghost use Rattle.call_open.specs.inner.Opening.{Opens};
 
 // Whether no mask of the first `sets` has a port of `ports` or more.
-pub fn masks_ok(masks: &[u64], sets: usize, ports: usize) -> bool
+fn masks_ok(masks: &[u64], sets: usize, ports: usize) -> bool
     requires { ⌜ (sets ≤ length (now masks)) × (ports ≤ 64) ⌝ }
     ensures { λ r. ⌜ r ≡ allWithin ports (take sets (now (masks .entry))) ⌝ }
 {
@@ -24,11 +24,13 @@ pub fn masks_ok(masks: &[u64], sets: usize, ports: usize) -> bool
     true
 }
 
-// The ports and sets of a plan whose tables may be worked, or the first ground of 11 to 13 that applies.
+// The ports, sets, nodes and cells of a plan whose tables may be worked, or the first ground of 11 to 13 that applies.
 pub struct Opened {
     pub number: u8,
     pub ports: usize,
     pub sets: usize,
+    pub nodes: usize,
+    pub cells: usize,
 }
 
 fn closed(number: u8) -> Opened
@@ -38,6 +40,8 @@ fn closed(number: u8) -> Opened
         number: number,
         ports: 0,
         sets: 0,
+        nodes: 0,
+        cells: 0,
     }
 }
 
@@ -70,6 +74,8 @@ pub fn open_tables(
         number: 0,
         ports: info.ports,
         sets: info.sets,
+        nodes: info.nodes,
+        cells: info.cells,
     }
 }
 

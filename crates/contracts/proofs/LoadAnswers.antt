@@ -1,26 +1,22 @@
 -- Load's answer and cells in each of its cases, and what an accepted load means. Assumes nothing.
 use mathlib.Core.Path.{_≡_, sym, ap, _∙_}
 use mathlib.Core.Logic.{_↔_}
-use mathlib.Core.Bool.{true, false}
+use mathlib.Core.Bool.{true}
 use mathlib.Core.List.{List, _++_}
-use Prim.Native.Nat.{ℕ, suc, _≤_, _<_}
+use Prim.Native.Nat.{ℕ, suc, _≤_}
 use lib.ListN.{length, getD, take, drop, take-append-drop, List·getD-append}
-use borrow.Author.Tests.{lt-ltb, le-ltb}
+use borrow.Author.Tests.{le-ltb}
 use Rattle.logic.specs.Formula.{Plan}
 use Rattle.logic.specs.Configuration.{ownMasks, spelled, allWithin}
 use Rattle.logic.specs.Truth.{PlanTrue}
 use Rattle.logic.specs.Cells.{ownCells, cells, rootPenalty}
 use Rattle.logic.specs.Moves.{refusal}
 use Rattle.logic.proofs.Theorems.{Nonempty, root-zero, length-cells}
-use Rattle.table_format.specs.Decode.{Decoded, broken, sound, decode}
+use Rattle.table_format.specs.Decode.{Decoded, sound, decode}
 use Rattle.contracts.specs.State.{State, tables, ownTables, withRest}
 use Rattle.contracts.specs.declared.Loaded.{Loaded}
 use Rattle.contracts.specs.declared.Loaded.the-variants.{Accepted, Refused}
 use Rattle.contracts.specs.Load.{loadGrounds, loadedMasks, loadedTables, loadOr, loadPlan, loads, loadRoot}
-
-pub load-broken : (bytes masks xs : List ℕ) → decode bytes ≡ broken → _≡_ {A = Loaded × State} (Refused 11, tables masks xs) (loads (decode bytes) (tables masks xs))
-unfolding loads
-load-broken bytes masks xs d = ap (λ (x : Decoded). loads x (tables masks xs)) (sym d)
 
 -- the first ground that applies to a plan
 abbrev ground : Plan → List ℕ → List ℕ → ℕ
@@ -32,33 +28,17 @@ loadWhole n P s =
     let r = loadOr n P (ownTables P s) in
     (r .0, withRest P (r .1) s)
 
-by-ground : (bytes : List ℕ) (s : State) (P : Plan) (g : ℕ) → decode bytes ≡ sound P → ground P (s .masks) (s .cells) ≡ g
-    → loads (decode bytes) s ≡ loadWhole g P s
+by-ground : (s : State) (P : Plan) (g : ℕ) → ground P (s .masks) (s .cells) ≡ g → loads (sound P) s ≡ loadWhole g P s
 unfolding loads loadPlan loadWhole
-by-ground bytes s P g d e = ap (λ (x : Decoded). loads x s) d ∙ ap (λ (x : ℕ). loadWhole x P s) e
+by-ground s P g e = ap (λ (x : ℕ). loadWhole x P s) e
 
-load-refused : (bytes masks xs : List ℕ) (P : Plan) (g : ℕ) → decode bytes ≡ sound P → ground P masks xs ≡ suc g
-    → _≡_ {A = Loaded × State} (Refused (suc g), tables masks xs) (loads (decode bytes) (tables masks xs))
+-- a ground applies
+pub load-refused : (masks xs : List ℕ) (P : Plan) (g : ℕ) → ground P masks xs ≡ suc g
+    → _≡_ {A = Loaded × State} (Refused (suc g), tables masks xs) (loads (sound P) (tables masks xs))
 unfolding loadWhole loadOr ownTables withRest
-load-refused bytes masks xs P g d e =
-    sym (by-ground bytes (tables masks xs) P (suc g) d e
+load-refused masks xs P g e =
+    sym (by-ground (tables masks xs) P (suc g) e
     ∙ (λ i. (Refused (suc g), tables (take-append-drop (ownMasks P) masks i) (take-append-drop (ownCells P) xs i))))
-
-pub load-few-masks : (bytes masks xs : List ℕ) (P : Plan) → decode bytes ≡ sound P → length masks < ownMasks P
-    → _≡_ {A = Loaded × State} (Refused 12, tables masks xs) (loads (decode bytes) (tables masks xs))
-unfolding loadGrounds refusal
-load-few-masks bytes masks xs P d h = load-refused bytes masks xs P 11 d (rw (lt-ltb (length masks) (ownMasks P) h))
-
-pub load-few-cells : (bytes masks xs : List ℕ) (P : Plan) → decode bytes ≡ sound P → ownMasks P ≤ length masks → length xs < ownCells P
-    → _≡_ {A = Loaded × State} (Refused 12, tables masks xs) (loads (decode bytes) (tables masks xs))
-unfolding loadGrounds refusal
-load-few-cells bytes masks xs P d h l = load-refused bytes masks xs P 11 d (rw (le-ltb (length masks) (ownMasks P) h, lt-ltb (length xs) (ownCells P) l))
-
-pub load-not-within : (bytes masks xs : List ℕ) (P : Plan) → decode bytes ≡ sound P → ownMasks P ≤ length masks → ownCells P ≤ length xs
-    → allWithin (P .ports) (take (ownMasks P) masks) ≡ false → _≡_ {A = Loaded × State} (Refused 13, tables masks xs) (loads (decode bytes) (tables masks xs))
-unfolding loadGrounds refusal
-load-not-within bytes masks xs P d h l s =
-    load-refused bytes masks xs P 12 d (rw (le-ltb (length masks) (ownMasks P) h, le-ltb (length xs) (ownCells P) l, s))
 
 -- no ground applies
 pub accepted : (masks xs : List ℕ) (P : Plan) → ownMasks P ≤ length masks → ownCells P ≤ length xs → allWithin (P .ports) (take (ownMasks P) masks) ≡ true
@@ -75,7 +55,7 @@ load-accepts bytes masks xs ys P r t d e y one re te =
     let c = cells P (spelled P own) in
     let first : r ≡ getD c 0 0 = re ∙ ap (λ (l : List ℕ). getD l 0 0) y ∙ List·getD-append c (drop (ownCells P) xs) 0 0 (rw (length-cells P (spelled P own)) one) in
     (λ i. (Accepted (first i) (te i), tables (sym (take-append-drop (ownMasks P) masks) i) (y i)))
-    ∙ sym (by-ground bytes (tables masks xs) P 0 d e)
+    ∙ sym (ap (λ (x : Decoded). loads x (tables masks xs)) d ∙ by-ground (tables masks xs) P 0 e)
 
 -- After an accepted load the root is 0 exactly when the formula is true under the plan's own masks (demand 2).
 pub load-zero : (masks xs : List ℕ) (P : Plan) → Nonempty (P .formula) → ground P masks xs ≡ 0

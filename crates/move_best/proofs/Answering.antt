@@ -1,37 +1,17 @@
--- From the tables as they are opened to the choice, and whether the choice lowers the root. Assumes nothing.
+-- Whether the choice lowers the root. Assumes nothing.
 use mathlib.Core.Path.{_≡_, refl, sym, ap, _∙_, subst}
 use mathlib.Core.Bool.{Bool, true, false, _&&_}
 use mathlib.Core.List.{List}
 use Prim.Native.Nat.{ℕ, _≤_}
 use native.Mathlib.Omega.{arith}
 use lib.Dec.{ltb}
-use lib.ListN.{length}
 use borrow.Author.Tests.{ltb-false}
 use Rattle.logic.specs.declared.Move.{Move}
 use Rattle.logic.specs.Formula.{Plan}
-use Rattle.cells_walk.specs.inner.Visit.{CellsFit, TablesLong}
-use Rattle.call_open.specs.declared.Opened.{Opened}
-use Rattle.call_open.specs.inner.Opening.{OpenPlan}
 use Rattle.contracts.specs.Least.{NoneBelow}
 use Rattle.contracts.specs.ImproveCall.{rootNow, rootAfter, Candidate}
 use Rattle.move_best.specs.declared.Choice.{Choice}
-use Rattle.move_best.specs.inner.Choosing.{SearchReady, BestFound, FoundOr}
-
--- a plan whose tables are open can be searched
-pub search-ready : (bytes masks : List ℕ) (shortest : ℕ) (o : Opened) (firsts ends uses cells : List ℕ) → OpenPlan bytes masks shortest o firsts ends uses
-    → shortest ≤ length cells → CellsFit cells → TablesLong firsts ends uses → SearchReady (o .ports) (o .sets) bytes firsts ends uses masks cells
-search-ready bytes masks shortest o firsts ends uses cells opened l fit long = record {
-  plan = opened .plan;
-  decodes = opened .decodes;
-  ports-are = opened .ports-are;
-  sets-are = opened .sets-are;
-  indexed = opened .indexed;
-  long = long;
-  own-masks = opened .own-masks;
-  own-cells = omega (arith, opened .own-cells, l);
-  within = opened .within;
-  cells-fit = fit;
-}
+use Rattle.move_best.specs.inner.Choosing.{BestFound, FoundOr}
 
 module _ (P : Plan) (kinds : ℕ) (own before : List ℕ) (r : Choice) (h : FoundOr (r .found) (Candidate P kinds own) P own before r) where
   pub best-found : r .found ≡ true → BestFound (Candidate P kinds own) P own before r

@@ -36,8 +36,8 @@ module _ (ports sets : ℕ) (bytes firsts ends uses masks cells : List ℕ) (rea
   }
 
   module _ (work : List ℕ) (best : Choice) (at : Next) (S : Searching bytes masks cells kinds sets work best at) (t : at .found ≡ true) where
-    here-legal : legal (ready .plan) (inMasks (take (ownMasks (ready .plan)) masks)) (at .m) ≡ true
-    here-legal = S .sought (ready .plan) (ready .decodes) .here t .is-legal
+    here-legal : legal (ready .opened .plan) (inMasks (take (ownMasks (ready .opened .plan)) masks)) (at .m) ≡ true
+    here-legal = S .sought (ready .opened .plan) (ready .opened .decodes) .here t .is-legal
 
     pub search-tries : TryReady ports sets bytes firsts ends uses masks cells (at .m) work
     search-tries = record { room = record { ready = ready; work-long = S .work-long }; is-legal = here-legal }
@@ -58,10 +58,10 @@ module _ (ports sets : ℕ) (bytes firsts ends uses masks cells : List ℕ) (rea
     pub search-less : (next : Next) → GivesNext u n kinds masks (at .m) next → left (next .found) (place (next .m)) < left (at .found) (place (at .m))
     search-less next g =
         subst (λ (f : Bool). left (next .found) (place (next .m)) < left f (place (at .m))) (sym t)
-        (left-less (ready .plan) (sized-of bytes (ready .plan) (ready .decodes)) kinds (take (ownMasks (ready .plan)) masks) (take (ownCells (ready .plan)) cells)
+        (left-less (ready .opened .plan) (sized-of bytes (ready .opened .plan) (ready .opened .decodes)) kinds (take (ownMasks (ready .opened .plan)) masks) (take (ownCells (ready .opened .plan)) cells)
         (next .found) (at .m) (next .m)
-        (gives-here ports sets bytes firsts ends uses masks cells ready u n ports-is sets-is kinds (at .m) next g (ready .plan) (ready .decodes))
-        (candidate-high (ready .plan) (sized-of bytes (ready .plan) (ready .decodes)) (inMasks (take (ownMasks (ready .plan)) masks)) (at .m) here-legal))
+        (gives-here ports sets bytes firsts ends uses masks cells ready u n ports-is sets-is kinds (at .m) next g (ready .opened .plan) (ready .opened .decodes))
+        (candidate-high (ready .opened .plan) (sized-of bytes (ready .opened .plan) (ready .opened .decodes)) (inMasks (take (ownMasks (ready .opened .plan)) masks)) (at .m) here-legal))
 
 pub search-ends : (bytes masks cells : List ℕ) (kinds sets : ℕ) (work : List ℕ) (best : Choice) (at : Next) → Searching bytes masks cells kinds sets work best at
     → at .found ≡ false → Chooses bytes masks cells kinds best

@@ -3,14 +3,13 @@ use mathlib.Core.Path.{_≡_, sym, ap, _∙_, subst}
 use mathlib.Core.Bool.{true}
 use mathlib.Core.List.{List}
 use Prim.Native.Nat.{ℕ, _≤_, _<_}
-use native.Mathlib.Nat.{pow-zero}
 use native.Mathlib.Omega.{arith}
 use lib.ListN.{length, getD, take}
 use lib.Seq.{length-take-le, take-all}
 use Rattle.logic.specs.declared.Move.{Move}
-use Rattle.logic.specs.Formula.{Forest, Plan}
+use Rattle.logic.specs.Formula.{Plan}
 use Rattle.logic.specs.Configuration.{inMasks, ownMasks, spelled, allWithin}
-use Rattle.logic.specs.Cells.{cellCount, ownCells}
+use Rattle.logic.specs.Cells.{ownCells}
 use Rattle.logic.specs.Moves.{namedMasks, moveMasks, movePairs, known, fits, legal}
 use Rattle.logic.specs.Change.{pairsChange, newCells, differing}
 use Rattle.logic.proofs.Lists.{and-left, and-right}
@@ -24,7 +23,6 @@ use Rattle.cells_touch.specs.inner.Hits.{Says, Tells}
 use Rattle.cells_sum.specs.declared.After.{After}
 use Rattle.cells_walk.specs.inner.Visit.{MasksSettled}
 use Rattle.cells_walk.specs.inner.Root.{RootReady, RootGives}
-use Rattle.cells_walk.proofs.Rooting.{formula-is}
 use Rattle.contracts.specs.MoveCall.{cellsAfter}
 use Rattle.contracts.specs.ImproveCall.{rootNow, rootAfter}
 use Rattle.contracts.proofs.Within.{move-within, move-length}
@@ -38,11 +36,6 @@ use Rattle.move_best.specs.inner.Choosing.{SearchReady, NumbersAre, Give
 pub facts-of : (bytes : List ℕ) (P : Plan) → decode bytes ≡ sound P → PlanFacts P
 facts-of bytes P d = plan-facts P (decode-sound bytes P d .rules)
 
--- a plan has a cell, its root's
-pub root-cell : (bytes : List ℕ) (P : Plan) → decode bytes ≡ sound P → 0 < ownCells P
-unfolding ownCells cellCount
-root-cell bytes P d = omega (arith, ap (λ (g : Forest). cellCount (P .ports) g 0) (formula-is P bytes d), pow-zero (P .ports))
-
 pub sized-of : (bytes : List ℕ) (P : Plan) → decode bytes ≡ sound P → Sized (P .ports) (P .sets)
 sized-of bytes P d =
     let F = facts-of bytes P d in
@@ -50,51 +43,48 @@ sized-of bytes P d =
 
 module _ (ports sets : ℕ) (bytes firsts ends uses masks cells : List ℕ) (ready : SearchReady ports sets bytes firsts ends uses masks cells) where
   abbrev P : Plan
-  P = ready .plan
+  P = ready .opened .plan
 
   abbrev own : List ℕ
   own = take (ownMasks P) masks
 
   facts : PlanFacts P
-  facts = facts-of bytes P (ready .decodes)
+  facts = facts-of bytes P (ready .opened .decodes)
 
   sized : Sized (P .ports) (P .sets)
-  sized = sized-of bytes P (ready .decodes)
+  sized = sized-of bytes P (ready .opened .decodes)
 
   own-length : length own ≡ ownMasks P
-  own-length = length-take-le (ownMasks P) masks (ready .own-masks)
+  own-length = length-take-le (ownMasks P) masks (ready .opened .own-masks)
 
   pub ports-fit : ports ≤ 64
-  ports-fit = omega (arith, ready .ports-are, facts .ports64)
+  ports-fit = omega (arith, ready .opened .ports-are, facts .ports64)
 
   pub sets-fit : sets ≤ 16
-  sets-fit = omega (arith, ready .sets-are, facts .sets16)
+  sets-fit = omega (arith, ready .opened .sets-are, facts .sets16)
 
   pub sets-low : 1 ≤ sets
-  sets-low = omega (arith, ready .sets-are, facts .sets1)
+  sets-low = omega (arith, ready .opened .sets-are, facts .sets1)
 
   pub masks-long : sets ≤ length masks
   unfolding ownMasks
-  masks-long = omega (arith, ready .sets-are, ready .own-masks)
-
-  pub cells-some : 0 < length cells
-  cells-some = omega (arith, ready .own-cells, root-cell bytes P (ready .decodes))
+  masks-long = omega (arith, ready .opened .sets-are, ready .opened .own-masks)
 
   same-plan : (Q : Plan) → decode bytes ≡ sound Q → P ≡ Q
-  same-plan Q d = one-plan bytes P Q (decode-sound bytes P (ready .decodes)) (decode-sound bytes Q d)
+  same-plan Q d = one-plan bytes P Q (decode-sound bytes P (ready .opened .decodes)) (decode-sound bytes Q d)
 
   ports-of : (Q : Plan) → decode bytes ≡ sound Q → Q .ports ≡ ports
-  ports-of Q d = ap (λ (x : Plan). x .ports) (sym (same-plan Q d)) ∙ sym (ready .ports-are)
+  ports-of Q d = ap (λ (x : Plan). x .ports) (sym (same-plan Q d)) ∙ sym (ready .opened .ports-are)
 
   sets-of : (Q : Plan) → decode bytes ≡ sound Q → Q .sets ≡ sets
-  sets-of Q d = ap (λ (x : Plan). x .sets) (sym (same-plan Q d)) ∙ sym (ready .sets-are)
+  sets-of Q d = ap (λ (x : Plan). x .sets) (sym (same-plan Q d)) ∙ sym (ready .opened .sets-are)
 
   -- the enumerator's numbers of ports and sets
   module _ (u n : ℕ) (ports-is : u ≡ ports) (sets-is : n ≡ sets) where
     pub sized-over : SizedOver u n masks
     sized-over = record {
       sized = record {
-        ports-low = omega (arith, ports-is, ready .ports-are, facts .ports1);
+        ports-low = omega (arith, ports-is, ready .opened .ports-are, facts .ports1);
         ports-high = omega (arith, ports-is, ports-fit);
         sets-low = omega (arith, sets-is, sets-low);
         sets-high = omega (arith, sets-is, sets-fit);
@@ -111,8 +101,8 @@ module _ (ports sets : ℕ) (bytes firsts ends uses masks cells : List ℕ) (rea
 
     pub begins-over : (m : Move) → legal P (inMasks own) m ≡ true → BeginsOver u n m masks
     begins-over m h = record {
-      begins = subst (λ (j : ℕ). Begins j n m) (sym (ports-is ∙ ready .ports-are))
-          (subst (λ (j : ℕ). Begins (P .ports) j m) (sym (sets-is ∙ ready .sets-are)) (candidate-begins P sized (inMasks own) m h));
+      begins = subst (λ (j : ℕ). Begins j n m) (sym (ports-is ∙ ready .opened .ports-are))
+          (subst (λ (j : ℕ). Begins (P .ports) j m) (sym (sets-is ∙ ready .opened .sets-are)) (candidate-begins P sized (inMasks own) m h));
       masks-enough = omega (arith, sets-is, masks-long);
     }
 
@@ -122,12 +112,12 @@ module _ (ports sets : ℕ) (bytes firsts ends uses masks cells : List ℕ) (rea
         let l : length w ≡ sets = ap length e ∙ length-take-le sets masks masks-long in
         record {
           known-over = record {
-            fields = subst (λ (j : ℕ). Fields j n m) (sym (ports-is ∙ ready .ports-are))
-                (subst (λ (j : ℕ). Fields (P .ports) j m) (sym (sets-is ∙ ready .sets-are)) (known-fields P m (and-left (known P m) _ h)));
+            fields = subst (λ (j : ℕ). Fields j n m) (sym (ports-is ∙ ready .opened .ports-are))
+                (subst (λ (j : ℕ). Fields (P .ports) j m) (sym (sets-is ∙ ready .opened .sets-are)) (known-fields P m (and-left (known P m) _ h)));
             ports-high = omega (arith, ports-is, ports-fit);
             masks-enough = omega (arith, sets-is, l);
           };
-          fitting = ap (λ (ms : List ℕ). fits (inMasks ms) m) (take-all n w (omega (arith, sets-is, l)) ∙ e ∙ ap (λ (j : ℕ). take j masks) (ready .sets-are))
+          fitting = ap (λ (ms : List ℕ). fits (inMasks ms) m) (take-all n w (omega (arith, sets-is, l)) ∙ e ∙ ap (λ (j : ℕ). take j masks) (ready .opened .sets-are))
               ∙ and-right (known P m) _ h;
         }
 
@@ -147,36 +137,36 @@ module _ (ports sets : ℕ) (bytes firsts ends uses masks cells : List ℕ) (rea
     unfolding ownMasks
     masks-ready after e =
         let l : length after ≡ P .sets = ap length e ∙ move-length P m own ∙ own-length in
-        let w : allWithin (P .ports) after ≡ true = ap (allWithin (P .ports)) e ∙ move-within P m own h (omega (arith, own-length)) (ready .within) in
+        let w : allWithin (P .ports) after ≡ true = ap (allWithin (P .ports)) e ∙ move-within P m own h (omega (arith, own-length)) (ready .opened .within) in
         record {
-          ports1 = omega (arith, ready .ports-are, facts .ports1);
+          ports1 = omega (arith, ready .opened .ports-are, facts .ports1);
           ports64 = ports-fit;
           sets16 = sets-fit;
-          masks-long = omega (arith, ready .sets-are, l);
-          within = λ S q. rw (ready .ports-are) (within-at (P .ports) after w S (omega (arith, ready .sets-are, l)));
+          masks-long = omega (arith, ready .opened .sets-are, l);
+          within = λ S q. rw (ready .opened .ports-are) (within-at (P .ports) after w S (omega (arith, ready .opened .sets-are, l)));
         }
 
     -- what the code tells of the move's change
     told : (c : Changed) → Tells m c → Says ports (pairsChange (movePairs P (inMasks own) m)) c
     unfolding Tells
     told c tells =
-        subst (λ (j : ℕ). Says j (pairsChange (movePairs P (inMasks own) m)) c) (sym (ready .ports-are)) (tells P (inMasks own) (facts .sets16) is-known)
+        subst (λ (j : ℕ). Says j (pairsChange (movePairs P (inMasks own) m)) c) (sym (ready .opened .ports-are)) (tells P (inMasks own) (facts .sets16) is-known)
 
     pub try-ready : (c : Changed) → Tells m c → (after : List ℕ) → after ≡ namedMasks m (take sets masks)
         → RootReady ports sets c bytes firsts ends uses after cells
     unfolding ownMasks moveMasks
     try-ready c tells after e = record {
       plan = P;
-      decodes = ready .decodes;
-      ports-are = ready .ports-are;
-      sets-are = ready .sets-are;
-      indexed = ready .indexed;
+      decodes = ready .opened .decodes;
+      ports-are = ready .opened .ports-are;
+      sets-are = ready .opened .sets-are;
+      indexed = ready .opened .indexed;
       long = ready .long;
       change = pairsChange (movePairs P (inMasks own) m);
       says = told c tells;
-      masks-settled = masks-ready after (e ∙ ap (λ (j : ℕ). namedMasks m (take j masks)) (ready .sets-are));
+      masks-settled = masks-ready after (e ∙ ap (λ (j : ℕ). namedMasks m (take j masks)) (ready .opened .sets-are));
       cells-fit = ready .cells-fit;
-      own-cells = ready .own-cells;
+      own-cells = ready .opened .own-cells;
     }
 
     -- the walk's three numbers are those of the move
@@ -184,8 +174,8 @@ module _ (ports sets : ℕ) (bytes firsts ends uses masks cells : List ℕ) (rea
         → RootGives ports c bytes after cells r → NumbersAre P own (take (ownCells P) cells) m r
     unfolding ownMasks moveMasks RootGives rootNow rootAfter cellsAfter
     numbers-here c tells after e r gives =
-        let g = gives P (pairsChange (movePairs P (inMasks own) m)) (ready .decodes) (told c tells) in
-        let q = e ∙ ap (λ (j : ℕ). namedMasks m (take j masks)) (ready .sets-are) in
+        let g = gives P (pairsChange (movePairs P (inMasks own) m)) (ready .opened .decodes) (told c tells) in
+        let q = e ∙ ap (λ (j : ℕ). namedMasks m (take j masks)) (ready .opened .sets-are) in
         record {
           before-is = g .old-is;
           after-is = g .new-is ∙ ap (λ (ms : List ℕ). getD (newCells P (spelled P ms) (pairsChange (movePairs P (inMasks own) m)) (take (ownCells P) cells)) 0 0) q;

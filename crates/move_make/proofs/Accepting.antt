@@ -25,7 +25,6 @@ use Rattle.cells_sum.specs.declared.After.{After}
 use Rattle.cells_walk.specs.inner.Visit.{MasksSettled, CellsFit, TablesLong}
 use Rattle.cells_walk.specs.inner.Root.{RootReady, RootGives}
 use Rattle.cells_write.specs.inner.Writing.{RootWrites}
-use Rattle.call_open.specs.declared.Opened.{Opened}
 use Rattle.call_open.specs.inner.Opening.{openNumber, OpenPlan}
 use Rattle.move_legal.specs.inner.Legal.{tEnd, Fields, LegalOver, MoveNumber, MoveReady}
 use Rattle.move_legal.proofs.Known.{known-fields}
@@ -39,7 +38,7 @@ use Rattle.move_make.specs.inner.Judged.{Carried, Carries}
 use Rattle.move_make.proofs.Answering.{moveWhole, move-opened}
 
 -- a plan whose tables are open, and a move to which neither 14 nor 15 applies
-module _ (bytes masks : List ℕ) (shortest : ℕ) (o : Opened) (firsts ends uses : List ℕ) (opened : OpenPlan bytes masks shortest o firsts ends uses) where
+module _ {ports sets : ℕ} {bytes masks : List ℕ} {shortest : ℕ} {firsts ends uses : List ℕ} (opened : OpenPlan ports sets bytes masks shortest firsts ends uses) where
   abbrev P : Plan
   P = opened .plan
 
@@ -61,7 +60,7 @@ module _ (bytes masks : List ℕ) (shortest : ℕ) (o : Opened) (firsts ends use
     is-known = and-left (known P m) _ is-legal
 
     -- the masks after the move, as the walk is lent them
-    pub masks-ready : (after : List ℕ) → after ≡ moveMasks P m own → MasksSettled (o .ports) (o .sets) after
+    pub masks-ready : (after : List ℕ) → after ≡ moveMasks P m own → MasksSettled ports sets after
     unfolding ownMasks
     masks-ready after h =
         let l : length after ≡ P .sets = ap length h ∙ move-length P m own ∙ own-length in
@@ -76,13 +75,13 @@ module _ (bytes masks : List ℕ) (shortest : ℕ) (o : Opened) (firsts ends use
         }
 
     -- what the code tells of the move's change
-    told : (c : Changed) → Tells m c → Says (o .ports) (pairsChange (movePairs P (inMasks own) m)) c
+    told : (c : Changed) → Tells m c → Says ports (pairsChange (movePairs P (inMasks own) m)) c
     unfolding Tells
     told c tells =
         subst (λ (j : ℕ). Says j (pairsChange (movePairs P (inMasks own) m)) c) (sym (opened .ports-are)) (tells P (inMasks own) (plan-fits .sets16) is-known)
 
     pub root-ready : (c : Changed) → Tells m c → (after cells : List ℕ) → after ≡ moveMasks P m own → CellsFit cells → shortest ≤ length cells → TablesLong firsts ends uses
-        → RootReady (o .ports) (o .sets) c bytes firsts ends uses after cells
+        → RootReady ports sets c bytes firsts ends uses after cells
     root-ready c tells after cells h fit l long = record {
       plan = P;
       decodes = opened .decodes;
@@ -99,7 +98,7 @@ module _ (bytes masks : List ℕ) (shortest : ℕ) (o : Opened) (firsts ends use
 
     -- what the walk gives is the answer
     module _ (c : Changed) (tells : Tells m c) (after cells : List ℕ) (h : after ≡ moveMasks P m own) where
-      pub answer-is : (r : After) → RootGives (o .ports) c bytes after cells r
+      pub answer-is : (r : After) → RootGives ports c bytes after cells r
           → Accepted (r .old) (r .value) (r .changed) ≡ moveAnswer P m own (take (ownCells P) cells)
       unfolding RootGives moveAnswer cellsAfter
       answer-is r gives =
@@ -108,14 +107,14 @@ module _ (bytes masks : List ℕ) (shortest : ℕ) (o : Opened) (firsts ends use
           ∙ ap (λ (ms : List ℕ). Accepted (getD (take (ownCells P) cells) 0 0) (getD (newCells P (spelled P ms) (pairsChange (movePairs P (inMasks own) m)) (take (ownCells P) cells)) 0 0)
           (differing (take (ownCells P) cells) (newCells P (spelled P ms) (pairsChange (movePairs P (inMasks own) m)) (take (ownCells P) cells)))) h
 
-      pub cells-are : (new : List ℕ) → RootWrites (o .ports) c bytes after cells new → new ≡ cellsAfter P m own (take (ownCells P) cells) ++ drop (ownCells P) cells
+      pub cells-are : (new : List ℕ) → RootWrites ports c bytes after cells new → new ≡ cellsAfter P m own (take (ownCells P) cells) ++ drop (ownCells P) cells
       unfolding RootWrites cellsAfter
       cells-are new writes =
           writes P (pairsChange (movePairs P (inMasks own) m)) (opened .decodes) (told c tells)
           ∙ ap (λ (ms : List ℕ). newCells P (spelled P ms) (pairsChange (movePairs P (inMasks own) m)) (take (ownCells P) cells) ++ drop (ownCells P) cells) h
 
 -- what the functions ask in between
-module _ (bytes masks : List ℕ) (shortest : ℕ) (o : Opened) (firsts ends uses : List ℕ) (opened : OpenPlan bytes masks shortest o firsts ends uses) where
+module _ {ports sets : ℕ} {bytes masks : List ℕ} {shortest : ℕ} {firsts ends uses : List ℕ} (opened : OpenPlan ports sets bytes masks shortest firsts ends uses) where
   abbrev Q : Plan
   Q = opened .plan
 
@@ -123,9 +122,9 @@ module _ (bytes masks : List ℕ) (shortest : ℕ) (o : Opened) (firsts ends use
   mine = take (ownMasks Q) masks
 
   abbrev facts : PlanFacts Q
-  facts = plan-fits bytes masks shortest o firsts ends uses opened
+  facts = plan-fits opened
 
-  pub move-ready : MoveReady (o .ports) (o .sets) masks
+  pub move-ready : MoveReady ports sets masks
   unfolding ownMasks
   move-ready = record {
     ports64 = omega (arith, opened .ports-are, facts .ports64);
@@ -133,11 +132,11 @@ module _ (bytes masks : List ℕ) (shortest : ℕ) (o : Opened) (firsts ends use
     own-masks = omega (arith, opened .sets-are, opened .own-masks);
   }
 
-  mine-is : take (o .sets) masks ≡ mine
+  mine-is : take sets masks ≡ mine
   unfolding ownMasks
   mine-is = ap (λ (j : ℕ). take j masks) (opened .sets-are)
 
-  module _ (m : Move) (n : ℕ) (number : MoveNumber (o .ports) (o .sets) m masks n) where
+  module _ (m : Move) (n : ℕ) (number : MoveNumber ports sets m masks n) where
     pub number-is : n ≡ refusal (moveGrounds Q (inMasks mine) m)
     unfolding MoveNumber
     number-is = number Q (sym (opened .ports-are)) (sym (opened .sets-are)) ∙ ap (λ (xs : List ℕ). refusal (moveGrounds Q (inMasks xs) m)) mine-is
@@ -147,17 +146,17 @@ module _ (bytes masks : List ℕ) (shortest : ℕ) (o : Opened) (firsts ends use
 
   module _ (m : Move) (none : refusal (moveGrounds Q (inMasks mine) m) ≡ 0) where
     abbrev legal-here : legal Q (inMasks mine) m ≡ true
-    legal-here = is-legal bytes masks shortest o firsts ends uses opened m none
+    legal-here = is-legal opened m none
 
     abbrev fields : Fields (Q .ports) (Q .sets) m
-    fields = known-fields Q m (is-known bytes masks shortest o firsts ends uses opened m none)
+    fields = known-fields Q m (is-known opened m none)
 
     -- the masks that the move changes
-    pub legal-over : (u k j : ℕ) → u ≡ o .ports → k ≡ o .sets → (xs : List ℕ) → xs ≡ take (o .sets) masks → LegalOver u k m xs
+    pub legal-over : (u k j : ℕ) → u ≡ ports → k ≡ sets → (xs : List ℕ) → xs ≡ take sets masks → LegalOver u k m xs
     unfolding legal ownMasks
     legal-over u k j eu ek xs h =
         let f : Fields u k m = rw (eu ∙ opened .ports-are, ek ∙ opened .sets-are) fields in
-        let l : length xs ≡ o .sets = ap length h ∙ length-take-le (o .sets) masks (omega (arith, opened .sets-are, opened .own-masks)) in
+        let l : length xs ≡ sets = ap length h ∙ length-take-le sets masks (omega (arith, opened .sets-are, opened .own-masks)) in
         record {
           known-over = record {
             fields = f;
@@ -176,42 +175,28 @@ module _ (bytes masks : List ℕ) (shortest : ℕ) (o : Opened) (firsts ends use
         below false h = omega arith
 
     -- the part of the masks that comes back
-    pub back-length : (ys : List ℕ) (j : ℕ) → j ≡ o .sets → ys ≡ namedMasks m (take j masks) → length ys ≡ o .sets
+    pub back-length : (ys : List ℕ) (j : ℕ) → j ≡ sets → ys ≡ namedMasks m (take j masks) → length ys ≡ sets
     unfolding ownMasks
     back-length ys j ej h =
         ap length h ∙ named-length m (take j masks) ∙ ap (λ (x : ℕ). length (take x masks)) ej
-        ∙ length-take-le (o .sets) masks (omega (arith, opened .sets-are, opened .own-masks))
+        ∙ length-take-le sets masks (omega (arith, opened .sets-are, opened .own-masks))
 
-    pub back-fits : (ys rest : List ℕ) (j : ℕ) → j ≡ o .sets → ys ≡ namedMasks m (take j masks) → o .sets ≤ length (ys ++ rest)
+    pub back-fits : (ys rest : List ℕ) (j : ℕ) → j ≡ sets → ys ≡ namedMasks m (take j masks) → sets ≤ length (ys ++ rest)
     back-fits ys rest j ej h = rw (length-append ys rest) (omega (arith, back-length ys j ej h))
 
     -- as it is lent again
-    pub lent-again : (ys rest : List ℕ) (j : ℕ) → j ≡ o .sets → ys ≡ namedMasks m (take j masks) → take j (ys ++ rest) ≡ moveMasks Q m mine
+    pub lent-again : (ys rest : List ℕ) (j : ℕ) → j ≡ sets → ys ≡ namedMasks m (take j masks) → take j (ys ++ rest) ≡ moveMasks Q m mine
     unfolding moveMasks
     lent-again ys rest j ej h =
         take-at ys rest j (back-length ys j ej h ∙ sym ej) ∙ h ∙ ap (λ (x : ℕ). namedMasks m (take x masks)) ej ∙ ap (namedMasks m) mine-is
 
-    pub back-is : (ys : List ℕ) (j : ℕ) → j ≡ o .sets → ys ≡ namedMasks m (take j masks) → ys ≡ moveMasks Q m mine
+    pub back-is : (ys : List ℕ) (j : ℕ) → j ≡ sets → ys ≡ namedMasks m (take j masks) → ys ≡ moveMasks Q m mine
     unfolding moveMasks
     back-is ys j ej h = h ∙ ap (λ (x : ℕ). namedMasks m (take x masks)) ej ∙ ap (namedMasks m) mine-is
 
-    pub past-is : (j : ℕ) → j ≡ o .sets → drop j masks ≡ drop (ownMasks Q) masks
+    pub past-is : (j : ℕ) → j ≡ sets → drop j masks ≡ drop (ownMasks Q) masks
     unfolding ownMasks
     past-is j ej = ap (λ (x : ℕ). drop x masks) (ej ∙ opened .sets-are)
-
--- the same under other names for ports and sets
-unfoldable pub reopen : (bytes masks : List ℕ) (shortest : ℕ) (o : Opened) (firsts ends uses : List ℕ) → OpenPlan bytes masks shortest o firsts ends uses
-    → OpenPlan bytes masks shortest record { number = 0; ports = o .ports; sets = o .sets } firsts ends uses
-reopen bytes masks shortest o firsts ends uses opened = record {
-  plan = opened .plan;
-  decodes = opened .decodes;
-  ports-are = opened .ports-are;
-  sets-are = opened .sets-are;
-  indexed = opened .indexed;
-  own-masks = opened .own-masks;
-  own-cells = opened .own-cells;
-  within = opened .within;
-}
 
 -- a move that is carried out
 pub carried : (bytes masks cells : List ℕ) (P : Plan) → decode bytes ≡ sound P → (m : Move) (r : After) (new ys rest : List ℕ)

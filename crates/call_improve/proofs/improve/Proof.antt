@@ -4,10 +4,8 @@ use borrow.Author.Tests.{not-true, not-false}
 use Rattle.logic.specs.Change.{modulus}
 use Rattle.cells_walk.specs.inner.Visit.{CellsFit}
 use Rattle.move_best.specs.inner.Choosing.{Chooses}
-use Rattle.move_best.proofs.Trying.{root-cell}
-use Rattle.move_best.proofs.Answering.{search-ready}
+use Rattle.call_open.proofs.Opening.{open-longer, root-cell}
 use Rattle.move_make.specs.inner.Judged.{Carries}
-use Rattle.move_make.proofs.Accepting.{reopen}
 use Rattle.contracts.proofs.Scratch.{scratch-kept}
 use Rattle.call_improve.proofs.Improving.{improve-shut, improve-unknown, improve-none, chosen-free, improve-made, root-now}
 use borrow.Author.Needs.{needs}
@@ -59,7 +57,7 @@ slice-aggregate-choose-3 c = search needs
 choose-requires : tie.Need-choose-requires
 unfolding CellsFit modulus
 choose-requires c κs =
-    search-ready _ _ _ _ _ _ _ _ (c .before .before .before .before .before .before .before .before .before .before .before .before .open-tables .ensures .opens (c .before .before .before .before .before .before .before .if1 .left)) (omega (arith, c .before .before .before .before .before .before .before .before .before .before .before .before .before .before .before .before .before .lesser .ensures)) (λ j. omega (arith, c .before .before .before .before .before .before .before .before .before .before .before .before .before .before .before .before .before .before .before .slice-known2 .given j)) record { firsts-long = omega (arith, c .before .before .before .before .before .before .before .before .before .before .before .before .open-tables .kept .1 .1 .1 .0); ends-long = omega (arith, c .before .before .before .before .before .before .before .before .before .before .before .before .open-tables .kept .1 .1 .1 .1 .0); uses-long = omega (arith, c .before .before .before .before .before .before .before .before .before .before .before .before .open-tables .kept .1 .1 .1 .1 .1 .0) }
+    record { opened = open-longer _ _ _ _ _ _ _ _ _ (c .before .before .before .before .before .before .before .before .before .before .before .before .open-tables .ensures .opens (c .before .before .before .before .before .before .before .if1 .left)) (omega (arith, c .before .before .before .before .before .before .before .before .before .before .before .before .before .before .before .before .before .lesser .ensures)); long = record { firsts-long = omega (arith, c .before .before .before .before .before .before .before .before .before .before .before .before .open-tables .kept .1 .1 .1 .0); ends-long = omega (arith, c .before .before .before .before .before .before .before .before .before .before .before .before .open-tables .kept .1 .1 .1 .1 .0); uses-long = omega (arith, c .before .before .before .before .before .before .before .before .before .before .before .before .open-tables .kept .1 .1 .1 .1 .1 .0) }; cells-fit = (λ j. omega (arith, c .before .before .before .before .before .before .before .before .before .before .before .before .before .before .before .before .before .before .before .slice-known2 .given j)) }
 
 slice-read-root : tie.Need-slice-read-root
 slice-read-root c =
@@ -91,12 +89,12 @@ slice-aggregate-carry-3 : tie.Need-slice-aggregate-carry-3
 slice-aggregate-carry-3 c = search needs
 
 carry-requires : tie.Need-carry-requires
-unfolding CellsFit modulus reopen Chooses
+unfolding CellsFit modulus Chooses
 carry-requires c κs =
     let o = c .before .before .before .before .before .before .before .before .before .before .before .before .before .before .before .before .before .before .before .before .before .open-tables .ensures .opens (c .before .before .before .before .before .before .before .before .before .before .before .before .before .before .before .before .if1 .left) in
     record {
       shortest = _;
-      opened = reopen _ _ _ _ _ _ _ o;
+      opened = o;
       room = omega (arith, c .before .before .before .before .before .before .before .before .before .before .before .before .before .before .before .before .before .before .before .before .before .before .before .before .before .before .lesser .ensures);
       fit = (λ j. omega (arith, c .before .before .before .before .before .before .before .before .before .before .before .before .before .before .before .before .before .before .before .before .before .before .before .before .before .before .before .before .slice-known2 .given j));
       long = record { firsts-long = omega (arith, c .before .before .before .before .before .before .before .before .before .before .before .before .before .before .before .before .before .before .before .before .before .open-tables .kept .1 .1 .1 .0); ends-long = omega (arith, c .before .before .before .before .before .before .before .before .before .before .before .before .before .before .before .before .before .before .before .before .before .open-tables .kept .1 .1 .1 .1 .0); uses-long = omega (arith, c .before .before .before .before .before .before .before .before .before .before .before .before .before .before .before .before .before .before .before .before .before .open-tables .kept .1 .1 .1 .1 .1 .0) };

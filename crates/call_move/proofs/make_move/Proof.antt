@@ -4,7 +4,7 @@ use borrow.Author.Needs.{needs}
 use Rattle.logic.specs.Change.{modulus}
 use Rattle.cells_walk.specs.inner.Visit.{CellsFit}
 use Rattle.move_make.proofs.Answering.{move-shut, move-barred}
-use Rattle.move_make.proofs.Accepting.{move-ready, number-is, free, move-made, reopen}
+use Rattle.move_make.proofs.Accepting.{move-ready, number-is, free, move-made}
 use Rattle.call_move.proofs.make_move.Statement.{statement}
 use Rattle.call_move.proofs.make_move.Tie as tie
 
@@ -29,7 +29,7 @@ returns c =
 
 move-number-requires : tie.Need-move-number-requires
 move-number-requires c κs =
-    move-ready _ _ _ _ _ _ _ (c .before .before .before .before .before .before .open-tables .ensures .opens (c .before .if1 .left))
+    move-ready (c .before .before .before .before .before .before .open-tables .ensures .opens (c .before .if1 .left))
 
 same-length-2 : tie.Need-same-length-2
 same-length-2 c = search needs
@@ -37,7 +37,7 @@ same-length-2 c = search needs
 returns-2 : tie.Need-returns-2
 returns-2 c =
     let o = c .before .before .before .before .before .before .before .before .open-tables .ensures .opens (c .before .before .before .if1 .left) in
-    move-barred _ (o .plan) (o .decodes) _ _ _ _ (c .if2 .taken) (sym (c .before .before .before .before .before .before .before .before .open-tables .ensures .number-is) ∙ c .before .before .before .if1 .left) (number-is _ _ _ _ _ _ _ o _ _ (c .before .move-number .ensures))
+    move-barred _ (o .plan) (o .decodes) _ _ _ _ (c .if2 .taken) (sym (c .before .before .before .before .before .before .before .before .open-tables .ensures .number-is) ∙ c .before .before .before .if1 .left) (number-is o _ _ (c .before .move-number .ensures))
 
 slice-aggregate-carry : tie.Need-slice-aggregate-carry
 slice-aggregate-carry c = search needs
@@ -49,9 +49,9 @@ slice-aggregate-carry-3 : tie.Need-slice-aggregate-carry-3
 slice-aggregate-carry-3 c = search needs
 
 carry-requires : tie.Need-carry-requires
-unfolding CellsFit modulus reopen
+unfolding CellsFit modulus
 carry-requires c κs =
-    record { shortest = _; opened = reopen _ _ _ _ _ _ _ (c .before .before .before .before .before .before .before .before .before .before .before .before .before .open-tables .ensures .opens (c .before .before .before .before .before .before .before .before .if1 .left)); room = omega arith; fit = λ j. omega (arith, c .before .before .before .before .before .before .before .before .before .before .before .before .before .before .before .before .before .before .slice-known2 .given j); long = record { firsts-long = omega (arith, c .before .before .before .before .before .before .before .before .before .before .before .before .before .open-tables .kept .1 .1 .1 .0); ends-long = omega (arith, c .before .before .before .before .before .before .before .before .before .before .before .before .before .open-tables .kept .1 .1 .1 .1 .0); uses-long = omega (arith, c .before .before .before .before .before .before .before .before .before .before .before .before .before .open-tables .kept .1 .1 .1 .1 .1 .0) }; free = (free _ _ _ _ _ _ _ (c .before .before .before .before .before .before .before .before .before .before .before .before .before .open-tables .ensures .opens (c .before .before .before .before .before .before .before .before .if1 .left)) _ _ (c .before .before .before .before .before .before .move-number .ensures) (c .before .before .before .before .before .if2 .left)) }
+    record { shortest = _; opened = (c .before .before .before .before .before .before .before .before .before .before .before .before .before .open-tables .ensures .opens (c .before .before .before .before .before .before .before .before .if1 .left)); room = omega arith; fit = λ j. omega (arith, c .before .before .before .before .before .before .before .before .before .before .before .before .before .before .before .before .before .before .slice-known2 .given j); long = record { firsts-long = omega (arith, c .before .before .before .before .before .before .before .before .before .before .before .before .before .open-tables .kept .1 .1 .1 .0); ends-long = omega (arith, c .before .before .before .before .before .before .before .before .before .before .before .before .before .open-tables .kept .1 .1 .1 .1 .0); uses-long = omega (arith, c .before .before .before .before .before .before .before .before .before .before .before .before .before .open-tables .kept .1 .1 .1 .1 .1 .0) }; free = (free (c .before .before .before .before .before .before .before .before .before .before .before .before .before .open-tables .ensures .opens (c .before .before .before .before .before .before .before .before .if1 .left)) _ _ (c .before .before .before .before .before .before .move-number .ensures) (c .before .before .before .before .before .if2 .left)) }
 
 accepted-requires : tie.Need-accepted-requires
 accepted-requires c κs = search needs
@@ -65,7 +65,7 @@ same-length-4 c = search needs
 returns-3 : tie.Need-returns-3
 returns-3 c =
     let o = c .before .before .before .before .before .before .before .before .before .before .before .before .before .before .before .before .before .before .before .open-tables .ensures .opens (c .before .before .before .before .before .before .before .before .before .before .before .before .before .before .if1 .left) in
-    rw (c .accepted .ensures) (move-made _ _ _ (o .plan) (o .decodes) _ _ _ _ (free _ _ _ _ _ _ _ (c .before .before .before .before .before .before .before .before .before .before .before .before .before .before .before .before .before .before .before .open-tables .ensures .opens (c .before .before .before .before .before .before .before .before .before .before .before .before .before .before .if1 .left)) _ _ (c .before .before .before .before .before .before .before .before .before .before .before .before .move-number .ensures) (c .before .before .before .before .before .before .before .before .before .before .before .if2 .left)) (sym (c .before .before .before .before .before .before .before .before .before .before .before .before .before .before .before .before .before .before .before .open-tables .ensures .number-is) ∙ c .before .before .before .before .before .before .before .before .before .before .before .before .before .before .if1 .left) (c .before .before .before .before .before .carry .ensures))
+    rw (c .accepted .ensures) (move-made _ _ _ (o .plan) (o .decodes) _ _ _ _ (free (c .before .before .before .before .before .before .before .before .before .before .before .before .before .before .before .before .before .before .before .open-tables .ensures .opens (c .before .before .before .before .before .before .before .before .before .before .before .before .before .before .if1 .left)) _ _ (c .before .before .before .before .before .before .before .before .before .before .before .before .move-number .ensures) (c .before .before .before .before .before .before .before .before .before .before .before .if2 .left)) (sym (c .before .before .before .before .before .before .before .before .before .before .before .before .before .before .before .before .before .before .before .open-tables .ensures .number-is) ∙ c .before .before .before .before .before .before .before .before .before .before .before .before .before .before .if1 .left) (c .before .before .before .before .before .carry .ensures))
 
 pub make-move-spec : {M : Type 1} → statement M
 make-move-spec =

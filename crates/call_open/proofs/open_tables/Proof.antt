@@ -103,7 +103,7 @@ returns-5 : tie.Need-returns-5
 unfolding ownMasks
 returns-5 c =
     let a = c .before .before .before .before .before .before .before .before .before .before .before .before .before .before .check .ensures .accepts (not-false _ (c .before .before .before .before .before .before .if1 .left)) in
-    opens-all _ _ _ _ _ _ _ (a .0) (a .1) (omega (arith, a .2 .sets-are, c .before .before .before .before .if2 .left)) (omega (arith, a .2 .cells-are, c .before .before .if3 .left)) refl (a .2 .ports-are) (a .2 .sets-are)
+    opens-all _ _ _ _ _ _ _ (a .0) (a .1) (omega (arith, a .2 .sets-are, c .before .before .before .before .if2 .left)) (omega (arith, a .2 .cells-are, c .before .before .if3 .left)) refl (a .2 .ports-are) (a .2 .sets-are) (a .2 .nodes-are) (a .2 .cells-are)
     record { firsts₀ = _; ends₀ = _; uses₀ = _; firsts-are = a .2 .firsts-are; ends-are = a .2 .ends-are; uses-are = a .2 .uses-are }
     (ap₂ (λ (u n : ℕ). allWithin u (take n (c .before .before .before .before .before .before .before .before .before .before .before .before .before .before .before .before .before .before .before .before .before .before .before .args .masks .now))) (sym (a .2 .ports-are)) (sym (a .2 .sets-are)) ∙ sym (c .before .masks-ok .ensures) ∙ not-false _ (c .if4 .left))
 

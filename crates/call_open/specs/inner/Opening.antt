@@ -5,7 +5,7 @@ use mathlib.Core.List.{List, [], _∷_}
 use Prim.Native.Nat.{ℕ, _≤_}
 use lib.Dec.{ltb}
 use lib.ListN.{length, take}
-use Rattle.logic.specs.Formula.{Plan}
+use Rattle.logic.specs.Formula.{Plan, nodeCount}
 use Rattle.logic.specs.Configuration.{ownMasks, allWithin}
 use Rattle.logic.specs.Cells.{ownCells}
 use Rattle.logic.specs.Moves.{Ground, refusal}
@@ -22,12 +22,13 @@ unfoldable pub openNumber : Decoded → List ℕ → ℕ → ℕ
 openNumber broken masks shortest = 11
 openNumber (sound P) masks shortest = refusal (openGrounds P (take (ownMasks P) masks) (length masks) shortest)
 
--- What is known of the tables where none of the three applies.
-pub record OpenPlan (bytes masks : List ℕ) (shortest : ℕ) (r : Opened) (firsts ends uses : List ℕ) : Type 0 where
+-- What 11 to 13 leave: the plan of a table, its numbers of ports and sets, its index tables, its own masks, and room for its cells in
+-- the shortest cell table.
+pub record OpenPlan (ports sets : ℕ) (bytes masks : List ℕ) (shortest : ℕ) (firsts ends uses : List ℕ) : Type 0 where
   pub plan : Plan
   pub decodes : decode bytes ≡ sound plan
-  pub ports-are : r .ports ≡ plan .ports
-  pub sets-are : r .sets ≡ plan .sets
+  pub ports-are : ports ≡ plan .ports
+  pub sets-are : sets ≡ plan .sets
   pub indexed : Indexed plan firsts ends uses
   pub own-masks : ownMasks plan ≤ length masks
   pub own-cells : ownCells plan ≤ shortest
@@ -35,4 +36,6 @@ pub record OpenPlan (bytes masks : List ℕ) (shortest : ℕ) (r : Opened) (firs
 
 pub record Opens (bytes masks : List ℕ) (shortest : ℕ) (r : Opened) (firsts ends uses : List ℕ) : Type 0 where
   pub number-is : r .number ≡ openNumber (decode bytes) masks shortest
-  pub opens : r .number ≡ 0 → OpenPlan bytes masks shortest r firsts ends uses
+  pub opens : r .number ≡ 0 → OpenPlan (r .ports) (r .sets) bytes masks shortest firsts ends uses
+  pub nodes-are : r .number ≡ 0 → (P : Plan) → decode bytes ≡ sound P → r .nodes ≡ nodeCount (P .formula)
+  pub cells-are : r .number ≡ 0 → (P : Plan) → decode bytes ≡ sound P → r .cells ≡ ownCells P

@@ -2,17 +2,17 @@
 use mathlib.Core.Path.{_≡_}
 use mathlib.Core.Bool.{Bool, true, false}
 use mathlib.Core.List.{List}
-use Prim.Native.Nat.{ℕ, _≤_, _<_}
+use Prim.Native.Nat.{ℕ, _<_}
 use lib.ListN.{length, take}
 use Rattle.logic.specs.declared.Move.{Move}
 use Rattle.logic.specs.Formula.{Plan}
-use Rattle.logic.specs.Configuration.{inMasks, ownMasks, allWithin}
+use Rattle.logic.specs.Configuration.{inMasks, ownMasks}
 use Rattle.logic.specs.Cells.{ownCells}
 use Rattle.logic.specs.Moves.{legal}
 use Rattle.logic.specs.Change.{differing}
 use Rattle.table_format.specs.Decode.{sound, decode}
 use Rattle.cells_walk.specs.inner.Visit.{CellsFit, TablesLong}
-use Rattle.cells_walk.specs.inner.Root.{Indexed}
+use Rattle.call_open.specs.inner.Opening.{OpenPlan}
 use Rattle.cells_sum.specs.declared.After.{After}
 use Rattle.contracts.specs.Least.{NoneBelow}
 use Rattle.contracts.specs.MoveCall.{cellsAfter}
@@ -20,17 +20,10 @@ use Rattle.contracts.specs.ImproveCall.{rootNow, rootAfter, Candidate}
 use Rattle.move_order.specs.inner.Stepping.{place}
 use Rattle.move_best.specs.declared.Choice.{Choice}
 
--- Tables to which none of 11 to 13 applies, as trial's opening leaves them.
+-- Tables that are open, index tables that are long enough and cells of 32 bits: what a walk over them asks.
 pub record SearchReady (ports sets : ℕ) (bytes firsts ends uses masks cells : List ℕ) : Type 0 where
-  pub plan : Plan
-  pub decodes : decode bytes ≡ sound plan
-  pub ports-are : ports ≡ plan .ports
-  pub sets-are : sets ≡ plan .sets
-  pub indexed : Indexed plan firsts ends uses
+  pub opened : OpenPlan ports sets bytes masks (length cells) firsts ends uses
   pub long : TablesLong firsts ends uses
-  pub own-masks : ownMasks plan ≤ length masks
-  pub own-cells : ownCells plan ≤ length cells
-  pub within : allWithin (plan .ports) (take (ownMasks plan) masks) ≡ true
   pub cells-fit : CellsFit cells
 
 -- The same with room for the masks after a move.
@@ -41,7 +34,7 @@ pub record SearchRoom (ports sets : ℕ) (bytes firsts ends uses masks cells wor
 -- And a legal move to try.
 pub record TryReady (ports sets : ℕ) (bytes firsts ends uses masks cells : List ℕ) (m : Move) (work : List ℕ) : Type 0 where
   pub room : SearchRoom ports sets bytes firsts ends uses masks cells work
-  pub is-legal : legal (room .ready .plan) (inMasks (take (ownMasks (room .ready .plan)) masks)) m ≡ true
+  pub is-legal : legal (room .ready .opened .plan) (inMasks (take (ownMasks (room .ready .opened .plan)) masks)) m ≡ true
 
 -- "root before, root after, and how many cells differ from before": the three numbers that the move call would answer.
 pub record NumbersAre (P : Plan) (own before : List ℕ) (m : Move) (a : After) : Type 0 where

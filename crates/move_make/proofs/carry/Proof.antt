@@ -10,11 +10,11 @@ use Rattle.move_make.proofs.carry.Tie as tie
 
 narrow-requires : tie.Need-narrow-requires
 narrow-requires c κs =
-    move-ready _ _ _ _ _ _ _ (c .before .before .before .before .before .before .pre .opened) .ports64
+    move-ready (c .before .before .before .before .before .before .pre .opened) .ports64
 
 narrow-requires-2 : tie.Need-narrow-requires-2
 narrow-requires-2 c κs =
-    let r = move-ready _ _ _ _ _ _ _ (c .before .before .before .before .before .before .before .pre .opened) in omega (arith, r .sets16)
+    let r = move-ready (c .before .before .before .before .before .before .before .pre .opened) in omega (arith, r .sets16)
 
 sub-masks-after : tie.Need-sub-masks-after
 sub-masks-after c = search needs
@@ -24,11 +24,11 @@ part-masks-after-start c = search needs
 
 part-masks-after-end : tie.Need-part-masks-after-end
 part-masks-after-end c =
-    let r = move-ready _ _ _ _ _ _ _ (c .before .before .before .before .before .before .before .before .pre .opened) in omega (arith, r .own-masks)
+    let r = move-ready (c .before .before .before .before .before .before .before .before .pre .opened) in omega (arith, r .own-masks)
 
 masks-after-requires : tie.Need-masks-after-requires
 masks-after-requires c κs =
-    legal-over _ _ _ _ _ _ _ (c .before .before .before .before .before .before .before .before .before .pre .opened) _ (c .before .before .before .before .before .before .before .before .before .pre .free) _ _ 0 (c .before .before .narrow .ensures) (c .before .narrow2 .ensures) _ (ap (λ (j : ℕ). take j (c .before .before .before .before .before .before .before .before .before .args .masks .now)) (sub-zero (c .before .before .before .before .before .before .before .before .before .args .sets)))
+    legal-over (c .before .before .before .before .before .before .before .before .before .pre .opened) _ (c .before .before .before .before .before .before .before .before .before .pre .free) _ _ 0 (c .before .before .narrow .ensures) (c .before .narrow2 .ensures) _ (ap (λ (j : ℕ). take j (c .before .before .before .before .before .before .before .before .before .args .masks .now)) (sub-zero (c .before .before .before .before .before .before .before .before .before .args .sets)))
 
 sub-root-written : tie.Need-sub-root-written
 sub-root-written c = search needs
@@ -38,15 +38,15 @@ part-root-written-start c = search needs
 
 part-root-written-end : tie.Need-part-root-written-end
 part-root-written-end c =
-    back-fits _ _ _ _ _ _ _ (c .before .before .before .before .before .before .before .before .before .before .before .before .before .pre .opened) _ (c .before .before .before .before .before .before .before .before .before .before .before .before .before .pre .free) (c .before .before .before .masks-after .last .1 .1 .1 .0) _ _ (sub-zero (c .before .before .before .before .before .before .before .before .before .before .before .before .before .args .sets)) (c .before .before .before .masks-after .ensures)
+    back-fits (c .before .before .before .before .before .before .before .before .before .before .before .before .before .pre .opened) _ (c .before .before .before .before .before .before .before .before .before .before .before .before .before .pre .free) (c .before .before .before .masks-after .last .1 .1 .1 .0) _ _ (sub-zero (c .before .before .before .before .before .before .before .before .before .before .before .before .before .args .sets)) (c .before .before .before .masks-after .ensures)
 
 change-of-requires : tie.Need-change-of-requires
 change-of-requires c κs =
-    change-ready _ _ _ _ _ _ _ (c .before .before .before .before .before .before .before .before .before .before .before .before .before .before .before .pre .opened) _ (c .before .before .before .before .before .before .before .before .before .before .before .before .before .before .before .pre .free)
+    change-ready (c .before .before .before .before .before .before .before .before .before .before .before .before .before .before .before .pre .opened) _ (c .before .before .before .before .before .before .before .before .before .before .before .before .before .before .before .pre .free)
 
 root-written-requires : tie.Need-root-written-requires
 root-written-requires c κs =
-    root-ready _ _ _ _ _ _ _ (c .before .before .before .before .before .before .before .before .before .before .before .before .before .before .before .before .pre .opened) _ (c .before .before .before .before .before .before .before .before .before .before .before .before .before .before .before .before .pre .free) _ (c .change-of .ensures) _ _ (lent-again _ _ _ _ _ _ _ (c .before .before .before .before .before .before .before .before .before .before .before .before .before .before .before .before .pre .opened) _ (c .before .before .before .before .before .before .before .before .before .before .before .before .before .before .before .before .pre .free) (c .before .before .before .before .before .before .masks-after .last .1 .1 .1 .0) _ _ (sub-zero (c .before .before .before .before .before .before .before .before .before .before .before .before .before .before .before .before .args .sets)) (c .before .before .before .before .before .before .masks-after .ensures)) (c .before .before .before .before .before .before .before .before .before .before .before .before .before .before .before .before .pre .fit) (c .before .before .before .before .before .before .before .before .before .before .before .before .before .before .before .before .pre .room) (c .before .before .before .before .before .before .before .before .before .before .before .before .before .before .before .before .pre .long)
+    root-ready (c .before .before .before .before .before .before .before .before .before .before .before .before .before .before .before .before .pre .opened) _ (c .before .before .before .before .before .before .before .before .before .before .before .before .before .before .before .before .pre .free) _ (c .change-of .ensures) _ _ (lent-again (c .before .before .before .before .before .before .before .before .before .before .before .before .before .before .before .before .pre .opened) _ (c .before .before .before .before .before .before .before .before .before .before .before .before .before .before .before .before .pre .free) (c .before .before .before .before .before .before .masks-after .last .1 .1 .1 .0) _ _ (sub-zero (c .before .before .before .before .before .before .before .before .before .before .before .before .before .before .before .before .args .sets)) (c .before .before .before .before .before .before .masks-after .ensures)) (c .before .before .before .before .before .before .before .before .before .before .before .before .before .before .before .before .pre .fit) (c .before .before .before .before .before .before .before .before .before .before .before .before .before .before .before .before .pre .room) (c .before .before .before .before .before .before .before .before .before .before .before .before .before .before .before .before .pre .long)
 
 same-length : tie.Need-same-length
 same-length c = search needs
@@ -57,9 +57,9 @@ same-length-2 c = search needs
 returns : tie.Need-returns
 returns c =
     carried _ _ _ _ (c .before .before .before .before .before .before .before .before .before .before .before .before .before .before .before .before .before .before .before .pre .opened .decodes) _ _ _ (c .before .before .before .before .before .before .before .before .before .masks-after .last .1 .1 .1 .0) _
-    (answer-is _ _ _ _ _ _ _ (c .before .before .before .before .before .before .before .before .before .before .before .before .before .before .before .before .before .before .before .pre .opened) _ (c .before .before .before .before .before .before .before .before .before .before .before .before .before .before .before .before .before .before .before .pre .free) _ (c .before .before .before .change-of .ensures) _ _ (lent-again _ _ _ _ _ _ _ (c .before .before .before .before .before .before .before .before .before .before .before .before .before .before .before .before .before .before .before .pre .opened) _ (c .before .before .before .before .before .before .before .before .before .before .before .before .before .before .before .before .before .before .before .pre .free) (c .before .before .before .before .before .before .before .before .before .masks-after .last .1 .1 .1 .0) _ _ (sub-zero (c .before .before .before .before .before .before .before .before .before .before .before .before .before .before .before .before .before .before .before .args .sets)) (c .before .before .before .before .before .before .before .before .before .masks-after .ensures)) _ (c .before .before .root-written .ensures .0))
-    (cells-are _ _ _ _ _ _ _ (c .before .before .before .before .before .before .before .before .before .before .before .before .before .before .before .before .before .before .before .pre .opened) _ (c .before .before .before .before .before .before .before .before .before .before .before .before .before .before .before .before .before .before .before .pre .free) _ (c .before .before .before .change-of .ensures) _ _ (lent-again _ _ _ _ _ _ _ (c .before .before .before .before .before .before .before .before .before .before .before .before .before .before .before .before .before .before .before .pre .opened) _ (c .before .before .before .before .before .before .before .before .before .before .before .before .before .before .before .before .before .before .before .pre .free) (c .before .before .before .before .before .before .before .before .before .masks-after .last .1 .1 .1 .0) _ _ (sub-zero (c .before .before .before .before .before .before .before .before .before .before .before .before .before .before .before .before .before .before .before .args .sets)) (c .before .before .before .before .before .before .before .before .before .masks-after .ensures)) _ (c .before .before .root-written .ensures .1))
-    (back-is _ _ _ _ _ _ _ (c .before .before .before .before .before .before .before .before .before .before .before .before .before .before .before .before .before .before .before .pre .opened) _ (c .before .before .before .before .before .before .before .before .before .before .before .before .before .before .before .before .before .before .before .pre .free) (c .before .before .before .before .before .before .before .before .before .masks-after .last .1 .1 .1 .0) _ (sub-zero (c .before .before .before .before .before .before .before .before .before .before .before .before .before .before .before .before .before .before .before .args .sets)) (c .before .before .before .before .before .before .before .before .before .masks-after .ensures)) (past-is _ _ _ _ _ _ _ (c .before .before .before .before .before .before .before .before .before .before .before .before .before .before .before .before .before .before .before .pre .opened) _ (c .before .before .before .before .before .before .before .before .before .before .before .before .before .before .before .before .before .before .before .pre .free) _ (sub-zero (c .before .before .before .before .before .before .before .before .before .before .before .before .before .before .before .before .before .before .before .args .sets)))
+    (answer-is (c .before .before .before .before .before .before .before .before .before .before .before .before .before .before .before .before .before .before .before .pre .opened) _ (c .before .before .before .before .before .before .before .before .before .before .before .before .before .before .before .before .before .before .before .pre .free) _ (c .before .before .before .change-of .ensures) _ _ (lent-again (c .before .before .before .before .before .before .before .before .before .before .before .before .before .before .before .before .before .before .before .pre .opened) _ (c .before .before .before .before .before .before .before .before .before .before .before .before .before .before .before .before .before .before .before .pre .free) (c .before .before .before .before .before .before .before .before .before .masks-after .last .1 .1 .1 .0) _ _ (sub-zero (c .before .before .before .before .before .before .before .before .before .before .before .before .before .before .before .before .before .before .before .args .sets)) (c .before .before .before .before .before .before .before .before .before .masks-after .ensures)) _ (c .before .before .root-written .ensures .0))
+    (cells-are (c .before .before .before .before .before .before .before .before .before .before .before .before .before .before .before .before .before .before .before .pre .opened) _ (c .before .before .before .before .before .before .before .before .before .before .before .before .before .before .before .before .before .before .before .pre .free) _ (c .before .before .before .change-of .ensures) _ _ (lent-again (c .before .before .before .before .before .before .before .before .before .before .before .before .before .before .before .before .before .before .before .pre .opened) _ (c .before .before .before .before .before .before .before .before .before .before .before .before .before .before .before .before .before .before .before .pre .free) (c .before .before .before .before .before .before .before .before .before .masks-after .last .1 .1 .1 .0) _ _ (sub-zero (c .before .before .before .before .before .before .before .before .before .before .before .before .before .before .before .before .before .before .before .args .sets)) (c .before .before .before .before .before .before .before .before .before .masks-after .ensures)) _ (c .before .before .root-written .ensures .1))
+    (back-is (c .before .before .before .before .before .before .before .before .before .before .before .before .before .before .before .before .before .before .before .pre .opened) _ (c .before .before .before .before .before .before .before .before .before .before .before .before .before .before .before .before .before .before .before .pre .free) (c .before .before .before .before .before .before .before .before .before .masks-after .last .1 .1 .1 .0) _ (sub-zero (c .before .before .before .before .before .before .before .before .before .before .before .before .before .before .before .before .before .before .before .args .sets)) (c .before .before .before .before .before .before .before .before .before .masks-after .ensures)) (past-is (c .before .before .before .before .before .before .before .before .before .before .before .before .before .before .before .before .before .before .before .pre .opened) _ (c .before .before .before .before .before .before .before .before .before .before .before .before .before .before .before .before .before .before .before .pre .free) _ (sub-zero (c .before .before .before .before .before .before .before .before .before .before .before .before .before .before .before .before .before .before .before .args .sets)))
 
 pub carry-spec : {M : Type 1} → statement M
 carry-spec =

@@ -18,7 +18,7 @@ use Rattle.contracts.specs.MoveCall.{cellsAfter, moveAnswer}
 -- A legal move over open tables.
 pub record CarryReady (ports sets : ℕ) (bytes firsts ends uses masks cells : List ℕ) (m : Move) : Type 0 where
   pub shortest : ℕ
-  pub opened : OpenPlan bytes masks shortest record { number = 0; ports = ports; sets = sets } firsts ends uses
+  pub opened : OpenPlan ports sets bytes masks shortest firsts ends uses
   pub room : shortest ≤ length cells
   pub fit : CellsFit cells
   pub long : TablesLong firsts ends uses
