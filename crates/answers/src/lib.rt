@@ -51,6 +51,7 @@ pub struct LoadAnswer {
     pub cells: u32,
 }
 
+// Reading's answer as its C struct.
 pub fn read_fields(a: Answer) -> ReadAnswer
     ensures { λ r. ⌜ ReadFields a r ⌝ }
 {
@@ -68,6 +69,7 @@ pub fn read_fields(a: Answer) -> ReadAnswer
     }
 }
 
+// Load's answer as its C struct.
 pub fn load_fields(a: Loaded) -> LoadAnswer
     ensures { λ r. ⌜ LoadFields a r ⌝ }
 {
@@ -118,6 +120,7 @@ fn no_move() -> Move
     }
 }
 
+// A move's or trial's answer as its C struct.
 pub fn move_fields(a: Moved) -> MoveAnswer
     ensures { λ r. ⌜ MoveFields a r ⌝ }
 {
@@ -141,6 +144,7 @@ pub fn move_fields(a: Moved) -> MoveAnswer
     }
 }
 
+// Improve's answer as its C struct; the move is all 0 where none was made.
 pub fn improve_fields(a: Improved) -> ImproveAnswer
     ensures { λ r. ⌜ ImproveFields a r ⌝ }
 {

@@ -14,7 +14,7 @@ use Rattle.contracts.specs.Lists.{Exchange, moveCall, trialCall, improveCall, S
 use Rattle.table_format.specs.Decode.{decode}
 use Rattle.call_list.specs.Scratch.{ScratchRun, kept}
 use Rattle.call_list.proofs.Scratch.{scratch-snoc, scratch-length}
-use Rattle.call_list.specs.Encoding.{Says, Unknown, SayAll, tenNumbers, movedNumbers, improvedNumbers, answerNumbers, allNumbers}
+use Rattle.call_list.specs.Encoding.{Encodes, Unknown, SayAll, tenNumbers, movedNumbers, improvedNumbers, answerNumbers, allNumbers}
 use Rattle.call_list.specs.Working.{Worked, Stopped, atEnd, notWhole, unknownTag}
 use Rattle.call_list.specs.inner.Steps.{OneWorked, NoneWorked, OneAfter, NextFits}
 
@@ -25,7 +25,7 @@ run-snoc bytes s s′ s″ xs x ended y = called y ended
 run-snoc bytes s s′ s″ xs x (called {s′ = t} {xs = rest} z r) y = called z (run-snoc bytes t s′ s″ rest x r y)
 
 -- a call said behind others
-say-snoc : (n : ℕ) (numbers : List ℕ) (xs : List Exchange) (x : Exchange) → SayAll n numbers xs → Says n (drop (7 * length xs) numbers) x
+say-snoc : (n : ℕ) (numbers : List ℕ) (xs : List Exchange) (x : Exchange) → SayAll n numbers xs → Encodes n (drop (7 * length xs) numbers) x
     → SayAll n numbers (xs ++ x ∷ [])
 unfolding SayAll
 say-snoc n numbers [] x h k = (k, tt)
@@ -33,7 +33,7 @@ say-snoc n numbers (first ∷ xs) x h k =
     let more : 7 * suc (length xs) ≡ 7 + 7 * length xs = omega arith in
     let e : drop (7 * suc (length xs)) numbers ≡ drop (7 * length xs) (drop 7 numbers) =
     ap (λ (j : ℕ). drop j numbers) more ∙ sym (drop-drop (7 * length xs) 7 numbers) in
-    (h .0, say-snoc n (drop 7 numbers) xs x (h .1) (subst (λ (ys : List ℕ). Says n ys x) e k))
+    (h .0, say-snoc n (drop 7 numbers) xs x (h .1) (subst (λ (ys : List ℕ). Encodes n ys x) e k))
 
 length-numbers : (x : Exchange) → length (answerNumbers x) ≡ 10
 unfolding answerNumbers movedNumbers improvedNumbers tenNumbers
@@ -108,9 +108,9 @@ module _ (bytes calls : List ℕ) (s : State) (scratch answers : List ℕ) (coun
           room = omega arith;
           worked = length-append (w .exchanges) (o .exchange ∷ []) ∙ ap (λ (j : ℕ). j + 1) (w .worked);
           says = say-snoc (length scratch) calls (w .exchanges) (o .exchange) (w .says)
-              (subst (λ (ys : List ℕ). Says (length scratch) ys (o .exchange))
+              (subst (λ (ys : List ℕ). Encodes (length scratch) ys (o .exchange))
               (lent-all (7 * count) calls ∙ ap (λ (j : ℕ). drop (7 * j) calls) (sym (w .worked)))
-              (subst (λ (n : ℕ). Says n (lent (7 * count) calls) (o .exchange)) as-long (o .says)));
+              (subst (λ (n : ℕ). Encodes n (lent (7 * count) calls) (o .exchange)) as-long (o .says)));
           run = run-snoc bytes _ _ _ (w .exchanges) (o .exchange) (w .run) (o .step);
           scratch-run =
               scratch-snoc (decode bytes) scratch scratch′ scratch″ (w .exchanges) (o .exchange) (w .scratch-run) (o .scratch-step);

@@ -29,10 +29,10 @@ cellsLent call scratch-length = min (getD call 6 0) scratch-length
 
 -- The call that seven numbers say, whatever it answers: 1 a move, 2 a trial, 3 improve. "Scratch may be another table at every call, hold anything or be too
 -- short": only its length is said, and a move is lent none.
-unfoldable pub Says : ℕ → List ℕ → Exchange → Type 0
-Says scratch-length call (moveCall m r) = (tag call ≡ 1) × (m ≡ moveOf call)
-Says scratch-length call (trialCall m scratch r) = (tag call ≡ 2) × (m ≡ moveOf call) × (length scratch ≡ cellsLent call scratch-length)
-Says scratch-length call (improveCall kinds scratch r) = (tag call ≡ 3) × (kinds ≡ kindsOf call) × (length scratch ≡ cellsLent call scratch-length)
+unfoldable pub Encodes : ℕ → List ℕ → Exchange → Type 0
+Encodes scratch-length call (moveCall m r) = (tag call ≡ 1) × (m ≡ moveOf call)
+Encodes scratch-length call (trialCall m scratch r) = (tag call ≡ 2) × (m ≡ moveOf call) × (length scratch ≡ cellsLent call scratch-length)
+Encodes scratch-length call (improveCall kinds scratch r) = (tag call ≡ 3) × (kinds ≡ kindsOf call) × (length scratch ≡ cellsLent call scratch-length)
 
 -- A tag that says none of the three.
 pub record Unknown (call : List ℕ) : Type 0 where
@@ -43,7 +43,7 @@ pub record Unknown (call : List ℕ) : Type 0 where
 -- Call after call, seven numbers each.
 unfoldable pub SayAll : ℕ → List ℕ → List Exchange → Type 0
 SayAll scratch-length numbers [] = Unit {0}
-SayAll scratch-length numbers (x ∷ xs) = Says scratch-length numbers x × SayAll scratch-length (drop 7 numbers) xs
+SayAll scratch-length numbers (x ∷ xs) = Encodes scratch-length numbers x × SayAll scratch-length (drop 7 numbers) xs
 
 -- The ten numbers of an answer: number, found, the move's kind, s, t, p, q, before, after, changed.
 unfoldable pub tenNumbers : ℕ → ℕ → Move → ℕ → ℕ → ℕ → List ℕ

@@ -8,6 +8,7 @@ ghost use Rattle.call_node.specs.inner.Bounds.{boundAt};
 ghost use Rattle.contracts.specs.NodeCells.{nodeCells, PartGives};
 ghost use Rattle.table_format.specs.Decode.{decode};
 
+// A first cell as a place of the table.
 fn wide_cell(x: u32) -> usize
     ensures { λ r. ⌜ r ≡ x ⌝ }
 {

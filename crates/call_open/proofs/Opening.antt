@@ -14,7 +14,7 @@ use Rattle.logic.specs.Moves.{refusal}
 use Rattle.table_format.specs.Decode.{Decoded, broken, sound, decode}
 use Rattle.table_format.proofs.Encoding.{decode-sound, one-plan}
 use Rattle.table_format.proofs.Ready.{ready}
-use Rattle.cells_walk.specs.inner.Root.{Indexed}
+use Rattle.cells_walk.specs.inner.Root.{PlanIndex}
 use Rattle.call_open.specs.declared.Opened.{Opened}
 use Rattle.call_open.specs.inner.Opening.{openGrounds, openNumber, OpenPlan, Opens}
 
@@ -43,7 +43,7 @@ module _ (bytes masks : List ℕ) (shortest : ℕ) (r : Opened) (x y z : List �
       pub opens-not-within : r .number ≡ 13 → allWithin (P .ports) (take (ownMasks P) masks) ≡ false → Opens bytes masks shortest r x y z
       opens-not-within h w = closes 12 h (sym (number-of false true (ap₂ _||_ (le-ltb _ _ m) (le-ltb _ _ l)) (ap not w)))
 
-      pub opens-all : r .number ≡ 0 → r .ports ≡ P .ports → r .sets ≡ P .sets → r .nodes ≡ nodeCount (P .formula) → r .cells ≡ ownCells P → Indexed P x y z
+      pub opens-all : r .number ≡ 0 → r .ports ≡ P .ports → r .sets ≡ P .sets → r .nodes ≡ nodeCount (P .formula) → r .cells ≡ ownCells P → PlanIndex P x y z
           → allWithin (P .ports) (take (ownMasks P) masks) ≡ true → Opens bytes masks shortest r x y z
       opens-all h u n k c i w = record {
         number-is = h ∙ sym (number-of false false (ap₂ _||_ (le-ltb _ _ m) (le-ltb _ _ l)) (ap not w));

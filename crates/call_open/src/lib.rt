@@ -5,7 +5,7 @@ ghost use mathlib.Core.Path.{_≡_};
 ghost use Prim.Native.Nat.{min, _≤_};
 ghost use lib.ListN.{length, take};
 ghost use Rattle.logic.specs.Configuration.{allWithin};
-ghost use Rattle.table_check.specs.inner.Check.{Room};
+ghost use Rattle.table_check.specs.inner.Check.{IndexRoom};
 ghost use Rattle.call_open.specs.inner.Opening.{Opens};
 
 // Whether no mask of the first `sets` has a port of `ports` or more.
@@ -33,6 +33,7 @@ pub struct Opened {
     pub cells: usize,
 }
 
+// A ground applies: no ports and sets are handed on.
 fn closed(number: u8) -> Opened
     ensures { λ r. ⌜ r .number ≡ number ⌝ }
 {
@@ -54,7 +55,7 @@ pub fn open_tables(
     ends: &mut [u16],
     uses: &mut [u64],
 ) -> Opened
-    requires { ⌜ Room (now firsts) (now ends) (now uses) ⌝ }
+    requires { ⌜ IndexRoom (now firsts) (now ends) (now uses) ⌝ }
     ensures { λ r. ⌜ Opens (now (table .entry)) (now (masks .entry)) shortest r (now (firsts .exit)) (now (ends .exit)) (now (uses .exit)) ⌝ }
 {
     let info = check(table, firsts, ends, uses);
@@ -79,6 +80,7 @@ pub fn open_tables(
     }
 }
 
+// The lesser of two lengths.
 pub fn lesser(a: usize, b: usize) -> usize
     ensures { λ r. ⌜ r ≡ min a b ⌝ }
 {

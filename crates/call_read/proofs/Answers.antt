@@ -17,7 +17,7 @@ use Rattle.text_core.specs.Grounds.{coreGrounds}
 use Rattle.contracts.specs.declared.Answer.{Answer}
 use Rattle.contracts.specs.declared.Answer.the-variants.{Refused}
 use Rattle.contracts.specs.Read.{tableLength, syntaxGrounds, readGrounds, readOr, reads}
-use Rattle.call_read.specs.inner.Contract.{Kept, SomeText, Finishes}
+use Rattle.call_read.specs.inner.Contract.{TextKept, SomeText, Finishes}
 use Rattle.text_core.proofs.Letters.{parsed-lettered}
 use Rattle.contracts.proofs.Grounds.{ports-in}
 
@@ -74,7 +74,7 @@ module _ (u : ℕ) (s B : List ℕ) where
 
 -- what parsing leaves
 module _ (s t letters : List ℕ) (r : Syntax) (W : Whole s t letters r) (room : length letters ≡ 17) where
-  kept-text : Kept t (r .end) letters (r .sets) (W .sets) (W .tree)
+  kept-text : TextKept t (r .end) letters (r .sets) (W .sets) (W .tree)
   kept-text = record {
     stored = W .stored;
     lettered = parsed-lettered s (W .sets) (W .tree) (W .is);

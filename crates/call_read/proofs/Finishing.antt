@@ -24,7 +24,7 @@ use Rattle.text_emit.specs.inner.Emits.{PlanReady, WritesPlan}
 use Rattle.contracts.specs.declared.Answer.{Answer}
 use Rattle.contracts.specs.declared.Answer.the-variants.{Accepted, Refused}
 use Rattle.contracts.specs.Read.{tableLength, readOr}
-use Rattle.call_read.specs.inner.Contract.{Kept, Finishes}
+use Rattle.call_read.specs.inner.Contract.{TextKept, Finishes}
 use Rattle.contracts.proofs.Grounds.{refusal-first, CorePasses, core-passes, core-then, few-sets, whole-list}
 
 some-nodes : (sets : List ℕ) (a : Tree) → 1 ≤ nodeCount (coreOf sets a)
@@ -50,7 +50,7 @@ passing-of u sets a c A e =
     }
 
 module _ (u : ℕ) (t : List ℕ) (e : ℕ) (letters : List ℕ) (n : ℕ) (S : List ℕ) (own : S ≡ take n letters) (c : CoreAnswer) (A : Answers t e S u c) where
-  answered : (sets : List ℕ) (a : Tree) → Kept t e letters n sets a → Answered u (take 17 sets) a c
+  answered : (sets : List ℕ) (a : Tree) → TextKept t e letters n sets a → Answered u (take 17 sets) a c
   unfolding Answers
   answered sets a K = subst (λ (x : List ℕ). Answered u x a c) (own ∙ K .letters-are) (A a (K .stored) (K .lettered))
 
@@ -70,7 +70,7 @@ module _ (u : ℕ) (t : List ℕ) (e : ℕ) (letters : List ℕ) (n : ℕ) (S : 
           sym (ap (λ (x : ℕ). readOr x u (read sets a) B) (refusal-first (coreGrounds u sets a) rest g (sym first ∙ q)))
 
   module _ (z : c .refused ≡ 0) where
-    passing-all : (sets : List ℕ) (a : Tree) → Kept t e letters n sets a → (take 17 sets ≡ sets) × Passing u sets a c
+    passing-all : (sets : List ℕ) (a : Tree) → TextKept t e letters n sets a → (take 17 sets ≡ sets) × Passing u sets a c
     passing-all sets a K =
         let p = passing-of u (take 17 sets) a c (answered sets a K) z in
         let w = whole-list sets (p .few) in (w, subst (λ (x : List ℕ). Passing u x a c) w p)
@@ -87,10 +87,10 @@ module _ (u : ℕ) (t : List ℕ) (e : ℕ) (letters : List ℕ) (n : ℕ) (S : 
           sym (ap (λ (x : ℕ). readOr x u (read sets a) B)
           (core-then u sets a _ (P .passing) ∙ ap (λ (x : Bool). cond x 12 0) short))
 
-      pub finish-few : (sets : List ℕ) (a : Tree) → Kept t e letters n sets a → nodes ≤ 512
+      pub finish-few : (sets : List ℕ) (a : Tree) → TextKept t e letters n sets a → nodes ≤ 512
       finish-few sets a K = let P = passing-all sets a K .1 in rw (same ∙ P .nodes-are) (ltb-false 512 _ (P .passing .few-nodes))
 
-      pub finish-ready : (sets : List ℕ) (a : Tree) → Kept t e letters n sets a → tableBytes (length S) nodes ≤ length B → PlanReady S nodes B
+      pub finish-ready : (sets : List ℕ) (a : Tree) → TextKept t e letters n sets a → tableBytes (length S) nodes ≤ length B → PlanReady S nodes B
       finish-ready sets a K h =
           let w = passing-all sets a K in
           let P = w .1 in

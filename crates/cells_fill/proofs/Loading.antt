@@ -24,9 +24,9 @@ use Rattle.cells_join.specs.inner.Joined.{unitOf, joinAll, joinOf}
 use Rattle.cells_fill.specs.inner.Fill.{startCell, treewise, config, table, FillPlaced, Fills, FillsPlan}
 use Rattle.cells_fill.proofs.Values.{own-cell, table-tree}
 use Rattle.cells_fill.proofs.Filling.{low-below}
-use Rattle.table_format.proofs.Ready.{Ready, own-zero}
+use Rattle.table_format.proofs.Ready.{TableReady, own-zero}
 
-pub placed-plan : (bytes : List ℕ) (P : Plan) (nodes : ℕ) (masks xs : List ℕ) → Ready bytes P nodes → P .sets ≤ length masks → allWithin (P .ports) (take (P .sets) masks) ≡ true
+pub placed-plan : (bytes : List ℕ) (P : Plan) (nodes : ℕ) (masks xs : List ℕ) → TableReady bytes P nodes → P .sets ≤ length masks → allWithin (P .ports) (take (P .sets) masks) ≡ true
     → ownCells P ≤ length xs
     → FillPlaced (belowRoot bytes nodes) 1 0 (P .ports) (P .sets) 0 1 1 1
     (take (P .sets) masks) xs
@@ -93,7 +93,7 @@ plan-table P own c e =
     ap (λ (Q : Plan). layout (P .ports) (λ n c b d x. penalty (P .ports) (config (P .ports) (P .sets) own) n c x) (Q .formula) 0 0) e
     ∙ root-cells (P .ports) (config (P .ports) (P .sets) own) c
 
-pub plan-filled : (bytes : List ℕ) (P : Plan) (nodes r : ℕ) (masks xs ys zs : List ℕ) → decode bytes ≡ sound P → Ready bytes P nodes → ownCells P ≤ length xs
+pub plan-filled : (bytes : List ℕ) (P : Plan) (nodes r : ℕ) (masks xs ys zs : List ℕ) → decode bytes ≡ sound P → TableReady bytes P nodes → ownCells P ≤ length xs
     → ys ≡ tabulate 1 (λ _. unitOf 1) ++ drop 1 xs
     → Fills (belowRoot bytes nodes) 1 0 (P .ports) (P .sets) 0 1 1 (take (P .sets) masks) ys zs r
     → FillsPlan bytes masks xs zs

@@ -3,7 +3,7 @@ use mathlib.Core.Path.{_≡_, refl, sym, ap, _∙_}
 use mathlib.Core.Bool.{cond}
 use mathlib.Core.List.{List}
 use Prim.Native.Nat.{ℕ, zero, suc, _+_, _-_, _*_, _^_, _/_, _%_, _≤_, _<_}
-use native.Mathlib.Nat.{mod-lt, mod-eq-of-lt, mod-self, mod-add-mod, add-mod-right, add-div-right, mul-mod-left, div-one, div-div-eq-div-mul, div-add-mod', pow-zero, pow-suc, pow-succ', one-le-pow, pow-le-pow-left, pow-le-pow-right, mul-le-mul, mul-le-mul-right, suc-mul, zero-div, zero-mod, one-mul}
+use native.Mathlib.Nat.{mod-lt, mod-eq-of-lt, mod-self, mod-add-mod, add-mod-right, add-div-right, mul-mod-left, div-one, div-div-eq-div-mul, div-add-mod', pow-zero, pow-succ', one-le-pow, pow-le-pow-left, pow-le-pow-right, mul-le-mul, mul-le-mul-right, suc-mul, zero-div, zero-mod}
 use native.Mathlib.Decide.{decLt}
 use native.Mathlib.Omega.{arith}
 use lib.Dec.{eqb}

@@ -16,7 +16,7 @@ use Rattle.logic.specs.Moves.{MoveKind, add, drop, transfer, swap, unknown, mov
 use Rattle.logic.specs.Change.{Change, someOf, pairsChange}
 use Rattle.logic.specs.inner.Agreement.{listed}
 use Rattle.logic.proofs.Lists.{and-left, and-right, or-true-left, or-true-right, or-false}
-use Rattle.cells_touch.specs.inner.Hits.{Says, variableBits, sizeBit, changeAt, Tells}
+use Rattle.cells_touch.specs.inner.Hits.{Describes, variableBits, sizeBit, changeAt, Tells}
 use Rattle.cells_touch.proofs.Bits.{in-or, in-power}
 
 same-place : (S S′ v v′ : ℕ) → v < 4 → v′ < 4 → eqb (4 * S′ + v) (4 * S + v′) ≡ (eqb S′ S && eqb v v′)
@@ -67,7 +67,7 @@ pub record AtBoth (u s t p q : ℕ) (ch : Change) : Type 0 where
   pub pairs-are : (S x : ℕ) → listed (ch .pairs) S x ≡ ((eqb S s || eqb S t) && (eqb x p || eqb x q))
   pub resized-are : (S : ℕ) → ch .resized S ≡ (eqb S s || eqb S t)
 
-pub says-at : (u s t p q : ℕ) (ch : Change) → AtBoth u s t p q ch → Says u ch (changeAt s t p q)
+pub says-at : (u s t p q : ℕ) (ch : Change) → AtBoth u s t p q ch → Describes u ch (changeAt s t p q)
 unfolding changeAt
 says-at u s t p q ch a = record {
   order = omega arith;
@@ -192,7 +192,7 @@ one-kind (suc (suc (suc (suc zero)))) n n′ = n′ refl
 one-kind (suc (suc (suc (suc (suc k))))) n n′ = Prim.tt
 
 one-says : (kind : MoveKind) (P : Plan) (m : Move) → oneKind kind → fieldsKnown kind P m ≡ true
-    → Says (P .ports) (pairsChange (kindPairs kind m)) (changeAt (m .s) (m .s) (m .p) (m .p))
+    → Describes (P .ports) (pairsChange (kindPairs kind m)) (changeAt (m .s) (m .s) (m .p) (m .p))
 unfolding oneKind kindPairs fieldsKnown
 one-says add P m o h = says-at (P .ports) (m .s) (m .s) (m .p) (m .p) _ (one-pair m (P .ports) (port-known add P m h))
 one-says drop P m o h = says-at (P .ports) (m .s) (m .s) (m .p) (m .p) _ (one-pair m (P .ports) (port-known drop P m h))

@@ -21,7 +21,7 @@ use Rattle.logic.proofs.Lists.{or-left, or-right, or-true-left, or-true-right, 
 use Rattle.logic.proofs.Untouched.{port-out}
 use Rattle.table_format.specs.inner.Index.{nodeUses, forestUses}
 use Rattle.cells_touch.specs.declared.Changed.{Changed}
-use Rattle.cells_touch.specs.inner.Hits.{meets, HitWord, Says, level, otherLevels, atPort, firstWord, restWord, portWord, Marked}
+use Rattle.cells_touch.specs.inner.Hits.{meets, HitWord, Describes, level, otherLevels, atPort, firstWord, restWord, portWord, Marked}
 use Rattle.cells_touch.proofs.Bits.{in-and, in-or, in-zero, meets-zero, meets-power, meets-or}
 
 -- a node is hit where its own uses meet the word
@@ -159,7 +159,7 @@ member-empty : (v S : ℕ) (q : Pair) → memberHit v S [] q ≡ eqb S (q .0)
 unfolding memberHit
 member-empty v S q = ap (λ (b : Bool). eqb S (q .0) && (b || eqb (portOf [] v) (q .1))) (le-leb 0 v (omega arith)) ∙ and-true-right (eqb S (q .0))
 
-module _ (u : ℕ) (ch : Change) (c : Changed) (says : Says u ch c) where
+module _ (u : ℕ) (ch : Change) (c : Changed) (says : Describes u ch c) where
   -- the sets at a port
   at-port-is : (x S v : ℕ) → S < 16 → v < 3 → inMask (atPort c x) (4 * S + v) ≡ listed (ch .pairs) S x
   unfolding atPort

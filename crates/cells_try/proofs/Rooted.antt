@@ -7,19 +7,19 @@ use Rattle.logic.specs.Configuration.{spelled, configuration}
 use Rattle.logic.specs.Change.{Change}
 use Rattle.table_format.proofs.Encoding.{decode-sound, one-plan}
 use Rattle.cells_touch.specs.declared.Changed.{Changed}
-use Rattle.cells_touch.specs.inner.Hits.{Says, firstWord}
+use Rattle.cells_touch.specs.inner.Hits.{Describes, firstWord}
 use Rattle.cells_sum.specs.declared.After.{After}
 use Rattle.cells_walk.specs.inner.Visit.{Visit}
 use Rattle.cells_walk.specs.inner.Root.{RootReady, RootAfter, RootGives}
 use Rattle.cells_walk.proofs.Rooting.{below-root, root-visit, root-after}
-use Rattle.cells_try.specs.inner.Walking.{Ready, CellReady, CellGives}
+use Rattle.cells_try.specs.inner.Walking.{WalkReady, CellReady, CellGives}
 
 module _ (u sets : ℕ) (c : Changed) (bytes firsts ends uses masks cells : List ℕ) (r : RootReady u sets c bytes firsts ends uses masks cells) where
   -- under any change that is told so
-  abbrev ready-for : (ch : Change) → Says u ch c → Ready u sets c firsts ends uses masks cells ch
+  abbrev ready-for : (ch : Change) → Describes u ch c → WalkReady u sets c firsts ends uses masks cells ch
   ready-for ch says = record { says = says; masks-settled = r .masks-settled; cells-fit = r .cells-fit; long = r .long }
 
-  abbrev visit-for : (ch : Change) → Says u ch c
+  abbrev visit-for : (ch : Change) → Describes u ch c
       → Visit u sets ch bytes firsts ends uses cells 0 (tree root (below-root (r .plan) bytes (r .decodes)) none) 0 0 [] 0 0 (firstWord c)
   visit-for ch says = root-visit (r .plan) bytes (r .decodes) u (r .ports-are) sets (r .sets-are) c ch says firsts ends uses cells (r .indexed) (r .own-cells)
 

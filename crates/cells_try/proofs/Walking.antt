@@ -33,7 +33,7 @@ use Rattle.cells_walk.proofs.Steps.{packed-lt}
 use Rattle.cells_walk.proofs.Visits.{all-constants, node-here, fits-here, node-below, room-here, visit-next, visit-children, visit-ports, touched-here, port-visit, port-untouched}
 use Rattle.cells_walk.proofs.Ports.{Reached, reached-first, reached-next, reached-all}
 use Rattle.cells_walk.proofs.Outcomes.{begun-fits, untouched-after, literal-cell, inner-cell, trees-more, trees-none, one-tree, port-more, port-skipped, ports-none}
-use Rattle.cells_try.specs.inner.Walking.{Ready, CellReady, CellGives, TreesReady, TreesGive, PortsReady, PortsSo}
+use Rattle.cells_try.specs.inner.Walking.{WalkReady, CellReady, CellGives, TreesReady, TreesGive, PortsReady, PortsSo}
 use Rattle.cells_try.proofs.Remaining.{Remaining, remains-first, remains-next}
 
 width-low : (u d : ℕ) → u ≤ 64 → d ≤ 3 → u ^ d ≤ 262144
@@ -90,7 +90,7 @@ module _ (u sets : ℕ) (c : Changed) (bytes firsts ends uses masks cells : List
 
   module _ (i d place digits word : ℕ) where
     -- what a visited cell says of itself
-    module _ (ch : Change) (n : Node) (f s : Forest) (b : ℕ) (e : Tuple) (ready : Ready u sets c firsts ends uses masks cells ch)
+    module _ (ch : Change) (n : Node) (f s : Forest) (b : ℕ) (e : Tuple) (ready : WalkReady u sets c firsts ends uses masks cells ch)
         (v : Standing ch i (tree n f s) b d e place digits word) where
       pub here : NodeIs bytes firsts ends uses i n f b
       here = node-here u sets ch bytes firsts ends uses cells i n f s b d e place digits word v
@@ -219,7 +219,7 @@ module _ (u sets : ℕ) (c : Changed) (bytes firsts ends uses masks cells : List
 
       gives-lit : (used′ value : ℕ) (r : After) → used′ ≡ getD uses i 0 → meets used′ word ≡ true → RecordAfresh u sets d bytes i masks digits value
           → (r .old ≡ old) × (r .value ≡ value) × (r .changed ≡ (indicator (not (eqb value old)) + 0) % 4294967296)
-          → (ch : Change) (n : Node) (f s : Forest) (b : ℕ) (e : Tuple) (ready : Ready u sets c firsts ends uses masks cells ch)
+          → (ch : Change) (n : Node) (f s : Forest) (b : ℕ) (e : Tuple) (ready : WalkReady u sets c firsts ends uses masks cells ch)
           (v : Standing ch i (tree n f s) b d e place digits word) (l : Literal) → n ≡ lit l → CellAfter u after ch (cellOf u cells) n f b d e r
       unfolding RecordAfresh Afresh modulus
       gives-lit used′ value r us′ m fresh cl ch n f s b e ready v l q =

@@ -24,7 +24,7 @@ use Rattle.table_format.proofs.Bytes.{kind-of-record, relation-of-record, a-of-
 use Rattle.table_format.proofs.Encoding.{length-records, decode-sound}
 use Rattle.table_format.proofs.Laid.{length-firsts, length-ends, length-uses}
 use Rattle.table_format.proofs.Rooted.{every-node, RootedIs, is-rooted, rooted-is}
-use Rattle.cells_walk.specs.inner.Nodes.{NodeIs, Holds, LiteralFits, Fitting}
+use Rattle.cells_walk.specs.inner.Nodes.{NodeIs, IndexHolds, LiteralFits, Fitting}
 
 -- the record of the node m after another
 record-after : (bytes : List ℕ) (i m : ℕ) → recordAt bytes (i + m) ≡ drop (recordLength * m) (recordAt bytes i)
@@ -116,8 +116,8 @@ module _ (u : ℕ) (bytes firsts ends′ uses : List ℕ) where
       uses-are = stands-one uses i (bitOr (nodeUses n) (forestUses c)) _ (st .uses-are);
     }
 
-  holds-standing : (f : Forest) (i b d p : ℕ) (rest : List ℕ) → Standing i f b d p rest → Holds u bytes firsts ends′ uses i f b d
-  unfolding Holds
+  holds-standing : (f : Forest) (i b d p : ℕ) (rest : List ℕ) → Standing i f b d p rest → IndexHolds u bytes firsts ends′ uses i f b d
+  unfolding IndexHolds
   holds-standing none i b d p rest st = Prim.tt
   holds-standing (tree n c s) i b d p rest st = (
     node-standing n c s i b d p rest st,
@@ -133,7 +133,7 @@ laid-stands xs vs i h =
 
 -- the tables of a plan that passed
 pub plan-holds : (bytes firsts ends′ uses : List ℕ) (P : Plan) → decode bytes ≡ sound P → (x y z : List ℕ) → firsts ≡ laid x 0 (firstCells (P .ports) (P .formula) 0 0)
-    → ends′ ≡ laid y 0 (ends (P .formula) 0) → uses ≡ laid z 0 (usesTable (P .formula)) → Holds (P .ports) bytes firsts ends′ uses 0 (P .formula) 0 0
+    → ends′ ≡ laid y 0 (ends (P .formula) 0) → uses ≡ laid z 0 (usesTable (P .formula)) → IndexHolds (P .ports) bytes firsts ends′ uses 0 (P .formula) 0 0
 unfolding encoding recordAt
 plan-holds bytes firsts ends′ uses P h x y z fs es us =
     let t = decode-sound bytes P h in

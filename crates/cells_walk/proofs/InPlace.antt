@@ -21,16 +21,16 @@ use Rattle.cells_sum.specs.inner.Walk.{eachWritten, writtenBelow, written}
 use Rattle.cells_walk.proofs.Frame.{Directly, at-root, at-all, at-any, at-and, at-or, at-lit, own, under, later, Agree, directly-tuple, directly-untouched, written-agree, length-written, written-outside, bounds, apart, later-kept, port-kept, length-below, each-keeps}
 
 -- a table holds a rule's number at every cell at or below the tuple e of a forest's trees
-unfoldable pub Holds : ℕ → CellRule → List ℕ → Forest → ℕ → ℕ → Tuple → Type 0
-Holds u g xs none b d e = Unit {0}
-Holds u g xs (tree n c s) b d e =
+unfoldable pub HoldsNew : ℕ → CellRule → List ℕ → Forest → ℕ → ℕ → Tuple → Type 0
+HoldsNew u g xs none b d e = Unit {0}
+HoldsNew u g xs (tree n c s) b d e =
     (cellOf u xs b e ≡ g n c b d e)
-    × ((x : Tuple) → Directly u n e x → Holds u g xs c (b + u ^ d) (childDepth n d) x)
-    × Holds u g xs s (siblingFirst u n c b d) d e
+    × ((x : Tuple) → Directly u n e x → HoldsNew u g xs c (b + u ^ d) (childDepth n d) x)
+    × HoldsNew u g xs s (siblingFirst u n c b d) d e
 
 module _ (u : ℕ) (g : CellRule) where
-  pub holds-agree : (xs ys : List ℕ) (f : Forest) (b d : ℕ) (e : Tuple) → Agree u f b d e xs ys → Holds u g ys f b d e → Holds u g xs f b d e
-  unfolding Holds Agree cellOf
+  pub holds-agree : (xs ys : List ℕ) (f : Forest) (b d : ℕ) (e : Tuple) → Agree u f b d e xs ys → HoldsNew u g ys f b d e → HoldsNew u g xs f b d e
+  unfolding HoldsNew Agree cellOf
   holds-agree xs ys none b d e A h = tt
   holds-agree xs ys (tree n c s) b d e A h = (
     A (b + placeOf u e) (own refl) ∙ h .0,
@@ -49,9 +49,9 @@ module _ (u : ℕ) (g : CellRule) where
   directly-above (lit l) d x t = (x, t, at-lit)
 
   -- a table that holds a rule's numbers is laid out by it
-  layout-holds : 1 ≤ u → (xs : List ℕ) (f : Forest) (b d : ℕ) → ((e : Tuple) → TupleOf u d e → Holds u g xs f b d e)
+  layout-holds : 1 ≤ u → (xs : List ℕ) (f : Forest) (b d : ℕ) → ((e : Tuple) → TupleOf u d e → HoldsNew u g xs f b d e)
       → layout u (λ n c x i e. cellOf u xs x e) f b d ≡ layout u g f b d
-  unfolding layout Holds
+  unfolding layout HoldsNew
   layout-holds u1 xs none b d H = refl
   layout-holds u1 xs (tree n c s) b d H =
       ap₂ _++_ (tabulate-cong (u ^ d) _ _ (λ i l. H (tupleAt u d i) (tuple-is u u1 d i l) .0))
@@ -71,8 +71,8 @@ module _ (u : ℕ) (u1 : 1 ≤ u) (k : Configuration) (ch : Change) (old : List 
   walk = written u k ch (cellOf u old)
 
   -- cells under an untouched cell are untouched, so the walk may pass over them
-  untouched-holds : (xs : List ℕ) (f : Forest) (b d : ℕ) (e : Tuple) → forestHit ch f e ≡ false → Agree u f b d e xs old → Holds u new xs f b d e
-  unfolding Holds Agree cellOf forestHit touched
+  untouched-holds : (xs : List ℕ) (f : Forest) (b d : ℕ) (e : Tuple) → forestHit ch f e ≡ false → Agree u f b d e xs old → HoldsNew u new xs f b d e
+  unfolding HoldsNew Agree cellOf forestHit touched
   untouched-holds xs none b d e h A = tt
   untouched-holds xs (tree n c s) b d e h A =
       let a = or-left (nodeHit ch n e || forestHit ch c e) _ h in (
@@ -84,11 +84,11 @@ module _ (u : ℕ) (u1 : 1 ≤ u) (k : Configuration) (ch : Change) (old : List 
 
   -- what the writing at one tuple comes to, whatever table it starts from
   abbrev WalkHolds : Forest → ℕ → ℕ → Tuple → Type 0
-  WalkHolds f b d e = (xs : List ℕ) → b + cellCount u f d ≤ length xs → Agree u f b d e xs old → Holds u new (walk f b d e xs) f b d e
+  WalkHolds f b d e = (xs : List ℕ) → b + cellCount u f d ≤ length xs → Agree u f b d e xs old → HoldsNew u new (walk f b d e xs) f b d e
 
   ports-hold : (c : Forest) (b d : ℕ) (e : Tuple) → TupleOf u d e → ((p : ℕ) → p < u → WalkHolds c b (suc d) (p ∷ e))
       → (xs : List ℕ) → b + cellCount u c (suc d) ≤ length xs → ((p : ℕ) → p < u → Agree u c b (suc d) (p ∷ e) xs old)
-      → (m : ℕ) → m ≤ u → (p : ℕ) → p < m → Holds u new (eachWritten m (λ x. walk c b (suc d) (x ∷ e)) xs) c b (suc d) (p ∷ e)
+      → (m : ℕ) → m ≤ u → (p : ℕ) → p < m → HoldsNew u new (eachWritten m (λ x. walk c b (suc d) (x ∷ e)) xs) c b (suc d) (p ∷ e)
   unfolding eachWritten Agree
   ports-hold c b d e te IH xs len A zero h p l = absurd (omega arith)
   ports-hold c b d e te IH xs len A (suc m) h p l =
@@ -107,23 +107,23 @@ module _ (u : ℕ) (u1 : 1 ≤ u) (k : Configuration) (ch : Change) (old : List 
       as-long = each-keeps (λ zs. length zs ≡ length xs) m (λ x. walk c b (suc d) (x ∷ e))
           (λ x zs i q. length-written u k ch (cellOf u old) c b (suc d) (x ∷ e) zs ∙ q) xs refl
 
-      last : Holds u new (walk c b (suc d) (m ∷ e) ys) c b (suc d) (m ∷ e)
+      last : HoldsNew u new (walk c b (suc d) (m ∷ e) ys) c b (suc d) (m ∷ e)
       last = IH m mu ys (rw as-long len) (λ j r. port-kept u u1 k ch (cellOf u old) c b d e m te mu xs j r ∙ A m mu j r)
 
-      before : p ≢ m → Holds u new ys c b (suc d) (p ∷ e) → Holds u new (walk c b (suc d) (m ∷ e) ys) c b (suc d) (p ∷ e)
+      before : p ≢ m → HoldsNew u new ys c b (suc d) (p ∷ e) → HoldsNew u new (walk c b (suc d) (m ∷ e) ys) c b (suc d) (p ∷ e)
       before i h = holds-agree u new (walk c b (suc d) (m ∷ e) ys) ys c b (suc d) (p ∷ e)
           (λ j r. written-outside u k ch (cellOf u old) c b (suc d) (m ∷ e) ys j (λ r′.
           i (ap (λ (y : Tuple). getD y 0 0) (apart u u1 r r′ (more pu te) (more mu te))))) h
 
-      go : (p < m → Holds u new ys c b (suc d) (p ∷ e)) → Dec (p ≡ m) → Holds u new (walk c b (suc d) (m ∷ e) ys) c b (suc d) (p ∷ e)
-      go f (yes i) = subst (λ (q : ℕ). Holds u new (walk c b (suc d) (m ∷ e) ys) c b (suc d) (q ∷ e)) (sym i) last
+      go : (p < m → HoldsNew u new ys c b (suc d) (p ∷ e)) → Dec (p ≡ m) → HoldsNew u new (walk c b (suc d) (m ∷ e) ys) c b (suc d) (p ∷ e)
+      go f (yes i) = subst (λ (q : ℕ). HoldsNew u new (walk c b (suc d) (m ∷ e) ys) c b (suc d) (q ∷ e)) (sym i) last
       go f (no i) = before i (f (omega arith))
 
   below-holds : (n : Node) (c : Forest) (b d : ℕ) (e : Tuple) → TupleOf u d e
       → ((x : Tuple) → TupleOf u (childDepth n d) x → WalkHolds c b (childDepth n d) x)
       → (xs : List ℕ) → b + cellCount u c (childDepth n d) ≤ length xs
       → ((x : Tuple) → Directly u n e x → Agree u c b (childDepth n d) x xs old)
-      → (x : Tuple) → Directly u n e x → Holds u new (writtenBelow u n e (walk c b (childDepth n d)) xs) c b (childDepth n d) x
+      → (x : Tuple) → Directly u n e x → HoldsNew u new (writtenBelow u n e (walk c b (childDepth n d)) xs) c b (childDepth n d) x
   unfolding writtenBelow childDepth
   below-holds root c b d e te IH xs len A x at-root = IH e te xs len (A e at-root)
   below-holds all c b d e te IH xs len A x (at-all {p = p} l) =
@@ -136,7 +136,7 @@ module _ (u : ℕ) (u1 : 1 ≤ u) (k : Configuration) (ch : Change) (old : List 
 
   -- every cell at or below gets its new number
   pub walk-holds : (f : Forest) (b d : ℕ) (e : Tuple) → TupleOf u d e → WalkHolds f b d e
-  unfolding written Holds Agree cellCount siblingFirst cellOf touched
+  unfolding written HoldsNew Agree cellCount siblingFirst cellOf touched
   walk-holds none b d e te xs len A = tt
   walk-holds (tree n c s) b d e te xs len A =
       let a = b + placeOf u e in
@@ -154,7 +154,7 @@ module _ (u : ℕ) (u1 : 1 ≤ u) (k : Configuration) (ch : Change) (old : List 
             (λ h. A a (own refl) ∙ sym (untouched-kept u k ch (cellOf u old) n c b d e h)),
         (λ x w. holds-agree u new (walk s (siblingFirst u n c b d) d e zs) zs c (b + u ^ d) (childDepth n d) x
             (λ j r. let h = bounds u u1 r (directly-tuple w te) in first j (omega arith))
-            (either-holds (λ ws. Holds u new ws c (b + u ^ d) (childDepth n d) x) (touched ch n c e) (set ys a v) xs
+            (either-holds (λ ws. HoldsNew u new ws c (b + u ^ d) (childDepth n d) x) (touched ch n c e) (set ys a v) xs
             (λ h. holds-agree u new (set ys a v) ys c (b + u ^ d) (childDepth n d) x
             (λ j r. let h = bounds u u1 r (directly-tuple w te) in getD-set-other ys a j v 0 (omega arith))
             (below-holds n c (b + u ^ d) d e te (λ y ty. walk-holds c (b + u ^ d) (childDepth n d) y ty) xs (omega arith)
@@ -166,7 +166,7 @@ module _ (u : ℕ) (u1 : 1 ≤ u) (k : Configuration) (ch : Change) (old : List 
       )
 
   at-start : (f : Forest) (xs : List ℕ) → cellCount u f 0 ≤ length xs → Agree u f 0 0 [] xs old
-      → (e : Tuple) → TupleOf u 0 e → Holds u new (walk f 0 0 [] xs) f 0 0 e
+      → (e : Tuple) → TupleOf u 0 e → HoldsNew u new (walk f 0 0 [] xs) f 0 0 e
   at-start f xs len A e empty = walk-holds f 0 0 [] empty xs (omega arith) A
 
 -- The walk, in the table that it reads: foreign cells too.

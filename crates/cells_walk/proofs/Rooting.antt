@@ -20,15 +20,15 @@ use Rattle.table_format.proofs.Encoding.{decode-sound}
 use Rattle.table_format.proofs.Facts.{plan-facts}
 use Rattle.table_format.proofs.Rooted.{is-rooted}
 use Rattle.cells_touch.specs.declared.Changed.{Changed}
-use Rattle.cells_touch.specs.inner.Hits.{Says, firstWord}
+use Rattle.cells_touch.specs.inner.Hits.{Describes, firstWord}
 use Rattle.cells_touch.proofs.Touching.{first-word-is}
 use Rattle.cells_sum.specs.inner.Walk.{changes}
 use Rattle.cells_walk.proofs.Frame.{Agree, bounds, new-cell-agree}
 use Rattle.cells_walk.proofs.Count.{count-changes, changes-own}
 use Rattle.cells_sum.specs.declared.After.{After}
-use Rattle.cells_walk.specs.inner.Nodes.{Holds, Fitting}
+use Rattle.cells_walk.specs.inner.Nodes.{IndexHolds, Fitting}
 use Rattle.cells_walk.specs.inner.Visit.{packed, Visit, CellAfter}
-use Rattle.cells_walk.specs.inner.Root.{Indexed, RootAfter}
+use Rattle.cells_walk.specs.inner.Root.{PlanIndex, RootAfter}
 use Rattle.cells_walk.proofs.Holding.{plan-holds, plan-fits}
 
 whole : (P : Plan) {f : Forest} → P .formula ≡ f → cellCount (P .ports) f 0 ≤ ownCells P
@@ -55,13 +55,13 @@ module _ (P : Plan) (bytes : List ℕ) (decodes : decode bytes ≡ sound P) wher
   unfolding below-root
   formula-is = ap (λ (Q : Plan). Q .formula) (is-rooted P rules .1)
 
-  pub root-visit : (u : ℕ) → u ≡ P .ports → (sets : ℕ) → sets ≡ P .sets → (c : Changed) (ch : Change) → Says u ch c → (firsts ends uses cells : List ℕ)
-      → Indexed P firsts ends uses → ownCells P ≤ length cells
+  pub root-visit : (u : ℕ) → u ≡ P .ports → (sets : ℕ) → sets ≡ P .sets → (c : Changed) (ch : Change) → Describes u ch c → (firsts ends uses cells : List ℕ)
+      → PlanIndex P firsts ends uses → ownCells P ≤ length cells
       → Visit u sets ch bytes firsts ends uses cells 0 (tree root below-root none) 0 0 [] 0 0 (firstWord c)
   unfolding placeOf packed ownCells
   root-visit u eu sets es c ch says firsts ends uses cells ix room =
       rw (eu, es) record {
-        holds = subst (λ (f : Forest). Holds (P .ports) bytes firsts ends uses 0 f 0 0) formula-is
+        holds = subst (λ (f : Forest). IndexHolds (P .ports) bytes firsts ends uses 0 f 0 0) formula-is
             (plan-holds bytes firsts ends uses P decodes (ix .firsts₀) (ix .ends₀) (ix .uses₀) (ix .firsts-are) (ix .ends-are) (ix .uses-are));
         fitting = subst (λ (f : Forest). Fitting (P .sets) f 0) formula-is (plan-fits P rules);
         tuple = empty;

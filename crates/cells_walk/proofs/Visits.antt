@@ -17,9 +17,9 @@ use Rattle.logic.proofs.Tables.{length-tuple, place-lt}
 use Rattle.table_format.specs.Rules.{treeCount}
 use Rattle.table_format.specs.inner.Index.{nodeUses, forestUses}
 use Rattle.cells_touch.specs.declared.Changed.{Changed}
-use Rattle.cells_touch.specs.inner.Hits.{meets, Marked, Says, restWord, portWord}
+use Rattle.cells_touch.specs.inner.Hits.{meets, Marked, Describes, restWord, portWord}
 use Rattle.cells_touch.proofs.Touching.{touched-meets, forest-meets, port-word-is, rest-word-is}
-use Rattle.cells_walk.specs.inner.Nodes.{NodeIs, Holds, LiteralFits, NodeFits, Fitting}
+use Rattle.cells_walk.specs.inner.Nodes.{NodeIs, IndexHolds, LiteralFits, NodeFits, Fitting}
 use Rattle.cells_walk.specs.inner.Visit.{packed, Visit, PortsVisit}
 
 -- what a fitting forest's literals are
@@ -73,7 +73,7 @@ module _ (u sets : ℕ) (ch : Change) (bytes firsts ends uses cells : List ℕ) 
   module _ (i : ℕ) (n : Node) (c s : Forest) (b d : ℕ) (e : Tuple) (place digits word : ℕ)
       (v : Visit u sets ch bytes firsts ends uses cells i (tree n c s) b d e place digits word) where
     pub node-here : NodeIs bytes firsts ends uses i n c b
-    unfolding Holds
+    unfolding IndexHolds
     node-here = v .holds .0
 
     pub fits-here : NodeFits sets n c d
@@ -90,7 +90,7 @@ module _ (u sets : ℕ) (ch : Change) (bytes firsts ends uses cells : List ℕ) 
 
     -- the later siblings
     pub visit-next : Visit u sets ch bytes firsts ends uses cells (i + suc (nodeCount c)) s (siblingFirst u n c b d) d e place digits word
-    unfolding Holds Fitting Every nodeCount cellCount siblingFirst
+    unfolding IndexHolds Fitting Every nodeCount cellCount siblingFirst
     visit-next = record {
       holds = v .holds .2;
       fitting = v .fitting .2;
@@ -104,9 +104,9 @@ module _ (u sets : ℕ) (ch : Change) (bytes firsts ends uses cells : List ℕ) 
 
     -- the children of a node that binds no variable
     pub visit-children : childDepth n d ≡ d → Visit u sets ch bytes firsts ends uses cells (suc i) c (b + u ^ d) d e place digits word
-    unfolding Holds Fitting Every nodeCount cellCount
+    unfolding IndexHolds Fitting Every nodeCount cellCount
     visit-children q = record {
-      holds = subst (λ (x : ℕ). Holds u bytes firsts ends uses (suc i) c (b + u ^ d) x) q (v .holds .1);
+      holds = subst (λ (x : ℕ). IndexHolds u bytes firsts ends uses (suc i) c (b + u ^ d) x) q (v .holds .1);
       fitting = subst (λ (x : ℕ). Every (NodeFits sets) c x) q (v .fitting .1);
       tuple = v .tuple;
       place-is = v .place-is;
@@ -119,9 +119,9 @@ module _ (u sets : ℕ) (ch : Change) (bytes firsts ends uses cells : List ℕ) 
     -- the children of a quantifier
     pub visit-ports : childDepth n d ≡ suc d → nodeUses n ≡ 0 → d < 3 → treeCount c ≡ 1
         → PortsVisit u sets ch bytes firsts ends uses cells (suc i) c (b + u ^ d) d e (place * u) digits word (getD uses i 0)
-    unfolding Holds Fitting Every nodeCount cellCount
+    unfolding IndexHolds Fitting Every nodeCount cellCount
     visit-ports q z l o = record {
-      holds = subst (λ (x : ℕ). Holds u bytes firsts ends uses (suc i) c (b + u ^ d) x) q (v .holds .1);
+      holds = subst (λ (x : ℕ). IndexHolds u bytes firsts ends uses (suc i) c (b + u ^ d) x) q (v .holds .1);
       fitting = subst (λ (x : ℕ). Every (NodeFits sets) c x) q (v .fitting .1);
       tuple = v .tuple;
       row-is = ap (λ (x : ℕ). x * u) (v .place-is);
@@ -143,7 +143,7 @@ module _ (u sets : ℕ) (ch : Change) (bytes firsts ends uses cells : List ℕ) 
         ∙ ap (λ (x : ℕ). meets x word) (sym (node-here .uses-are))
 
   -- a port below a quantifier
-  pub port-visit : (c′ : Changed) → Says u ch c′ → (i : ℕ) (f : Forest) (b d : ℕ) (e : Tuple) (row digits word used x : ℕ)
+  pub port-visit : (c′ : Changed) → Describes u ch c′ → (i : ℕ) (f : Forest) (b d : ℕ) (e : Tuple) (row digits word used x : ℕ)
       → PortsVisit u sets ch bytes firsts ends uses cells i f b d e row digits word used → x < u
       → Visit u sets ch bytes firsts ends uses cells i f b (suc d) (x ∷ e) (row + x) (digits + x * 256 ^ d) (portWord c′ word d x)
   unfolding placeOf packed
@@ -159,7 +159,7 @@ module _ (u sets : ℕ) (ch : Change) (bytes firsts ends uses cells : List ℕ) 
   }
 
   -- a forest that no port but p and q touches, where the rest of the word does not meet its uses
-  pub port-untouched : sets ≤ 16 → (c′ : Changed) → Says u ch c′ → (i : ℕ) (f : Forest) (b d : ℕ) (e : Tuple) (row digits word used x : ℕ)
+  pub port-untouched : sets ≤ 16 → (c′ : Changed) → Describes u ch c′ → (i : ℕ) (f : Forest) (b d : ℕ) (e : Tuple) (row digits word used x : ℕ)
       → PortsVisit u sets ch bytes firsts ends uses cells i f b d e row digits word used → meets used (restWord word d) ≡ false
       → x ≢ c′ .p → x ≢ c′ .q → forestHit ch f (x ∷ e) ≡ false
   port-untouched h c′ says i f b d e row digits word used x v m np nq =

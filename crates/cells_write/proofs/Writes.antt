@@ -28,7 +28,7 @@ use Rattle.cells_walk.proofs.KindOf.{quantifier-of, joint-of, literal-of}
 use Rattle.cells_walk.proofs.Visits.{visit-next, port-visit, port-untouched}
 use Rattle.cells_walk.proofs.Ports.{Reached, reached-first, reached-next, reached-all}
 use Rattle.cells_walk.proofs.Outcomes.{trees-more, one-tree, port-more}
-use Rattle.cells_try.specs.inner.Walking.{Ready, CellReady, CellGives, TreesReady, TreesGive, PortsReady, PortsSo}
+use Rattle.cells_try.specs.inner.Walking.{WalkReady, CellReady, CellGives, TreesReady, TreesGive, PortsReady, PortsSo}
 use Rattle.cells_try.proofs.Remaining.{Remaining, remains-first, remains-next}
 use Rattle.cells_try.proofs.Walking.{no-children, here, fits, touched-is, ports-here, trees-here, end-here, rest-few, none-left, next-ready, port-ready, ports-begin, sums, skip-to}
 use Rattle.cells_write.specs.inner.Writing.{CellWrites, TreesWrite, PortsWrite}
@@ -106,7 +106,7 @@ module _ (u sets : ℕ) (c : Changed) (bytes firsts ends uses masks : List ℕ) 
 
   -- What is asked of a table holds of one that is as long and whose numbers fit.
   module _ (old new : List ℕ) (fit : CellsFit new) (long : length new ≡ length old) where
-    ready-kept : (ch : Change) → Ready u sets c firsts ends uses masks old ch → Ready u sets c firsts ends uses masks new ch
+    ready-kept : (ch : Change) → WalkReady u sets c firsts ends uses masks old ch → WalkReady u sets c firsts ends uses masks new ch
     ready-kept ch r = record { says = r .says; masks-settled = r .masks-settled; cells-fit = fit; long = r .long }
 
     visit-kept : (ch : Change) (i : ℕ) (f : Forest) (b d : ℕ) (e : Tuple) (place digits word : ℕ)
@@ -195,7 +195,7 @@ module _ (u sets : ℕ) (c : Changed) (bytes firsts ends uses masks : List ℕ) 
         -- a touched cell gets its number after the cells below it have got theirs
         module _ (m : meets used word ≡ true) (kind : ℕ) (kd : kind ≡ kindField (recordAt bytes i)) (r : After) (gives : Gives r) (value : ℕ) (is : r .value ≡ value)
             (mid new : List ℕ) (put : new ≡ set mid (getD firsts i 0 + place) value) where
-          module _ (ch : Change) (n : Node) (f s : Forest) (b : ℕ) (e : Tuple) (ready : Ready u sets c firsts ends uses masks cells ch)
+          module _ (ch : Change) (n : Node) (f s : Forest) (b : ℕ) (e : Tuple) (ready : WalkReady u sets c firsts ends uses masks cells ch)
               (v : Visit u sets ch bytes firsts ends uses cells i (tree n f s) b d e place digits word) where
             kind-here : kind ≡ kindNumber n
             kind-here = kd ∙ here u sets c bytes firsts ends uses masks cells i d place digits word ch n f s b e ready v .kind-is
@@ -258,7 +258,7 @@ module _ (u sets : ℕ) (c : Changed) (bytes firsts ends uses masks : List ℕ) 
 
       module _ (next : ℕ) (nx : next ≡ getD ends i 0) (mid : List ℕ) (fit : CellsFit mid) (long : length mid ≡ length cells)
           (first : CellWrites u sets c bytes firsts ends uses masks cells i d place digits word mid) (more : i < until) where
-        module _ (ch : Change) (n : Node) (f s : Forest) (b : ℕ) (e : Tuple) (ready : Ready u sets c firsts ends uses masks cells ch)
+        module _ (ch : Change) (n : Node) (f s : Forest) (b : ℕ) (e : Tuple) (ready : WalkReady u sets c firsts ends uses masks cells ch)
             (v : Visit u sets ch bytes firsts ends uses cells i (tree n f s) b d e place digits word) where
           visit-later : Visit u sets ch bytes firsts ends uses mid next s (siblingFirst u n f b d) d e place digits word
           visit-later =
@@ -323,14 +323,14 @@ module _ (u sets : ℕ) (c : Changed) (bytes firsts ends uses masks : List ℕ) 
       module _ (x : ℕ) (low : x < u) (digits′ word′ : ℕ) (dg : digits′ ≡ digits + x * 256 ^ d) (wd : word′ ≡ portWord c word d x)
           (mid : List ℕ) (fit : CellsFit mid) (long : length mid ≡ length cells) (before : PortsTo x mid) where
         -- what is known of the trees at port x, in the table where the ports below it are written
-        module _ (ch : Change) (f : Forest) (b : ℕ) (e : Tuple) (ready : Ready u sets c firsts ends uses masks cells ch)
+        module _ (ch : Change) (f : Forest) (b : ℕ) (e : Tuple) (ready : WalkReady u sets c firsts ends uses masks cells ch)
             (v : PortsVisit u sets ch bytes firsts ends uses cells i f b d e row digits word used) where
           visit-port : Visit u sets ch bytes firsts ends uses mid i f b (d + 1) (x ∷ e) (row + x) digits′ word′
           visit-port =
               visit-kept cells mid fit long ch i f b (d + 1) (x ∷ e) (row + x) digits′ word′
               (rw (add-one d, dg, wd) (port-visit u sets ch bytes firsts ends uses cells c (ready .says) i f b d e row digits word used x v low))
 
-          ready-port : Ready u sets c firsts ends uses masks mid ch
+          ready-port : WalkReady u sets c firsts ends uses masks mid ch
           ready-port = ready-kept cells mid fit long ch ready
 
         ports-follow : (add : Bool) (acc sum r : Sum) (found : After) → So add x acc sum

@@ -21,7 +21,7 @@ use Rattle.contracts.specs.Load.{loadNumber, loadGrounds, loadOr, loadPl
 use Rattle.contracts.proofs.LoadAnswers.{load-cells}
 use Rattle.contracts.specs.Book.{Book, firstBook, bookStep}
 use Rattle.contracts.specs.Lists.{Exchange, Run, ended, called, feed, bookAfter, bookCells, AllRight}
-use Rattle.contracts.proofs.Steps.{either-ground, Holds, own-holds, step-right}
+use Rattle.contracts.proofs.Steps.{either-ground, StateHolds, own-holds, step-right}
 
 -- an accepted load's answer is no refusal
 refused-not : (number root total : ℕ) (s s′ : State) → _≡_ {A = Loaded × State} (Refused (suc number), s) (Accepted root total, s′) → ⊥
@@ -58,7 +58,7 @@ module _ (P : Plan) (before s : State) (root total : ℕ) (h : loads (sound P) b
           (sym (ap (λ (x : ℕ). let r = loadOr x P (ownTables P before) in (r .0, withRest P (r .1) before)) e) ∙ h))
 
   -- The tables as an accepted load leaves them hold what they must.
-  pub load-holds : Holds P (firstBook P s) (drop (ownMasks P) (before .masks)) (drop (ownCells P) (before .cells)) s
+  pub load-holds : StateHolds P (firstBook P s) (drop (ownMasks P) (before .masks)) (drop (ownCells P) (before .cells)) s
   unfolding loadGrounds refusal bookCells spelled firstBook
   load-holds =
       let short = ltb (length (before .masks)) (ownMasks P) in
@@ -69,7 +69,7 @@ module _ (P : Plan) (before s : State) (root total : ℕ) (h : loads (sound P) b
       let w = either-ground (not (allWithin (P .ports) own)) 12 0 (g .1) in
       let left = tables (before .masks) (bookCells P (inMasks own) ++ tail-cells) in
       let e : s ≡ left = sym (ap (λ (t : Loaded × State). t .1) h) ∙ load-cells before P load-free in
-      subst (λ (t : State). Holds P (firstBook P t) tail-masks tail-cells t) (sym e)
+      subst (λ (t : State). StateHolds P (firstBook P t) tail-masks tail-cells t) (sym e)
       (own-holds P (firstBook P left) tail-masks tail-cells left (tables own (bookCells P (inMasks own)))
       record {
         spells = refl;
@@ -81,8 +81,8 @@ module _ (P : Plan) (before s : State) (root total : ℕ) (h : loads (sound P) b
 
 -- A list of calls from any tables that hold what they must.
 pub run-right : (bytes : List ℕ) (P : Plan) → decode bytes ≡ sound P → (b : Book) (tail-masks tail-cells : List ℕ)
-    → (s : State) (xs : List Exchange) (s″ : State) → Holds P b tail-masks tail-cells s → Run bytes s xs s″
-    → AllRight P b xs × Holds P (bookAfter P b xs) tail-masks tail-cells s″
+    → (s : State) (xs : List Exchange) (s″ : State) → StateHolds P b tail-masks tail-cells s → Run bytes s xs s″
+    → AllRight P b xs × StateHolds P (bookAfter P b xs) tail-masks tail-cells s″
 unfolding AllRight bookAfter
 run-right bytes P d b tm tc s xs s″ h ended = (tt, h)
 run-right bytes P d b tm tc s xs s″ h (called {s′ = s′} {x = x} {xs = rest} y r) =

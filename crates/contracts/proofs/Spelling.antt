@@ -13,7 +13,7 @@ use Rattle.logic.specs.Formula.{Plan}
 use Rattle.logic.specs.Configuration.{Sets, inMask, inMasks, ownMasks}
 use Rattle.contracts.specs.State.{State}
 use Rattle.contracts.specs.Book.{Book}
-use Rattle.contracts.specs.Lists.{Kept}
+use Rattle.contracts.specs.Lists.{AsBook}
 
 digit-same : (a b : ℕ) → a < 2 → b < 2 → eqb a 1 ≡ eqb b 1 → a ≡ b
 digit-same zero zero h l e = refl
@@ -61,7 +61,7 @@ masks-same (m ∷ ms) (m′ ∷ ms′) l e = ap₂ _∷_ (mask-same m m′ (e 0)
 
 -- The book's sets and the tails say what every mask and every cell is.
 pub kept-same : (P : Plan) (b : Book) (tail-masks tail-cells : List ℕ) (s s′ : State)
-    → Kept P b tail-masks tail-cells s → Kept P b tail-masks tail-cells s′ → s ≡ s′
+    → AsBook P b tail-masks tail-cells s → AsBook P b tail-masks tail-cells s′ → s ≡ s′
 kept-same P b tail-masks tail-cells s s′ h h′ = λ i. record { masks = m i; cells = (h .cells-are ∙ sym (h′ .cells-are)) i }
   where
     n : ℕ

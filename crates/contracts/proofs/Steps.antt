@@ -28,7 +28,7 @@ use Rattle.contracts.specs.MoveCall.{tableGrounds, moveCallGrounds, cell
 use Rattle.contracts.specs.TrialCall.{trialOr, trialPlan, trials}
 use Rattle.contracts.specs.ImproveCall.{improveGrounds, rootNow, rootAfter, MadeBest, NoneBetter, Chosen, ImprovesOr, ImprovesPlan, Improves}
 use Rattle.contracts.specs.Book.{Book, fedMove, bookMade, movedBook, chosenStep, bookStep}
-use Rattle.contracts.specs.Lists.{Exchange, moveCall, trialCall, improveCall, Step, feed, bookRoot, bookCells, NumbersRight, MovedRight, scratchGround, BestMade, NoneLowers, ImprovedRight, Right, Kept}
+use Rattle.contracts.specs.Lists.{Exchange, moveCall, trialCall, improveCall, Step, feed, bookRoot, bookCells, NumbersRight, MovedRight, scratchGround, BestMade, NoneLowers, ImprovedRight, Right, AsBook}
 use Rattle.contracts.proofs.Within.{move-within, move-length}
 use Rattle.logic.proofs.Changed as changed
 use Rattle.contracts.specs.declared.Improved.the-variants as improved
@@ -219,8 +219,8 @@ module _ (P : Plan) (facts : PlanFacts P) where
       o (improve-at kinds (own .masks) (o .enough) (o .within) g r own′)
 
 -- What stands before and after each call of a list: masks and cells are the book's, and no mask has a port of u or more.
-pub record Holds (P : Plan) (b : Book) (tail-masks tail-cells : List ℕ) (s : State) : Type 0 where
-  pub kept : Kept P b tail-masks tail-cells s
+pub record StateHolds (P : Plan) (b : Book) (tail-masks tail-cells : List ℕ) (s : State) : Type 0 where
+  pub kept : AsBook P b tail-masks tail-cells s
   pub within : allWithin (P .ports) (take (ownMasks P) (s .masks)) ≡ true
   pub enough-cells : ownCells P ≤ length (s .cells)
 
@@ -233,7 +233,7 @@ long-enough own rest n l = rw (length-append own rest) (omega arith)
 
 module _ (P : Plan) (b : Book) (tail-masks tail-cells : List ℕ) (s : State) where
   -- the plan's own parts of tables that hold what they must
-  pub holds-own : Holds P b tail-masks tail-cells s → OwnKept P b (ownTables P s)
+  pub holds-own : StateHolds P b tail-masks tail-cells s → OwnKept P b (ownTables P s)
   unfolding ownTables
   holds-own h = record {
     spells = h .kept .masks-are;
@@ -244,17 +244,17 @@ module _ (P : Plan) (b : Book) (tail-masks tail-cells : List ℕ) (s : State) wh
   }
 
   -- and the rest of the cell table
-  holds-rest : Holds P b tail-masks tail-cells s → drop (ownCells P) (s .cells) ≡ tail-cells
+  holds-rest : StateHolds P b tail-masks tail-cells s → drop (ownCells P) (s .cells) ≡ tail-cells
   holds-rest h =
       ap (drop (ownCells P)) (h .kept .cells-are) ∙ drop-at (bookCells P (b .sets)) tail-cells (ownCells P) (length-book P (b .sets))
 
   -- the plan's own part written anew has the same behind it
-  pub rest-is : Holds P b tail-masks tail-cells s → (own : State) → withRest P own s ≡ tables (own .masks ++ tail-masks) (own .cells ++ tail-cells)
+  pub rest-is : StateHolds P b tail-masks tail-cells s → (own : State) → withRest P own s ≡ tables (own .masks ++ tail-masks) (own .cells ++ tail-cells)
   unfolding withRest
   rest-is h own = λ i. tables (own .masks ++ h .kept .masks-tail i) (own .cells ++ holds-rest h i)
 
   pub own-holds : (own : State) → OwnKept P b own → s ≡ tables (own .masks ++ tail-masks) (own .cells ++ tail-cells)
-      → Holds P b tail-masks tail-cells s
+      → StateHolds P b tail-masks tail-cells s
   own-holds own o e = record {
     kept = record {
       enough-masks = rw m (long-enough (own .masks) tail-masks (ownMasks P) (o .enough));
@@ -275,9 +275,9 @@ module _ (P : Plan) (b : Book) (tail-masks tail-cells : List ℕ) (s : State) wh
       front : take (ownMasks P) (s .masks) ≡ own .masks
       front = ap (take (ownMasks P)) m ∙ take-at (own .masks) tail-masks (ownMasks P) (o .enough)
 
-module _ (P : Plan) (facts : PlanFacts P) (b : Book) (tail-masks tail-cells : List ℕ) (s s′ : State) (h : Holds P b tail-masks tail-cells s) where
+module _ (P : Plan) (facts : PlanFacts P) (b : Book) (tail-masks tail-cells : List ℕ) (s s′ : State) (h : StateHolds P b tail-masks tail-cells s) where
   move-step : (m : Move) (r : Moved) → (r, s′) ≡ moves (sound P) m s
-      → MovedRight (refusal (moveGrounds P (b .sets) m)) P (b .sets) m r × Holds P (bookStep P b (fedMove m)) tail-masks tail-cells s′
+      → MovedRight (refusal (moveGrounds P (b .sets) m)) P (b .sets) m r × StateHolds P (bookStep P b (fedMove m)) tail-masks tail-cells s′
   unfolding moves movePlan moveCallGrounds refusal someOf
   move-step m r e =
       let masks = take (ownMasks P) (s .masks) in
@@ -309,7 +309,7 @@ module _ (P : Plan) (facts : PlanFacts P) (b : Book) (tail-masks tail-cells : Li
 
   improve-step : (kinds : ℕ) (scratch : List ℕ) (r : Improved) → Improves (sound P) kinds s (length scratch) r s′
       → ImprovedRight (refusal (scratchGround P scratch ∷ (14, not (kindsKnown kinds)) ∷ [])) P (b .sets) kinds r
-      × Holds P (chosenStep P b r) tail-masks tail-cells s′
+      × StateHolds P (chosenStep P b r) tail-masks tail-cells s′
   unfolding Improves ImprovesPlan improveGrounds
   improve-step kinds scratch r x =
       let own = ownTables P s in
@@ -325,17 +325,17 @@ module _ (P : Plan) (facts : PlanFacts P) (b : Book) (tail-masks tail-cells : Li
 
   -- a call of each kind
   step-at : (bytes : List ℕ) → decode bytes ≡ sound P → (x : Exchange) → Step bytes s x s′
-      → Right P b x × Holds P (bookStep P b (feed x)) tail-masks tail-cells s′
+      → Right P b x × StateHolds P (bookStep P b (feed x)) tail-masks tail-cells s′
   unfolding Step Right feed bookStep
   step-at bytes d (moveCall m r) e = move-step m r (e ∙ ap (λ (y : Decoded). moves y m s) d)
   step-at bytes d (trialCall m scratch r) e =
-      (trial-step m scratch r (e .0 ∙ ap (λ (y : Decoded). trials y m s (length scratch)) d), subst (Holds P b tail-masks tail-cells) (sym (e .1)) h)
+      (trial-step m scratch r (e .0 ∙ ap (λ (y : Decoded). trials y m s (length scratch)) d), subst (StateHolds P b tail-masks tail-cells) (sym (e .1)) h)
   step-at bytes d (improveCall kinds scratch r) e =
       improve-step kinds scratch r (subst (λ (y : Decoded). Improves y kinds s (length scratch) r s′) d e)
 
 -- One call: its answer is right under the book before it, and afterwards masks and cells are those of the next book.
 pub step-right : (bytes : List ℕ) (P : Plan) → decode bytes ≡ sound P → (b : Book) (tail-masks tail-cells : List ℕ) (s s′ : State)
-    → Holds P b tail-masks tail-cells s → (x : Exchange) → Step bytes s x s′
-    → Right P b x × Holds P (bookStep P b (feed x)) tail-masks tail-cells s′
+    → StateHolds P b tail-masks tail-cells s → (x : Exchange) → Step bytes s x s′
+    → Right P b x × StateHolds P (bookStep P b (feed x)) tail-masks tail-cells s′
 step-right bytes P d b tail-masks tail-cells s s′ h =
     step-at P (plan-facts P (decode-sound bytes P d .rules)) b tail-masks tail-cells s s′ h bytes d

@@ -107,7 +107,7 @@ AllRight P b [] = Unit {0}
 AllRight P b (x ∷ xs) = Right P b x × AllRight P (bookStep P b (feed x)) xs
 
 -- "The masks of demand 3 are the book's sets", the tail as it was; every cell is the penalty under them, the tail as it was.
-pub record Kept (P : Plan) (b : Book) (tail-masks tail-cells : List ℕ) (s : State) : Type 0 where
+pub record AsBook (P : Plan) (b : Book) (tail-masks tail-cells : List ℕ) (s : State) : Type 0 where
   pub enough-masks : ownMasks P ≤ length (s .masks)
   pub masks-are : inMasks (take (ownMasks P) (s .masks)) ≡ b .sets
   pub masks-tail : drop (ownMasks P) (s .masks) ≡ tail-masks

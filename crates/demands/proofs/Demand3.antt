@@ -19,7 +19,7 @@ use Rattle.contracts.specs.Load.{loads}
 use Rattle.contracts.specs.declared.Improved.{Improved}
 use Rattle.contracts.specs.State.{State}
 use Rattle.contracts.specs.Book.{firstBook, bookMade}
-use Rattle.contracts.specs.Lists.{Exchange, Run, bookAfter, bookRoot, ImprovedRight, AllRight, Kept}
+use Rattle.contracts.specs.Lists.{Exchange, Run, bookAfter, bookRoot, ImprovedRight, AllRight, AsBook}
 use Rattle.contracts.proofs.Lists.{load-holds, run-right}
 use Rattle.contracts.specs.declared.Improved.the-variants as improved
 
@@ -29,7 +29,7 @@ use Rattle.contracts.specs.declared.Improved.the-variants as improved
 pub lists-right : (bytes : List ℕ) (before loaded : State) (root total : ℕ) → loads (decode bytes) before ≡ (Accepted root total, loaded)
     → (P : Plan) → decode bytes ≡ sound P → (xs : List Exchange) (s : State) → Run bytes loaded xs s
     → AllRight P (firstBook P loaded) xs
-    × Kept P (bookAfter P (firstBook P loaded) xs) (drop (ownMasks P) (before .masks)) (drop (ownCells P) (before .cells)) s
+    × AsBook P (bookAfter P (firstBook P loaded) xs) (drop (ownMasks P) (before .masks)) (drop (ownCells P) (before .cells)) s
 lists-right bytes before loaded root total h P d xs s r =
     let l = sym (ap (λ (x : Decoded). loads x before) d) ∙ h in
     let q = run-right bytes P d (firstBook P loaded) (drop (ownMasks P) (before .masks)) (drop (ownCells P) (before .cells))
@@ -58,6 +58,6 @@ pub work-right : (bytes : List ℕ) (before loaded : State) (root total : ℕ) �
     → (P : Plan) → decode bytes ≡ sound P → (calls scratch answers : List ℕ) (count : ℕ) (s : State) (scratch′ answers′ : List ℕ)
     → (w : Worked bytes calls loaded scratch answers count s scratch′ answers′)
     → AllRight P (firstBook P loaded) (w .exchanges)
-    × Kept P (bookAfter P (firstBook P loaded) (w .exchanges)) (drop (ownMasks P) (before .masks)) (drop (ownCells P) (before .cells)) s
+    × AsBook P (bookAfter P (firstBook P loaded) (w .exchanges)) (drop (ownMasks P) (before .masks)) (drop (ownCells P) (before .cells)) s
 work-right bytes before loaded root total h P d calls scratch answers count s scratch′ answers′ w =
     lists-right bytes before loaded root total h P d (w .exchanges) s (w .run)

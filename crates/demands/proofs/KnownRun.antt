@@ -27,7 +27,7 @@ use Rattle.contracts.specs.declared.Improved.{Improved}
 use Rattle.contracts.specs.MoveCall.{tableGrounds, moveCallGrounds, cellsAfter, moveAnswer, tablesAfter, moveOr, movePlan, moves}
 use Rattle.contracts.specs.TrialCall.{trialOr, trialPlan, trials}
 use Rattle.contracts.specs.ImproveCall.{improveGrounds, rootNow, rootAfter, Chosen, ImprovesOr, ImprovesPlan, Improves}
-use Rattle.contracts.specs.Lists.{Exchange, moveCall, trialCall, improveCall, Step, Run, ended, called, bookAfter, AllRight, Kept}
+use Rattle.contracts.specs.Lists.{Exchange, moveCall, trialCall, improveCall, Step, Run, ended, called, bookAfter, AllRight, AsBook}
 use Rattle.demands.proofs.Demand3.{lists-right}
 use Rattle.contracts.specs.declared.Moved.the-variants as moved
 use Rattle.contracts.specs.declared.Loaded.the-variants as loaded
@@ -254,7 +254,7 @@ known-run-improve =
 
 -- Demand 3's theorem at the first list: what it promises of a list that there is.
 pub known-list-right : AllRight planA (firstBook planA stateA) knownExchanges
-    × Kept planA (bookAfter planA (firstBook planA stateA) knownExchanges) (255 ∷ []) (77 ∷ []) stateDrop
+    × AsBook planA (bookAfter planA (firstBook planA stateA) knownExchanges) (255 ∷ []) (77 ∷ []) stateDrop
 unfolding ownMasks ownCells cellCount childDepth planA plan over literal
 known-list-right =
     lists-right bytesA unloaded stateA 1 34 known-load planA decode-A

@@ -29,21 +29,21 @@ hits [] = 0
 hits (x ∷ xs) = indicator (x .hit) + hits xs
 
 -- cells that are not touched keep their number
-unfoldable pub Kept : List Renewal → Type 0
-Kept [] = Unit {0}
-Kept (x ∷ xs) = (x .hit ≡ false → x .new ≡ x .old) × Kept xs
+unfoldable pub KeptCells : List Renewal → Type 0
+KeptCells [] = Unit {0}
+KeptCells (x ∷ xs) = (x .hit ≡ false → x .new ≡ x .old) × KeptCells xs
 
-kept-append : (xs ys : List Renewal) → Kept xs → Kept ys → Kept (xs ++ ys)
-unfolding Kept
+kept-append : (xs ys : List Renewal) → KeptCells xs → KeptCells ys → KeptCells (xs ++ ys)
+unfolding KeptCells
 kept-append [] ys h k = k
 kept-append (x ∷ xs) ys h k = (h .0, kept-append xs ys (h .1) k)
 
-kept-ports : (u : ℕ) (g : ℕ → List Renewal) → ((p : ℕ) → Kept (g p)) → Kept (eachPort u g)
-unfolding Kept eachPort
+kept-ports : (u : ℕ) (g : ℕ → List Renewal) → ((p : ℕ) → KeptCells (g p)) → KeptCells (eachPort u g)
+unfolding KeptCells eachPort
 kept-ports zero g H = tt
 kept-ports (suc u) g H = kept-append (eachPort u g) (g u) (kept-ports u g H) (H u)
 
-kept-below : (u : ℕ) (n : Node) (e : Tuple) (g : Tuple → List Renewal) → ((x : Tuple) → Kept (g x)) → Kept (below u n e g)
+kept-below : (u : ℕ) (n : Node) (e : Tuple) (g : Tuple → List Renewal) → ((x : Tuple) → KeptCells (g x)) → KeptCells (below u n e g)
 unfolding below
 kept-below u root e g H = H e
 kept-below u all e g H = kept-ports u _ (λ p. H (p ∷ e))
@@ -55,8 +55,8 @@ kept-below u (lit l) e g H = H e
 cond-false : (b : Bool) (x y : ℕ) → b ≡ false → cond b x y ≡ y
 cond-false b x y h = ap (λ (a : Bool). cond a x y) h
 
-kept-renewals : (u : ℕ) (k : Configuration) (ch : Change) (t : OldCells) (f : Forest) (b d : ℕ) (e : Tuple) → Kept (renewals u k ch t f b d e)
-unfolding Kept renewals
+kept-renewals : (u : ℕ) (k : Configuration) (ch : Change) (t : OldCells) (f : Forest) (b d : ℕ) (e : Tuple) → KeptCells (renewals u k ch t f b d e)
+unfolding KeptCells renewals
 kept-renewals u k ch t none b d e = tt
 kept-renewals u k ch t (tree n c s) b d e =
     ((λ h. cond-false (touched ch n c e) _ (t b e) h), kept-renewals u k ch t s (siblingFirst u n c b d) d e)
@@ -67,16 +67,16 @@ unfolding modulus indicator
 difference-step true o w D so sw n h l e = omega arith
 difference-step false o w D so sw n h l e = omega (arith, h refl)
 
-differences-sum : (xs : List Renewal) → Kept xs → sum (oldNumbers xs) ≤ modulus
+differences-sum : (xs : List Renewal) → KeptCells xs → sum (oldNumbers xs) ≤ modulus
     → sum (oldNumbers xs) + differences xs ≡ sum (newNumbers xs) + hits xs * modulus
-unfolding sum differences newNumbers hits Kept
+unfolding sum differences newNumbers hits KeptCells
 differences-sum [] g h = omega arith
 differences-sum (x ∷ xs) g h =
     difference-step (x .hit) (x .old) (x .new) (differences xs) (sum (oldNumbers xs)) (sum (newNumbers xs)) (hits xs) (g .0) h
     (differences-sum xs (g .1) (omega arith))
 
 -- adding the differences modulo 2^32 is exact where the true sums are below it
-pub exact : (xs : List Renewal) → Kept xs → sum (oldNumbers xs) < modulus → sum (newNumbers xs) < modulus
+pub exact : (xs : List Renewal) → KeptCells xs → sum (oldNumbers xs) < modulus → sum (newNumbers xs) < modulus
     → (sum (oldNumbers xs) + differences xs) % modulus ≡ sum (newNumbers xs)
 exact xs g h k =
     ap (λ (a : ℕ). a % modulus) (differences-sum xs g (omega arith))
@@ -89,7 +89,7 @@ HoldsPenalties u k t (tree n c s) b d =
     ((e : Tuple) → TupleOf u d e → t b e ≡ penalty u k n c e)
     × HoldsPenalties u k t c (b + u ^ d) (childDepth n d) × HoldsPenalties u k t s (siblingFirst u n c b d) d
 
-renew-is : (k k′ : Configuration) (n : Node) (e : Tuple) (o : ℕ) (xs : List Renewal) → Kept xs → o ≡ combine k n e (oldNumbers xs)
+renew-is : (k k′ : Configuration) (n : Node) (e : Tuple) (o : ℕ) (xs : List Renewal) → KeptCells xs → o ≡ combine k n e (oldNumbers xs)
     → sum (oldNumbers xs) < modulus → sum (newNumbers xs) < modulus → renew k′ n e o xs ≡ combine k′ n e (newNumbers xs)
 unfolding renew combine
 renew-is k k′ root e o xs g h a b = refl

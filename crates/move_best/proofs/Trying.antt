@@ -19,7 +19,7 @@ use Rattle.table_format.specs.inner.Facts.{PlanFacts}
 use Rattle.table_format.proofs.Encoding.{decode-sound, one-plan}
 use Rattle.table_format.proofs.Facts.{plan-facts}
 use Rattle.cells_touch.specs.declared.Changed.{Changed}
-use Rattle.cells_touch.specs.inner.Hits.{Says, Tells}
+use Rattle.cells_touch.specs.inner.Hits.{Describes, Tells}
 use Rattle.cells_sum.specs.declared.After.{After}
 use Rattle.cells_walk.specs.inner.Visit.{MasksSettled}
 use Rattle.cells_walk.specs.inner.Root.{RootReady, RootGives}
@@ -147,10 +147,10 @@ module _ (ports sets : ℕ) (bytes firsts ends uses masks cells : List ℕ) (rea
         }
 
     -- what the code tells of the move's change
-    told : (c : Changed) → Tells m c → Says ports (pairsChange (movePairs P (inMasks own) m)) c
+    told : (c : Changed) → Tells m c → Describes ports (pairsChange (movePairs P (inMasks own) m)) c
     unfolding Tells
     told c tells =
-        subst (λ (j : ℕ). Says j (pairsChange (movePairs P (inMasks own) m)) c) (sym (ready .opened .ports-are)) (tells P (inMasks own) (facts .sets16) is-known)
+        subst (λ (j : ℕ). Describes j (pairsChange (movePairs P (inMasks own) m)) c) (sym (ready .opened .ports-are)) (tells P (inMasks own) (facts .sets16) is-known)
 
     pub try-ready : (c : Changed) → Tells m c → (after : List ℕ) → after ≡ namedMasks m (take sets masks)
         → RootReady ports sets c bytes firsts ends uses after cells

@@ -11,7 +11,7 @@ use Rattle.logic.specs.declared.Move.{Move}
 use Rattle.logic.specs.Formula.{Plan}
 use Rattle.logic.specs.Moves.{moveKind, fieldsKnown, known}
 use Rattle.logic.proofs.Lists.{and-left, and-right, and-true}
-use Rattle.move_legal.specs.inner.Legal.{tEnd, qEnd, Fields, SaysKnown, Says}
+use Rattle.move_legal.specs.inner.Legal.{tEnd, qEnd, Fields, SaysKnown, Decides}
 
 four : (a b c d : Bool) → (a && b && c && d) ≡ true → (a ≡ true) × (b ≡ true) × (c ≡ true) × (d ≡ true)
 four a b c d h =
@@ -99,18 +99,18 @@ never true n = absurd (n refl)
 never false n = refl
 
 -- what the test of the fields says of ground 14
-pub says-known : (r : Bool) (ports sets : ℕ) (m : Move) → Says r (Fields ports sets m) → SaysKnown ports sets m r
-unfolding Says SaysKnown
+pub says-known : (r : Bool) (ports sets : ℕ) (m : Move) → Decides r (Fields ports sets m) → SaysKnown ports sets m r
+unfolding Decides SaysKnown
 says-known true ports sets m F = λ P e f. sym (fields-known P m (fields-here P ports sets m e f F))
 says-known false ports sets m n = λ P e f. sym (never (known P m) (λ h. n (fields-there P ports sets m e f (known-fields P m h))))
 
 -- the last of the tests of the fields
 pub says-fields : (ports sets : ℕ) (m : Move) → (m .kind ≡ 0 → ⊥) → m .kind ≤ 4 → m .s < sets → m .t < tEnd (m .kind) sets → m .p < ports
-    → Says (ltb (m .q) (qEnd (m .kind) ports)) (Fields ports sets m)
-unfolding Says
+    → Decides (ltb (m .q) (qEnd (m .kind) ports)) (Fields ports sets m)
+unfolding Decides
 says-fields ports sets m z h s t p = go (decLt (m .q) (qEnd (m .kind) ports))
   where
-    go : Dec (m .q < qEnd (m .kind) ports) → Says (ltb (m .q) (qEnd (m .kind) ports)) (Fields ports sets m)
+    go : Dec (m .q < qEnd (m .kind) ports) → Decides (ltb (m .q) (qEnd (m .kind) ports)) (Fields ports sets m)
     go (yes l) = rw (lt-ltb _ _ l) (record {
       kind-low = omega arith;
       kind-high = h;
@@ -134,12 +134,12 @@ pub last-kind : (ports sets : ℕ) (m : Move) → Fields ports sets m → m .kin
 last-kind ports sets m F a b c = let l = F .kind-low in let h = F .kind-high in omega (arith, l, h, a, b, c)
 
 -- what a test that holds, or fails, has said
-pub says-yes : (r : Bool) (A : Type 0) → Says r A → r ≡ true → A
-unfolding Says
+pub says-yes : (r : Bool) (A : Type 0) → Decides r A → r ≡ true → A
+unfolding Decides
 says-yes true A h e = h
 says-yes false A h e = absurd (false≢true e)
 
-pub says-no : (r : Bool) (A : Type 0) → Says r A → r ≡ false → A → ⊥
-unfolding Says
+pub says-no : (r : Bool) (A : Type 0) → Decides r A → r ≡ false → A → ⊥
+unfolding Decides
 says-no true A h e = absurd (true≢false e)
 says-no false A h e = h

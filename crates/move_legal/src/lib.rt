@@ -8,7 +8,7 @@ ghost use Prim.Native.Nat.{_≤_, _<_};
 ghost use lib.ListN.{length, take};
 ghost use Rattle.logic.specs.Configuration.{inMasks};
 ghost use Rattle.logic.specs.Moves.{fits};
-ghost use Rattle.move_legal.specs.inner.Legal.{Fields, MoveNumber, tEnd, MoveReady, qEnd, Says, SaysKnown, KnownOver};
+ghost use Rattle.move_legal.specs.inner.Legal.{Fields, MoveNumber, tEnd, MoveReady, qEnd, Decides, SaysKnown, KnownOver};
 
 // A number of ports or sets at the width of a move's fields.
 pub fn narrow(x: usize) -> u32
@@ -40,7 +40,7 @@ pub fn q_end(kind: u32, ports: u32) -> u32
 
 // Whether each field of a move is one that its kind can have.
 pub fn has_fields(m: Move, ports: u32, sets: u32) -> bool
-    ensures { λ r. ⌜ Says r (Fields ports sets m) ⌝ }
+    ensures { λ r. ⌜ Decides r (Fields ports sets m) ⌝ }
 {
     if m.kind == 0 {
         return false;

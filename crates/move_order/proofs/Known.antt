@@ -12,7 +12,7 @@ use Rattle.logic.specs.Moves.{moveKind, known, fits, legal, kindWeight, ofKinds
 use Rattle.logic.proofs.Lists.{and-left, and-right, and-true}
 use Rattle.contracts.specs.ImproveCall.{Candidate}
 use Rattle.move_order.specs.inner.Stepping.{Suits}
-use Rattle.move_legal.specs.inner.Legal.{Fields, Says}
+use Rattle.move_legal.specs.inner.Legal.{Fields, Decides}
 use Rattle.move_legal.proofs.Known.{fields-known, fields-here, known-fields, fields-there}
 
 pub suits-candidate : (P : Plan) (ports sets kinds : ℕ) (masks : List ℕ) (m : Move) → P .ports ≡ ports → P .sets ≡ sets
@@ -34,8 +34,8 @@ candidate-suits P ports sets kinds masks m e f C = record {
 
 -- the last of the tests of a candidate
 pub says-suits : (ports sets kinds : ℕ) (masks : List ℕ) (m : Move) (r : Bool) → ofKinds kinds m ≡ true → Fields ports sets m
-    → r ≡ fits (inMasks (take sets masks)) m → Says r (Suits ports sets kinds masks m)
-unfolding Says
+    → r ≡ fits (inMasks (take sets masks)) m → Decides r (Suits ports sets kinds masks m)
+unfolding Decides
 says-suits ports sets kinds masks m true k F e = record { of-kinds = k; fields = F; fitting = sym e }
 says-suits ports sets kinds masks m false k F e = λ (S : Suits ports sets kinds masks m). true≢false (sym (S .fitting) ∙ sym e)
 

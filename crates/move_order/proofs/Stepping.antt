@@ -9,7 +9,7 @@ use lib.Dec.{eqb}
 use Rattle.logic.specs.declared.Move.{Move}
 use Rattle.logic.specs.Moves.{ofKinds, moveKind, kindWeight}
 use Rattle.move_order.specs.Candidates.{fieldsAre}
-use Rattle.move_order.specs.inner.Stepping.{place, Position, Begins, BeginsOver, SizedOver, Suits, NextOr, GivesNext, Steps}
+use Rattle.move_order.specs.inner.Stepping.{place, Position, Begins, BeginsOver, SizedOver, Suits, NextOr, GivesNext, StepsOn}
 use Rattle.move_legal.specs.inner.Legal.{tEnd, qEnd, Fields}
 use Rattle.move_order.proofs.Known.{suits-candidate, candidate-suits}
 use Rattle.move_order.proofs.Order.{Low, end-low, fields-low, position-low, place-same}
@@ -45,7 +45,7 @@ module _ (ports sets kinds : ℕ) (m : Move) (B : Begins ports sets m) where
 
   steps-of : (r : Move) → Position ports sets r → place m < place r → place r ≤ suc (m .kind) * 1048576
       → ((n : Move) → Fields ports sets n → n .kind ≡ m .kind → ofKinds kinds n ≡ true → place m < place n → place r ≤ place n)
-      → Steps ports sets kinds m r
+      → StepsOn ports sets kinds m r
   steps-of r X l h same = record {
     position = X;
     later = l;
@@ -81,7 +81,7 @@ module _ (ports sets kinds : ℕ) (m : Move) (B : Begins ports sets m) where
   one-kind n F e l h = let x = over-s h n F l in omega (arith, x, e)
 
   -- the five ways of a step
-  pub step-q : m .q + 1 < qEnd (m .kind) ports → Steps ports sets kinds m (fieldsAre (m .kind) (m .s) (m .t) (m .p) (m .q + 1))
+  pub step-q : m .q + 1 < qEnd (m .kind) ports → StepsOn ports sets kinds m (fieldsAre (m .kind) (m .s) (m .t) (m .p) (m .q + 1))
   unfolding fieldsAre place qEnd
   step-q h = steps-of _ (record {
     sized = B .position .sized;
@@ -92,7 +92,7 @@ module _ (ports sets kinds : ℕ) (m : Move) (B : Begins ports sets m) where
     q-below = omega (arith, h, end-low (eqb (m .kind) 4) ports (B .position .sized .ports-low));
   }) (omega arith) (omega (arith, low)) (λ n F e k g. omega (arith, g))
 
-  pub step-p : qEnd (m .kind) ports ≤ m .q + 1 → m .p + 1 < ports → Steps ports sets kinds m (fieldsAre (m .kind) (m .s) (m .t) (m .p + 1) 0)
+  pub step-p : qEnd (m .kind) ports ≤ m .q + 1 → m .p + 1 < ports → StepsOn ports sets kinds m (fieldsAre (m .kind) (m .s) (m .t) (m .p + 1) 0)
   unfolding fieldsAre place
   step-p h l = steps-of _ (record {
     sized = B .position .sized;
@@ -104,7 +104,7 @@ module _ (ports sets kinds : ℕ) (m : Move) (B : Begins ports sets m) where
   }) (omega (arith, low)) (omega (arith, low, B .position .sized)) (λ n F e k g. let x = over-q h n F e g in omega (arith, x))
 
   pub step-t : qEnd (m .kind) ports ≤ m .q + 1 → ports ≤ m .p + 1 → m .t + 1 < tEnd (m .kind) sets
-      → Steps ports sets kinds m (fieldsAre (m .kind) (m .s) (m .t + 1) 0 0)
+      → StepsOn ports sets kinds m (fieldsAre (m .kind) (m .s) (m .t + 1) 0 0)
   unfolding fieldsAre place tEnd
   step-t h i l = steps-of _ (record {
     sized = B .position .sized;
@@ -116,7 +116,7 @@ module _ (ports sets kinds : ℕ) (m : Move) (B : Begins ports sets m) where
   }) (omega (arith, low)) (omega (arith, low, B .position .sized)) (λ n F e k g. let x = over-p i n F (over-q h n F e g) in omega (arith, x))
 
   pub step-s : qEnd (m .kind) ports ≤ m .q + 1 → ports ≤ m .p + 1 → tEnd (m .kind) sets ≤ m .t + 1 → m .s + 1 < sets
-      → Steps ports sets kinds m (fieldsAre (m .kind) (m .s + 1) 0 0 0)
+      → StepsOn ports sets kinds m (fieldsAre (m .kind) (m .s + 1) 0 0 0)
   unfolding fieldsAre place
   step-s h i j l = steps-of _ (record {
     sized = B .position .sized;
@@ -129,7 +129,7 @@ module _ (ports sets kinds : ℕ) (m : Move) (B : Begins ports sets m) where
 
   -- the first position of the next kind
   next-kind : ((n : Move) → Fields ports sets n → n .kind ≡ m .kind → ofKinds kinds n ≡ true → place m < place n → ⊥)
-      → Steps ports sets kinds m (fieldsAre (m .kind + 1) 0 0 0 0)
+      → StepsOn ports sets kinds m (fieldsAre (m .kind + 1) 0 0 0 0)
   unfolding fieldsAre place
   next-kind none = steps-of _ (record {
     sized = B .position .sized;
@@ -141,10 +141,10 @@ module _ (ports sets kinds : ℕ) (m : Move) (B : Begins ports sets m) where
   }) (omega (arith, low)) (omega arith) (λ n F e k g. absurd (none n F e k g))
 
   pub step-kind : qEnd (m .kind) ports ≤ m .q + 1 → ports ≤ m .p + 1 → tEnd (m .kind) sets ≤ m .t + 1 → sets ≤ m .s + 1
-      → Steps ports sets kinds m (fieldsAre (m .kind + 1) 0 0 0 0)
+      → StepsOn ports sets kinds m (fieldsAre (m .kind + 1) 0 0 0 0)
   step-kind h i j l = next-kind (λ n F e k g. one-kind n F e (over-t j n F e (over-p i n F (over-q h n F e g))) l)
 
-  pub skip-kind : ofKinds kinds m ≡ false → Steps ports sets kinds m (fieldsAre (m .kind + 1) 0 0 0 0)
+  pub skip-kind : ofKinds kinds m ≡ false → StepsOn ports sets kinds m (fieldsAre (m .kind + 1) 0 0 0 0)
   unfolding ofKinds
   skip-kind h = next-kind (λ n F e k g. true≢false (sym k ∙ ap (λ (j : ℕ). eqb (kinds / kindWeight (moveKind j) % 2) 1) e ∙ h))
 
@@ -158,7 +158,7 @@ pub passed-none : (ports sets kinds : ℕ) (masks : List ℕ) (at₀ : Move) →
 passed-none ports sets kinds masks at₀ X = record { position = X; later = omega arith; none-between = λ n S g. g }
 
 pub passed-one : (ports sets kinds : ℕ) (masks : List ℕ) (at₀ at r : Move) → Passed ports sets kinds masks at₀ at
-    → (Suits ports sets kinds masks at → ⊥) → Steps ports sets kinds at r → Passed ports sets kinds masks at₀ r
+    → (Suits ports sets kinds masks at → ⊥) → StepsOn ports sets kinds at r → Passed ports sets kinds masks at₀ r
 passed-one ports sets kinds masks at₀ at r D n T = record {
   position = T .position;
   later = omega (arith, D .later, T .later);
@@ -173,7 +173,7 @@ passed-one ports sets kinds masks at₀ at r D n T = record {
         absurd (n (subst (Suits ports sets kinds masks) (place-same x at K (position-low ports sets at (D .position)) e) S))
 
 -- the walk ends at a candidate
-pub gives-found : (ports sets kinds : ℕ) (masks : List ℕ) (m at₀ at : Move) → Steps ports sets kinds m at₀ → Passed ports sets kinds masks at₀ at
+pub gives-found : (ports sets kinds : ℕ) (masks : List ℕ) (m at₀ at : Move) → StepsOn ports sets kinds m at₀ → Passed ports sets kinds masks at₀ at
     → Suits ports sets kinds masks at → GivesNext ports sets kinds masks m (record { found = true; m = at })
 unfolding GivesNext NextOr
 gives-found ports sets kinds masks m at₀ at T D S = λ P e f. record {
@@ -185,7 +185,7 @@ gives-found ports sets kinds masks m at₀ at T D S = λ P e f. record {
 }
 
 -- or past the last kind
-pub gives-none : (ports sets kinds : ℕ) (masks : List ℕ) (m at₀ at : Move) → Steps ports sets kinds m at₀ → Passed ports sets kinds masks at₀ at
+pub gives-none : (ports sets kinds : ℕ) (masks : List ℕ) (m at₀ at : Move) → StepsOn ports sets kinds m at₀ → Passed ports sets kinds masks at₀ at
     → 5 ≤ at .kind → GivesNext ports sets kinds masks m (record { found = false; m = at })
 unfolding GivesNext NextOr place
 gives-none ports sets kinds masks m at₀ at T D h = λ P e f. record {

@@ -10,8 +10,8 @@ ghost use Prim.Native.Nat.{_/_, _%_};
 ghost use lib.Dec.{eqb};
 ghost use Rattle.logic.specs.Moves.{moveKind, kindWeight};
 ghost use Rattle.move_order.specs.Candidates.{fieldsAre};
-ghost use Rattle.move_order.specs.inner.Stepping.{Suits, Begins, BeginsOver, SizedOver, Steps, StepsAny, outset, GivesNext};
-ghost use Rattle.move_legal.specs.inner.Legal.{Says};
+ghost use Rattle.move_order.specs.inner.Stepping.{Suits, Begins, BeginsOver, SizedOver, StepsOn, StepsAny, outset, GivesNext};
+ghost use Rattle.move_legal.specs.inner.Legal.{Decides};
 
 // The next candidate, if there is one.
 pub struct Next {
@@ -68,7 +68,7 @@ fn step(m: Move, ports: u32, sets: u32) -> Move
 // The next position that can be of the kinds: a kind that is not asked for is passed over at once.
 fn advance(m: Move, kinds: u32, ports: u32, sets: u32) -> Move
     requires { ⌜ Begins ports sets m ⌝ }
-    ensures { λ r. ⌜ Steps ports sets kinds m r ⌝ }
+    ensures { λ r. ⌜ StepsOn ports sets kinds m r ⌝ }
 {
     if of_kinds(kinds, m.kind) {
         return step(m, ports, sets);
@@ -79,7 +79,7 @@ fn advance(m: Move, kinds: u32, ports: u32, sets: u32) -> Move
 // Whether a move is legal and of the kinds.
 fn is_candidate(m: Move, kinds: u32, ports: u32, sets: u32, masks: &[u64]) -> bool
     requires { ⌜ BeginsOver ports sets m (now masks) ⌝ }
-    ensures { λ r. ⌜ Says r (Suits ports sets kinds (now (masks .entry)) m) ⌝ }
+    ensures { λ r. ⌜ Decides r (Suits ports sets kinds (now (masks .entry)) m) ⌝ }
 {
     if !of_kinds(kinds, m.kind) {
         return false;

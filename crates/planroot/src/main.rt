@@ -5,12 +5,12 @@ use planroot_input::start;
 use planroot_input::step;
 use planroot_line::Line;
 use planroot_line::finish;
-ghost use Rattle.planroot_input.specs.inner.Scans.{Room};
+ghost use Rattle.planroot_input.specs.inner.Scans.{InputRoom};
 ghost use Rattle.planroot.specs.inner.Known.{Known};
 
 // Passes standard input to its end. Nothing says that it ends, so the turns are counted: 2^64 - 1 of them suffice.
 fn pass_input(masks: &mut [u64], text: &mut [u8]) -> Scan
-    requires { ⌜ Room (now masks) (now text) ⌝ }
+    requires { ⌜ InputRoom (now masks) (now text) ⌝ }
     ensures { λ r. ⌜ Known r (now (masks .exit)) (now (text .exit)) ⌝ }
 {
     let mut s = start();

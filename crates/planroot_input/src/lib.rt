@@ -5,7 +5,7 @@ ghost use mathlib.Core.List.{[], _∷_};
 ghost use Prim.Native.Nat.{_+_, _-_, _≤_, min};
 ghost use lib.ListN.{length};
 ghost use Rattle.planroot_input.specs.inner.Words.{AddsByte, JudgesWord};
-ghost use Rattle.planroot_input.specs.inner.Scans.{Room, Starts, placed, EndsWord, WithWord, NextPhase, PassesFirst, PassesSecond, PassesText, Steps, Closes};
+ghost use Rattle.planroot_input.specs.inner.Scans.{InputRoom, Starts, placed, EndsWord, WithWord, NextPhase, PassesFirst, PassesSecond, PassesText, PassesPiece, Closes};
 
 // A word so far: nothing (0), the digit run 0 (1), another number (2), or no beginning of a digit run (3); and its number.
 pub struct Word {
@@ -254,8 +254,8 @@ fn pass_text(s: Scan, b: u8, text: &mut [u8]) -> Scan
 
 // One byte of the input.
 fn pass_byte(s: Scan, b: u8, masks: &mut [u64], text: &mut [u8]) -> Scan
-    requires { ⌜ Room (now masks) (now text) ⌝ }
-    ensures { λ r. ⌜ Steps s (b ∷ []) (now (masks .entry)) (now (text .entry)) r (now (masks .exit)) (now (text .exit)) ⌝ }
+    requires { ⌜ InputRoom (now masks) (now text) ⌝ }
+    ensures { λ r. ⌜ PassesPiece s (b ∷ []) (now (masks .entry)) (now (text .entry)) r (now (masks .exit)) (now (text .exit)) ⌝ }
 {
     if s.phase == 0 {
         return pass_first(s, b);
@@ -268,8 +268,8 @@ fn pass_byte(s: Scan, b: u8, masks: &mut [u64], text: &mut [u8]) -> Scan
 
 // The next bytes of the input.
 pub fn step(s: Scan, bytes: &[u8], masks: &mut [u64], text: &mut [u8]) -> Scan
-    requires { ⌜ Room (now masks) (now text) ⌝ }
-    ensures { λ r. ⌜ Steps s (now (bytes .entry)) (now (masks .entry)) (now (text .entry)) r (now (masks .exit)) (now (text .exit)) ⌝ }
+    requires { ⌜ InputRoom (now masks) (now text) ⌝ }
+    ensures { λ r. ⌜ PassesPiece s (now (bytes .entry)) (now (masks .entry)) (now (text .entry)) r (now (masks .exit)) (now (text .exit)) ⌝ }
 {
     let mut r = s;
     let mut i = 0;

@@ -3,10 +3,10 @@ use mathlib.Core.Path.{_≡_, sym, ap, _∙_, subst}
 use mathlib.Core.List.{List, [], _∷_, _++_, append-assoc, append-nil}
 use Prim.Native.Nat.{ℕ}
 use Rattle.planroot_input.specs.declared.Scan.{Scan}
-use Rattle.planroot_input.specs.inner.Scans.{Scanned, Starts, Steps}
+use Rattle.planroot_input.specs.inner.Scans.{Scanned, Starts, PassesPiece}
 use Rattle.planroot_line.specs.declared.Line.{Line}
 use Rattle.planroot_line.specs.Line.{inputLine}
-use Rattle.planroot_line.specs.inner.Contract.{Finishes}
+use Rattle.planroot_line.specs.inner.Contract.{LinesInput}
 use Rattle.planroot_line.specs.inner.Pieces.{together, Passed, started, stepped}
 
 together-snoc : (ps : List (List ℕ)) (p : List ℕ) → together ps ++ p ≡ together (ps ++ (p ∷ []))
@@ -15,12 +15,12 @@ together-snoc [] p = sym (append-nil p)
 together-snoc (q ∷ ps) p = append-assoc q (together ps) p ∙ ap (λ (l : List ℕ). q ++ l) (together-snoc ps p)
 
 pub passed-scanned : {ps : List (List ℕ)} {s : Scan} {ms tx : List ℕ} → Passed ps s ms tx → Scanned (together ps) s ms tx
-unfolding together Starts Steps
+unfolding together Starts PassesPiece
 passed-scanned (started ms tx S) = S ms tx
 passed-scanned (stepped {ps = ps} P {r = r} {ms′ = ms′} {tx′ = tx′} piece S) =
     subst (λ (x : List ℕ). Scanned x r ms′ tx′) (together-snoc ps piece) (S (together ps) (passed-scanned P))
 
-pub pieces-line : {ps : List (List ℕ)} {s : Scan} {ms tx : List ℕ} → Passed ps s ms tx → (table cells : List ℕ) (r : Line) → Finishes s ms tx table cells r
+pub pieces-line : {ps : List (List ℕ)} {s : Scan} {ms tx : List ℕ} → Passed ps s ms tx → (table cells : List ℕ) (r : Line) → LinesInput s ms tx table cells r
     → r ≡ inputLine (together ps) table cells
-unfolding Finishes
+unfolding LinesInput
 pieces-line P table cells r F = F _ (passed-scanned P)

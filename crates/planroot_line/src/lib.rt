@@ -8,7 +8,7 @@ use planroot_input::close;
 use table_format::sets_of;
 ghost use mathlib.Core.Path.{_≡_};
 ghost use Rattle.planroot_line.specs.Loading.{loadLine};
-ghost use Rattle.planroot_line.specs.inner.Contract.{Tables, PlanTables, LinesPlan, LinesText, SomeInput, Finishes};
+ghost use Rattle.planroot_line.specs.inner.Contract.{Tables, PlanTables, LinesPlan, LinesText, SomeInput, LinesInput};
 
 pub enum Line {
     Penalty { root: u32, cells: u32 },
@@ -62,7 +62,7 @@ fn text_line(
 // The line for an input that is passed: `close` ends it.
 pub fn finish(s: Scan, masks: &mut [u64], text: &[u8], table: &mut [u8], cells: &mut [u32]) -> Line
     requires { ⌜ SomeInput s (now masks) (now text) (now table) ⌝ }
-    ensures { λ r. ⌜ Finishes s (now (masks .entry)) (now (text .entry)) (now (table .entry)) (now (cells .entry)) r ⌝ }
+    ensures { λ r. ⌜ LinesInput s (now (masks .entry)) (now (text .entry)) (now (table .entry)) (now (cells .entry)) r ⌝ }
 {
     let e = close(s, masks);
     if !e.ok {

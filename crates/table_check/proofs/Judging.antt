@@ -19,7 +19,7 @@ use Rattle.table_format.specs.Bytes.{recordLength, kindField, relationField, aF
 use Rattle.table_format.specs.Rules.{everyNode, treeCount, arityRule, mayNest, nestingRule, depthRule, innerRule, nodeRule}
 use Rattle.table_format.specs.inner.Index.{ends, nodeUses, forestUses, usesTable, laid}
 use Rattle.table_format.specs.inner.Tests.{fieldRule, recordRule, kindDepth, kindWidth, kindUses, Sound}
-use Rattle.table_check.specs.inner.Check.{Placed, Indexed, Judged, FirstRecord, EndJudged, FirstTree, TreeJudged}
+use Rattle.table_check.specs.inner.Check.{Placed, PartIndexed, Judged, FirstRecord, EndJudged, FirstTree, TreeJudged}
 use Rattle.table_format.proofs.Conjunctions.{two-true, four-true}
 use Rattle.table_format.proofs.Parts.{siblingsOf, cancel-le, cancel-children, no-record, span-within, length-children, parts-join, first-below, children-below}
 use Rattle.table_format.proofs.Bytes.{record-pos, kind-of-record, relation-of-record, a-of-record, b-of-record, parent-of-record, end-of-record, record-is}
@@ -220,7 +220,7 @@ module _ (l : List ℕ) (i parent d sets above e : ℕ) (h : FirstRecord l i par
 
     -- what is then known of the first tree
     first-tree : (ports width first : ℕ) (rc : Checked) (r : CheckedTree) (x y z x₁ y₁ z₁ x₂ y₂ z₂ : List ℕ) → width ≡ ports ^ d
-        → Indexed (i + 1) (kindDepth (kindField l) d) ports (first + width) c rc x y z x₁ y₁ z₁
+        → PartIndexed (i + 1) (kindDepth (kindField l) d) ports (first + width) c rc x y z x₁ y₁ z₁
         → arityRule (kindField l) (treeCount c) ≡ true
         → (x₂ ≡ set x₁ i first) × (y₂ ≡ set y₁ i e) × (z₂ ≡ set z₁ i (r .uses))
         → e ≡ r .end → r .cells ≡ width + rc .cells → r .uses ≡ bitOr (kindUses (kindField l) (aField l) (bField l)) (rc .uses)

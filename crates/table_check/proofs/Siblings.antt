@@ -19,7 +19,7 @@ use Rattle.table_check.specs.declared.CheckedTree.{CheckedTree}
 use Rattle.table_format.specs.Bytes.{recordLength, endField, recordOf, records}
 use Rattle.table_format.specs.Rules.{everyNode, treeCount, arityRule, nestingRule, depthRule, innerRule, nodeRule}
 use Rattle.table_format.specs.inner.Index.{ends, forestUses, usesTable, laid}
-use Rattle.table_check.specs.inner.Check.{Placed, Indexed, Judged, FirstTree, TreeJudged}
+use Rattle.table_check.specs.inner.Check.{Placed, PartIndexed, Judged, FirstTree, TreeJudged}
 use Rattle.table_format.specs.inner.Tests.{Sound}
 use Rattle.table_format.proofs.Conjunctions.{four-true}
 use Rattle.table_format.proofs.Parts.{rest-all, one-fits, first-below, siblings-below}
@@ -77,9 +77,9 @@ module _ (l : List ℕ) (i parent d ports sets above first : ℕ) (r : CheckedTr
     node-low : i < 512
     node-low = first-below recordLength record-pos i (length l) 512 (omega (arith, some-ahead, t .within)) (place .few)
 
-    tree-indexed : (s : Forest) (rs ra : Checked) (x₂ y₂ z₂ : List ℕ) → Indexed (r .end) d ports (first + r .cells) s rs x₁ y₁ z₁ x₂ y₂ z₂
+    tree-indexed : (s : Forest) (rs ra : Checked) (x₂ y₂ z₂ : List ℕ) → PartIndexed (r .end) d ports (first + r .cells) s rs x₁ y₁ z₁ x₂ y₂ z₂
         → ra .trees ≡ rs .trees + 1 → ra .cells ≡ r .cells + rs .cells → ra .uses ≡ bitOr (r .uses) (rs .uses)
-        → Indexed i d ports first (tree n c s) ra x y z x₂ y₂ z₂
+        → PartIndexed i d ports first (tree n c s) ra x y z x₂ y₂ z₂
     unfolding treeCount cellCount forestUses firstCells ends usesTable siblingFirst
     tree-indexed s rs ra x₂ y₂ z₂ js tr ce us =
         let cs = firstCells ports c (first + ports ^ d) (childDepth n d) in
@@ -138,9 +138,9 @@ pub record Passed (part : List ℕ) (i parent d ports sets above width first : �
   pub same-ends : length y₁ ≡ length y
   pub same-uses : length z₁ ≡ length z
   pub accepts : (s : Forest) (rs r : Checked) (x₂ y₂ z₂ : List ℕ) → Sound (drop at part) node parent d sets above s
-      → Indexed node d ports (first + cells) s rs x₁ y₁ z₁ x₂ y₂ z₂
+      → PartIndexed node d ports (first + cells) s rs x₁ y₁ z₁ x₂ y₂ z₂
       → r .trees ≡ trees + rs .trees → r .cells ≡ cells + rs .cells → r .uses ≡ bitOr used (rs .uses)
-      → (f : Forest) × Sound part i parent d sets above f × Indexed i d ports first f r x y z x₂ y₂ z₂
+      → (f : Forest) × Sound part i parent d sets above f × PartIndexed i d ports first f r x y z x₂ y₂ z₂
   pub refuses : ((s : Forest) → Sound (drop at part) node parent d sets above s → ⊥) → (f : Forest) → Sound part i parent d sets above f → ⊥
 
 pub passed-none : (part : List ℕ) (i parent d ports sets above width first : ℕ) (x y z : List ℕ) → Placed part i parent d ports sets width first x y z
@@ -240,7 +240,7 @@ module _ (part : List ℕ) (i parent d ports sets above width first : ℕ) (x y 
                 (tree-sound (drop at part) node parent d ports sets above (first + cells) t x₁ y₁ z₁ x₂ y₂ z₂ (f .0) (f .1) (f .2) s
                 (subst (λ (w : List ℕ). Sound w (t .end) parent d sets above s) (sym rest-is) sound))
                 (tree-indexed (drop at part) node parent d ports sets above (first + cells) t x₁ y₁ z₁ x₂ y₂ z₂ (f .0) (f .1) (f .2) (p .place) s rs both x₃ y₃ z₃
-                (subst (λ (w : ℕ). Indexed (t .end) d ports w s rs x₂ y₂ z₂ x₃ y₃ z₃) (sym more) k) refl refl refl)
+                (subst (λ (w : ℕ). PartIndexed (t .end) d ports w s rs x₂ y₂ z₂ x₃ y₃ z₃) (sym more) k) refl refl refl)
                 (omega (arith, tr)) (omega (arith, ce)) (us ∙ or-assoc used (t .uses) (rs .uses));
             refuses = λ h. p .refuses (no-tree (drop at part) node parent d ports sets above (first + cells) t x₁ y₁ z₁ x₂ y₂ z₂ (f .0) (f .1) (f .2)
                 (λ s q. h s (subst (λ (w : List ℕ). Sound w (t .end) parent d sets above s) rest-is q)));

@@ -17,7 +17,7 @@ use Rattle.table_format.specs.inner.Fields.{Bytes}
 use Rattle.table_format.specs.Rules.{treeCount}
 use Rattle.table_format.specs.inner.Index.{ends, nodeUses, forestUses, usesTable, laid}
 use Rattle.table_format.specs.inner.Tests.{belowRoot}
-use Rattle.table_check.specs.inner.Check.{Placed, Judged, PlanJudged, Room}
+use Rattle.table_check.specs.inner.Check.{Placed, Judged, PlanJudged, IndexRoom}
 use Rattle.table_format.proofs.Parts.{one-fits, span-within}
 use Rattle.table_format.proofs.Bytes.{record-pos}
 use Rattle.table_format.proofs.Encoding.{decode-complete}
@@ -31,7 +31,7 @@ refuse-plan l r e h = record {
 }
 
 -- where the records below the root stand
-pub placed-below : (l : List ℕ) → FrontIs l → (x y z : List ℕ) → Room x y z
+pub placed-below : (l : List ℕ) → FrontIs l → (x y z : List ℕ) → IndexRoom x y z
     → Placed (belowRoot l (nodesField l)) 1 0 0 (portsField l) (setsField l) 1 1 x y z
 placed-below l f x y z room = record {
   few = omega (
@@ -73,7 +73,7 @@ module _ (l : List ℕ) (f : FrontIs l) (u n K : ℕ) (eu : u ≡ portsField l) 
       let c = a .2 .cells ∙ ap (λ (g : Forest). cellCount (portsField l) g 0) (same-forest (a .0) (o .below) 1 0 (sym (a .1 .is) ∙ o .parts .is)) in
       omega (arith, o .few)
 
-  pub accept-plan : Bytes l → rc .ok ≡ true → rc .trees ≡ 1 → rc .cells < 1048576 → Room x y z
+  pub accept-plan : Bytes l → rc .ok ≡ true → rc .trees ≡ 1 → rc .cells < 1048576 → IndexRoom x y z
       → (x₂ y₂ z₂ : List ℕ) → (x₂ ≡ set x₁ 0 0) × (y₂ ≡ set y₁ 0 K) × (z₂ ≡ set z₁ 0 (rc .uses))
       → (r : Info) → r .ok ≡ true → r .ports ≡ u → r .sets ≡ n → r .nodes ≡ K → r .cells ≡ rc .cells + 1
       → PlanJudged l r x y z x₂ y₂ z₂

@@ -1,6 +1,5 @@
 // Ground 11: the check of a whole plan table, which fills the index of its nodes (first cell, end, sets used at or below).
 // Paper 01, section Plan table.
-use table_format::MOST_CELLS;
 use table_format::RECORD;
 use table_format::a_of;
 use table_format::b_of;
@@ -20,8 +19,11 @@ ghost use mathlib.Core.Path.{_≡_};
 ghost use mathlib.Core.Bool.{false};
 ghost use Prim.Native.Nat.{_+_, _≤_, _<_};
 ghost use lib.ListN.{length, set};
-ghost use Rattle.table_check.specs.inner.Check.{PlanJudged, Room, Placed, Judged, EndJudged, TreeJudged};
+ghost use Rattle.table_check.specs.inner.Check.{PlanJudged, IndexRoom, Placed, Judged, EndJudged, TreeJudged};
 ghost use Rattle.table_format.specs.inner.Tests.{kindDepth, kindWidth};
+
+// A plan has at most so many cells.
+const MOST_CELLS: usize = 1048576;
 
 // What the check of some records finds: how many trees they are, their cells, and which sets they use.
 pub struct Checked {
@@ -57,6 +59,7 @@ fn note(
     uses[i] = used;
 }
 
+// No forest that keeps the rules.
 fn broken() -> Checked
     ensures { λ r. ⌜ r .ok ≡ false ⌝ }
 {
@@ -68,6 +71,7 @@ fn broken() -> Checked
     }
 }
 
+// No tree that keeps the rules.
 fn broken_tree() -> CheckedTree
     ensures { λ r. ⌜ r .ok ≡ false ⌝ }
 {
@@ -262,6 +266,7 @@ pub struct Info {
     pub cells: usize,
 }
 
+// No plan's table.
 fn no_plan() -> Info
     ensures { λ r. ⌜ r .ok ≡ false ⌝ }
 {
@@ -276,7 +281,7 @@ fn no_plan() -> Info
 
 // Checks a plan table (ground 11) and fills the index tables: linear in the table, whatever its shape.
 pub fn check(table: &[u8], firsts: &mut [u32], ends: &mut [u16], uses: &mut [u64]) -> Info
-    requires { ⌜ Room (now firsts) (now ends) (now uses) ⌝ }
+    requires { ⌜ IndexRoom (now firsts) (now ends) (now uses) ⌝ }
     ensures { λ r. ⌜ PlanJudged (now (table .entry)) r (now (firsts .entry)) (now (ends .entry)) (now (uses .entry)) (now (firsts .exit)) (now (ends .exit)) (now (uses .exit)) ⌝ }
 {
     if !front_ok(table) {

@@ -20,7 +20,7 @@ unfolding ownCells
 own-count P = refl
 
 -- What a table that passed gives for filling.
-pub record Ready (bytes : List ℕ) (P : Plan) (nodes : ℕ) : Type 0 where
+pub record TableReady (bytes : List ℕ) (P : Plan) (nodes : ℕ) : Type 0 where
   pub below : Forest
   pub is-root : P ≡ rooted (P .ports) (P .sets) below
   pub facts : RootedIs (P .ports) (P .sets) below
@@ -29,7 +29,7 @@ pub record Ready (bytes : List ℕ) (P : Plan) (nodes : ℕ) : Type 0 where
   pub long : tableBytes (setsField bytes) nodes ≤ length bytes
   pub part : belowRoot bytes nodes ≡ records below 1 0
 
-pub ready : (bytes : List ℕ) (P : Plan) (nodes : ℕ) → decode bytes ≡ sound P → nodes ≡ nodeCount (P .formula) → Ready bytes P nodes
+pub ready : (bytes : List ℕ) (P : Plan) (nodes : ℕ) → decode bytes ≡ sound P → nodes ≡ nodeCount (P .formula) → TableReady bytes P nodes
 ready bytes P nodes d k =
     let t = decode-sound bytes P d in
     let r = is-rooted P (t .rules) in

@@ -41,11 +41,6 @@ const SETS: usize = 6;
 
 const NODES: usize = 7;
 
-// A plan has at most so many nodes and cells.
-pub const MOST_NODES: usize = 512;
-
-pub const MOST_CELLS: usize = 1048576;
-
 // Where the records of a table over so many sets begin.
 pub fn records_from(sets: usize) -> usize
     ensures { λ r. ⌜ r ≡ recordsFrom sets ⌝ }
@@ -127,12 +122,14 @@ pub fn put_header(u: u8, n: u8, nodes: u16, table: &mut [u8])
     put_word(table, NODES, nodes);
 }
 
+// A byte as a number, with its bound.
 pub fn wide(b: u8) -> usize
     ensures { λ r. ⌜ (r ≡ b) × (r < 256) ⌝ }
 {
     b as usize
 }
 
+// Both hold; by value, so that a contract is one equation.
 pub fn both(a: bool, b: bool) -> bool
     ensures { λ r. ⌜ r ≡ (a && b) ⌝ }
 {
@@ -142,6 +139,7 @@ pub fn both(a: bool, b: bool) -> bool
     false
 }
 
+// All three hold.
 pub fn three(a: bool, b: bool, c: bool) -> bool
     ensures { λ r. ⌜ r ≡ (a && b && c) ⌝ }
 {
@@ -165,6 +163,7 @@ pub fn kind_of(part: &[u8]) -> u8
     part[KIND]
 }
 
+// The relation of the record that a part begins with.
 pub fn relation_of(part: &[u8]) -> u8
     requires { ⌜ recordLength ≤ length (now part) ⌝ }
     ensures { λ r. ⌜ r ≡ relationField (now (part .entry)) ⌝ }
@@ -172,6 +171,7 @@ pub fn relation_of(part: &[u8]) -> u8
     part[RELATION]
 }
 
+// Its field a.
 pub fn a_of(part: &[u8]) -> u8
     requires { ⌜ recordLength ≤ length (now part) ⌝ }
     ensures { λ r. ⌜ r ≡ aField (now (part .entry)) ⌝ }
@@ -179,6 +179,7 @@ pub fn a_of(part: &[u8]) -> u8
     part[A]
 }
 
+// Its field b.
 pub fn b_of(part: &[u8]) -> u8
     requires { ⌜ recordLength ≤ length (now part) ⌝ }
     ensures { λ r. ⌜ r ≡ bField (now (part .entry)) ⌝ }
@@ -186,6 +187,7 @@ pub fn b_of(part: &[u8]) -> u8
     part[B]
 }
 
+// The number of its parent.
 pub fn parent_of(part: &[u8]) -> usize
     requires { ⌜ recordLength ≤ length (now part) ⌝ }
     ensures { λ r. ⌜ FieldIs parentField (now (part .entry)) r ⌝ }
@@ -193,6 +195,7 @@ pub fn parent_of(part: &[u8]) -> usize
     word_at(part, PARENT)
 }
 
+// Its end: the number of the first node behind its subtree.
 pub fn end_of(part: &[u8]) -> usize
     requires { ⌜ recordLength ≤ length (now part) ⌝ }
     ensures { λ r. ⌜ FieldIs endField (now (part .entry)) r ⌝ }
@@ -208,6 +211,7 @@ pub fn has_mark(table: &[u8]) -> bool
     three(table[0] == 80, table[1] == 76, table[2] == 78)
 }
 
+// The version of the table.
 pub fn version_of(table: &[u8]) -> usize
     requires { ⌜ headerLength ≤ length (now table) ⌝ }
     ensures { λ r. ⌜ FieldIs versionField (now (table .entry)) r ⌝ }
@@ -215,6 +219,7 @@ pub fn version_of(table: &[u8]) -> usize
     word_at(table, VERSION)
 }
 
+// u, the number of ports.
 pub fn ports_of(table: &[u8]) -> usize
     requires { ⌜ headerLength ≤ length (now table) ⌝ }
     ensures { λ r. ⌜ r ≡ portsField (now (table .entry)) ⌝ }
@@ -222,6 +227,7 @@ pub fn ports_of(table: &[u8]) -> usize
     wide(table[PORTS])
 }
 
+// n, the number of sets.
 pub fn sets_of(table: &[u8]) -> usize
     requires { ⌜ headerLength ≤ length (now table) ⌝ }
     ensures { λ r. ⌜ r ≡ setsField (now (table .entry)) ⌝ }
@@ -229,6 +235,7 @@ pub fn sets_of(table: &[u8]) -> usize
     wide(table[SETS])
 }
 
+// The node count.
 pub fn nodes_of(table: &[u8]) -> usize
     requires { ⌜ headerLength ≤ length (now table) ⌝ }
     ensures { λ r. ⌜ FieldIs nodesField (now (table .entry)) r ⌝ }

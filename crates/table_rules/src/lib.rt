@@ -1,7 +1,6 @@
 // The rules of one record and of the header, tested on their bytes. Paper 01, section Plan table.
 use logic::bit;
 use table_format::HEADER;
-use table_format::MOST_NODES;
 use table_format::a_of;
 use table_format::b_of;
 use table_format::both;
@@ -24,6 +23,9 @@ ghost use lib.ListN.{length};
 ghost use Rattle.table_format.specs.Bytes.{headerLength, recordLength};
 ghost use Rattle.table_format.specs.Rules.{arityRule, mayNest};
 ghost use Rattle.table_format.specs.inner.Tests.{fieldRule, recordRule, headerRule, rootRule, frontRule, kindDepth, kindWidth, kindUses, UsesFit};
+
+// A plan has at most so many nodes.
+const MOST_NODES: usize = 512;
 
 // Whether a node's kind, relation, a and b keep the rules.
 fn fields_ok(kind: u8, relation: u8, a: u8, b: u8, sets: usize, depth: usize) -> bool
@@ -83,6 +85,7 @@ pub fn record_ok(part: &[u8], parent: usize, depth: usize, above: u8, sets: usiz
     both(three(fields, depth <= 3, nested), parent_of(part) == parent)
 }
 
+// The depth of the children of a node of a kind.
 pub fn child_depth(kind: u8, depth: usize) -> usize
     requires { ⌜ depth ≤ 4 ⌝ }
     ensures { λ r. ⌜ r ≡ kindDepth kind depth ⌝ }
@@ -93,6 +96,7 @@ pub fn child_depth(kind: u8, depth: usize) -> usize
     depth
 }
 
+// How many cells each child of a node of a kind has.
 pub fn child_width(kind: u8, width: usize, ports: usize) -> usize
     requires { ⌜ (width ≤ 16777216) × (ports ≤ 64) ⌝ }
     ensures { λ r. ⌜ r ≡ kindWidth kind width ports ⌝ }
@@ -122,6 +126,7 @@ pub fn uses_of(kind: u8, a: u8, b: u8) -> u64
     bit(4 * x + 3)
 }
 
+// Whether the header keeps the rules, its node count aside.
 fn header_ok(table: &[u8]) -> bool
     requires { ⌜ headerLength ≤ length (now table) ⌝ }
     ensures { λ r. ⌜ r ≡ headerRule (now (table .entry)) ⌝ }
@@ -132,6 +137,7 @@ fn header_ok(table: &[u8]) -> bool
     three(has_mark(table), version_of(table) == 1, counts)
 }
 
+// Whether the first record is the root of so many nodes.
 fn root_ok(part: &[u8], nodes: usize) -> bool
     requires { ⌜ recordLength ≤ length (now part) ⌝ }
     ensures { λ r. ⌜ r ≡ rootRule nodes (now (part .entry)) ⌝ }

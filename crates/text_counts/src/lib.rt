@@ -36,6 +36,7 @@ fn capped(a: u32, b: u32, limit: u32) -> u32
     a + b
 }
 
+// The totals of one polarity.
 fn at(w: Totals, p: bool) -> Total
     ensures { λ r. ⌜ r ≡ totalAt w p ⌝ }
 {
@@ -89,6 +90,7 @@ fn join_total(operator: u16, p: bool, a: Totals, b: Totals, limit: u32) -> Total
     pair(p, forth, back, limit)
 }
 
+// The totals of two parts joined by an operator, of both polarities.
 fn joined(operator: u16, a: Totals, b: Totals, limit: u32) -> Totals
     ensures { λ r. ⌜ BothJoined limit operator a b r ⌝ }
 {
@@ -150,6 +152,7 @@ fn ones(limit: u32) -> Totals
     }
 }
 
+// The totals of a negated part: the polarities change places.
 fn negated(b: Totals) -> Totals
     ensures { λ r. ⌜ (totalAt r true ≡ totalAt b false) × (totalAt r false ≡ totalAt b true) ⌝ }
 {

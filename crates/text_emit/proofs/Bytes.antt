@@ -13,7 +13,7 @@ use Rattle.text_tree.specs.inner.Stored.{quantifierOperator}
 use Rattle.text_core.specs.Names.{setNumber, variableNumber}
 use Rattle.text_core.specs.Core.{quantifierNode, opposite, relationAt}
 use Rattle.text_emit.specs.declared.Bound.{Bound}
-use Rattle.text_emit.specs.inner.Fields.{letters, boundLetters, Binds, RelationIs, QuantifierIs}
+use Rattle.text_emit.specs.inner.Fields.{letters, boundLetters, BindsLetter, RelationIs, QuantifierIs}
 
 -- the last of the letters is number 0, bound or not
 last : (b : Bool) → _≡_ {A = ℕ} 0 (cond b 0 0)
@@ -57,15 +57,15 @@ module _ (x y z v : ℕ) where
   three-outer (suc (suc (suc n))) h f g k = rw (ne-eqb v z g, ne-eqb v y k) (last (eqb v x))
 
 module _ (b : Bound) (v : ℕ) where
-  pub binds-first : b .count ≡ 0 → Binds b v record { count = 1; outer = v; middle = 0; inner = 0 }
+  pub binds-first : b .count ≡ 0 → BindsLetter b v record { count = 1; outer = v; middle = 0; inner = 0 }
   unfolding boundLetters letters
   binds-first e = record { letters-are = λ h. rw e; count-is = λ h. rw e }
 
-  pub binds-second : b .count ≡ 1 → Binds b v record { count = 2; outer = b .outer; middle = v; inner = 0 }
+  pub binds-second : b .count ≡ 1 → BindsLetter b v record { count = 2; outer = b .outer; middle = v; inner = 0 }
   unfolding boundLetters letters
   binds-second e = record { letters-are = λ h. rw e; count-is = λ h. rw e }
 
-  pub binds-third : (b .count ≡ 0 → ⊥) → (b .count ≡ 1 → ⊥) → Binds b v record { count = 3; outer = b .outer; middle = b .middle; inner = v }
+  pub binds-third : (b .count ≡ 0 → ⊥) → (b .count ≡ 1 → ⊥) → BindsLetter b v record { count = 3; outer = b .outer; middle = b .middle; inner = v }
   unfolding boundLetters letters
   binds-third f g = record {
     letters-are = λ h. let e : b .count ≡ 2 = omega arith in rw e;

@@ -19,9 +19,9 @@ use Rattle.table_format.specs.Bytes.{recordLength, relationByte, aByte, bByte, 
 use Rattle.text_emit.specs.declared.Bound.{Bound}
 use Rattle.text_emit.specs.declared.Up.{Up}
 use Rattle.table_format.specs.declared.Fields.{Fields}
-use Rattle.text_emit.specs.inner.Fields.{Shows, boundLetters, Binds, QuantifierIs, LiteralIs}
+use Rattle.text_emit.specs.inner.Fields.{Shows, boundLetters, BindsLetter, QuantifierIs, LiteralIs}
 use Rattle.table_format.specs.inner.Written.{fieldBytes, Written, Records}
-use Rattle.text_emit.specs.inner.Emits.{aboveOf, jointAt, leftAt, rightAt, JointIs, LeftIs, RightIs, rowOf, EmitsLiteral, Sound, Emits, core, EmitsJoin, EmitsRow}
+use Rattle.text_emit.specs.inner.Emits.{aboveOf, jointAt, leftAt, rightAt, JointIs, LeftIs, RightIs, rowOf, EmitsLiteral, Emittable, Emits, core, EmitsJoin, EmitsRow}
 use Rattle.text_emit.proofs.Forests.{shown, records-both, records-tree, records-full, records-none}
 use Rattle.text_emit.proofs.Joints.{join-row, row-two, above-joint, joint-merged, joint-own, above-quantifier}
 
@@ -107,7 +107,7 @@ module _ (t : List ℕ) (e : ℕ) (sets : List ℕ) (b : Bound) (p : Bool) (up :
       emits-full h l g = of-goal h (on-bind t e Goal through other kept l (λ q v a d s n f. records-full _ _ none (up .number) i r B O g))
 
       pub emits-bind : (M : List ℕ) (k : ℕ) (c : Bound) (F : Fields) → length M ≡ length B → getD t (e - 1) 0 < 5 → QuantifierIs p (getD t (e - 1) 0) k
-          → Binds b (getD t (e - 2) 0) c → Emits t (e - 2) sets c p (record { kind = k; number = i }) (i + 1) B M r → PlainFields k F
+          → BindsLetter b (getD t (e - 2) 0) c → Emits t (e - 2) sets c p (record { kind = k; number = i }) (i + 1) B M r → PlainFields k F
           → Written (recordLength * i) (fieldBytes F (up .number) r) M O → Emits t e sets b p up i B O r
       unfolding Lettered fourth place QuantifierIs
       emits-bind M k c F same l K C E P W = of-goal (E .placed) (on-bind t e Goal through other kept l (λ q v a d s n f. go q v a d s n f))
@@ -190,7 +190,7 @@ module _ (t : List ℕ) (m e operator : ℕ) (sets : List ℕ) (b : Bound) (p : 
   unfolding joinOperator
   row-arrows M n r high same E F = record { placed = rw (← same) (F .placed); writes = go }
     where
-      go : (j : Join) → operator ≡ joinOperator j → aboveOf (up .kind) ≡ inside (jointAt j p) → (x y : Tree) → Sound t m (b .count) x → Sound t e (b .count) y
+      go : (j : Join) → operator ≡ joinOperator j → aboveOf (up .kind) ≡ inside (jointAt j p) → (x y : Tree) → Emittable t m (b .count) x → Emittable t e (b .count) y
           → Records (rowOf j p (core sets b x) (core sets b y) none) (up .number) i B O r
       go conj o above x y X Y = absurd (omega arith)
       go disj o above x y X Y = absurd (omega arith)

@@ -15,7 +15,7 @@ use Rattle.table_format.proofs.Encoding.{length-records}
 use Rattle.table_format.specs.declared.Fields.{Fields}
 use Rattle.text_emit.specs.inner.Fields.{letters, boundLetters}
 use Rattle.table_format.specs.inner.Written.{fieldBytes, Written, Records}
-use Rattle.text_emit.specs.inner.Emits.{aboveOf, Ready, Emits, PutsCore, PlanReady, WritesPlan}
+use Rattle.text_emit.specs.inner.Emits.{aboveOf, EmitReady, Emits, PutsCore, PlanReady, WritesPlan}
 use Rattle.text_emit.proofs.Forests.{records-tree}
 use Rattle.text_emit.proofs.Emitting.{recorded, PlainFields, plain-shows}
 use Rattle.table_format.proofs.Writing.{written-start}
@@ -64,7 +64,7 @@ writes-plan u nodes e from last sets t B M Y H first is room C a S count =
     ∙ ap (λ (x : ℕ). (header u (length sets) x ++ records (coreOf sets a) 0 65535) ++ drop (tableBytes (length sets) nodes) B) count
 
 pub part-ready : (sets B M : List ℕ) (nodes from last : ℕ) → PlanReady sets nodes B → length M ≡ length B
-    → from ≡ recordsFrom (length sets) → last ≡ tableBytes (length sets) nodes → Ready sets 1 (take (last - from) (drop from M))
+    → from ≡ recordsFrom (length sets) → last ≡ tableBytes (length sets) nodes → EmitReady sets 1 (take (last - from) (drop from M))
 unfolding recordLength
 part-ready sets B M nodes from last P same first is =
     let long : length (take (last - from) (drop from M)) ≡ last - from =

@@ -17,8 +17,8 @@ ghost use lib.ListN.{length};
 ghost use Rattle.logic.specs.Formula.{kindNumber};
 ghost use Rattle.text_core.specs.Core.{jointNode};
 ghost use Rattle.text_core.specs.Names.{setNumber, variableNumber};
-ghost use Rattle.text_emit.specs.inner.Fields.{boundLetters, Binds, RelationIs, QuantifierIs, MemberIs, LiteralIs};
-ghost use Rattle.text_emit.specs.inner.Emits.{Ready, EmitsLiteral, JointIs, LeftIs, RightIs, Emits, EmitsJoin, EmitsRow, PutsCore, PlanReady, WritesPlan};
+ghost use Rattle.text_emit.specs.inner.Fields.{boundLetters, BindsLetter, RelationIs, QuantifierIs, MemberIs, LiteralIs};
+ghost use Rattle.text_emit.specs.inner.Emits.{EmitReady, EmitsLiteral, JointIs, LeftIs, RightIs, Emits, EmitsJoin, EmitsRow, PutsCore, PlanReady, WritesPlan};
 
 // Operators of the tree's records (crate syntax, specs/Stored.antt).
 const PORT: u16 = 16;
@@ -61,9 +61,9 @@ fn variable_number(b: Bound, v: u16) -> u8
     0
 }
 
-// Binds one more letter.
+// BindsLetter one more letter.
 fn with_letter(b: Bound, v: u16) -> Bound
-    ensures { λ r. ⌜ Binds b v r ⌝ }
+    ensures { λ r. ⌜ BindsLetter b v r ⌝ }
 {
     if b.count == 0 {
         return Bound {
@@ -89,6 +89,7 @@ fn with_letter(b: Bound, v: u16) -> Bound
     }
 }
 
+// A set's number as a byte.
 fn set_byte(sets: &[u8], s: u16) -> u8
     requires { ⌜ length (now sets) ≤ 16 ⌝ }
     ensures { λ r. ⌜ r ≡ setNumber (now (sets .entry)) s ⌝ }
@@ -96,6 +97,7 @@ fn set_byte(sets: &[u8], s: u16) -> u8
     set_number(sets, s) as u8
 }
 
+// The low byte of a number.
 fn low_byte(x: u16) -> u8
     ensures { λ r. ⌜ r ≡ x % 256 ⌝ }
 {
@@ -206,7 +208,7 @@ fn put_literal(
     i: usize,
     out: &mut [u8],
 ) -> usize
-    requires { ⌜ Ready (now sets) i (now out) ⌝ }
+    requires { ⌜ EmitReady (now sets) i (now out) ⌝ }
     ensures { λ r. ⌜ EmitsLiteral operator x (now (sets .entry)) bound p parent i (now (out .entry)) (now (out .exit)) r ⌝ }
 {
     if out.len() < RECORD * (i + 1) {
@@ -250,6 +252,7 @@ fn left_at(operator: u16, p: bool) -> bool
     p
 }
 
+// The polarity of an operator's right part.
 fn right_at(operator: u16, p: bool) -> bool
     ensures { λ r. ⌜ RightIs operator p r ⌝ }
 {
@@ -271,7 +274,7 @@ fn emit(
     i: usize,
     out: &mut [u8],
 ) -> usize
-    requires { ⌜ Ready (now sets) i (now out) ⌝ }
+    requires { ⌜ EmitReady (now sets) i (now out) ⌝ }
     ensures { λ r. ⌜ Emits (now (t .entry)) e (now (sets .entry)) bound p up i (now (out .entry)) (now (out .exit)) r ⌝ }
 {
     if e < 2 {
@@ -322,7 +325,7 @@ fn joined(
     i: usize,
     out: &mut [u8],
 ) -> usize
-    requires { ⌜ Ready (now sets) i (now out) ⌝ }
+    requires { ⌜ EmitReady (now sets) i (now out) ⌝ }
     ensures { λ r. ⌜ EmitsJoin (now (t .entry)) m e operator (now (sets .entry)) bound p up i (now (out .entry)) (now (out .exit)) r ⌝ }
 {
     let kind = joint_kind(operator, p);
@@ -354,7 +357,7 @@ fn row(
     i: usize,
     out: &mut [u8],
 ) -> usize
-    requires { ⌜ Ready (now sets) i (now out) ⌝ }
+    requires { ⌜ EmitReady (now sets) i (now out) ⌝ }
     ensures { λ r. ⌜ EmitsRow (now (t .entry)) m e operator (now (sets .entry)) bound p up i (now (out .entry)) (now (out .exit)) r ⌝ }
 {
     if 9 <= operator {
@@ -370,7 +373,7 @@ const NO_PARENT: u16 = 65535;
 
 // Writes the records of a text's core: the root is node 0.
 fn put_core(t: &[u16], e: usize, sets: &[u8], out: &mut [u8])
-    requires { ⌜ Ready (now sets) 1 (now out) ⌝ }
+    requires { ⌜ EmitReady (now sets) 1 (now out) ⌝ }
     ensures { λ _. ⌜ PutsCore (now (t .entry)) e (now (sets .entry)) (now (out .entry)) (now (out .exit)) ⌝ }
 {
     let none = Bound {

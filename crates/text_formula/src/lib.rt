@@ -22,7 +22,7 @@ use text_tree::push;
 ghost use Prim.Native.Nat.{_-_, _≤_};
 ghost use lib.ListN.{length};
 ghost use Rattle.text_grammar.specs.Grammar.{unit, conjunction, disjunction, formula};
-ghost use Rattle.text_grammar.specs.inner.Contract.{Room, Reads, Prefixed};
+ghost use Rattle.text_grammar.specs.inner.Contract.{ReaderRoom, Reads, Prefixed};
 
 const NEGATION: u8 = 2;
 
@@ -36,7 +36,7 @@ const QUANTIFIER: u8 = 2;
 
 // "A formula is one disjunction, or two with an arrow between."
 pub fn formula(text: &[u8], at: usize, out: &mut [u16], n: usize, d: usize) -> Reading
-    requires { ⌜ Room (now text) (now out) at n d ⌝ }
+    requires { ⌜ ReaderRoom (now text) (now out) at n d ⌝ }
     ensures { λ r. ⌜ Reads formula (now (text .entry)) (now (out .entry)) (now (out .exit)) at n d r ⌝ }
 {
     let a = disjunction(text, at, out, n, d);
@@ -62,7 +62,7 @@ pub fn formula(text: &[u8], at: usize, out: &mut [u16], n: usize, d: usize) -> R
 
 // "A disjunction joins conjunctions by `|`"
 fn disjunction(text: &[u8], at: usize, out: &mut [u16], n: usize, d: usize) -> Reading
-    requires { ⌜ Room (now text) (now out) at n d ⌝ }
+    requires { ⌜ ReaderRoom (now text) (now out) at n d ⌝ }
     ensures { λ r. ⌜ Reads disjunction (now (text .entry)) (now (out .entry)) (now (out .exit)) at n d r ⌝ }
 {
     let a = conjunction(text, at, out, n, d);
@@ -88,7 +88,7 @@ fn disjunction(text: &[u8], at: usize, out: &mut [u16], n: usize, d: usize) -> R
 
 // "a conjunction joins units by `&`"
 fn conjunction(text: &[u8], at: usize, out: &mut [u16], n: usize, d: usize) -> Reading
-    requires { ⌜ Room (now text) (now out) at n d ⌝ }
+    requires { ⌜ ReaderRoom (now text) (now out) at n d ⌝ }
     ensures { λ r. ⌜ Reads conjunction (now (text .entry)) (now (out .entry)) (now (out .exit)) at n d r ⌝ }
 {
     let a = unit(text, at, out, n, d);
@@ -114,7 +114,7 @@ fn conjunction(text: &[u8], at: usize, out: &mut [u16], n: usize, d: usize) -> R
 
 // "A unit is `~` unit, `@v` unit (for all), `?v` unit (exists), a bracketed formula, or a literal"
 fn unit(text: &[u8], at: usize, out: &mut [u16], n: usize, d: usize) -> Reading
-    requires { ⌜ Room (now text) (now out) at n d ⌝ }
+    requires { ⌜ ReaderRoom (now text) (now out) at n d ⌝ }
     ensures { λ r. ⌜ Reads unit (now (text .entry)) (now (out .entry)) (now (out .exit)) at n d r ⌝ }
 {
     let t = token_at(text, at);
@@ -163,7 +163,7 @@ fn prefixed(
     payload: u8,
     operator: u8,
 ) -> Reading
-    requires { ⌜ Room (now text) (now out) (at - 1) n d × (1 ≤ at) × (at ≤ length (now text)) ⌝ }
+    requires { ⌜ ReaderRoom (now text) (now out) (at - 1) n d × (1 ≤ at) × (at ≤ length (now text)) ⌝ }
     ensures { λ r. ⌜ Prefixed (now (text .entry)) (now (out .entry)) (now (out .exit)) at n d payload operator r ⌝ }
 {
     let a = unit(text, at, out, n, d + 1);

@@ -19,7 +19,7 @@ use Rattle.text_grammar.specs.declared.Letters.{Letters}
 use Rattle.text_grammar.specs.declared.Syntax.{Syntax}
 use Rattle.text_grammar.specs.Grammar.{formula, kindAt, nextAt, valueAt}
 use Rattle.text_grammar.specs.Parser.{found, test, parseAt, lettersAt, afterLetters, failed, read, ended, declared, parsed}
-use Rattle.text_grammar.specs.inner.Contract.{Room, Reads, Keeps, Lettered, Lent, Parsed}
+use Rattle.text_grammar.specs.inner.Contract.{ReaderRoom, Reads, Keeps, LettersRead, Lent, Parsed}
 use Rattle.text_grammar.proofs.Readers.{clash, kind-of, next-of, not-kind, moves}
 
 -- at the end of the text stands no token
@@ -155,7 +155,7 @@ passed-one s at i L M n r t P T y K =
           same-letters g F s (t .next) m q (omega arith) .after ∙ ap (afterLetters F s) (sym next) ∙ sym (after-step s i F k) ∙ P .ends f (suc F) p (omega arith);
     }
 
-pub passed-all : (s : List ℕ) (at i : ℕ) (L : List ℕ) (n : ℕ) → Passed s at i L n → (kindAt s i ≡ 23 → ⊥) → Lettered s at L (record { count = n; next = i })
+pub passed-all : (s : List ℕ) (at i : ℕ) (L : List ℕ) (n : ℕ) → Passed s at i L n → (kindAt s i ≡ 23 → ⊥) → LettersRead s at L (record { count = n; next = i })
 passed-all s at i L n P z =
     record {
       few = P .few;
@@ -168,7 +168,7 @@ passed-all s at i L n P z =
       onward = P .onward;
     }
 
-pub passed-end : (s : List ℕ) (at i : ℕ) (L : List ℕ) (n : ℕ) → Passed s at i L n → length s ≤ i → Lettered s at L (record { count = n; next = i })
+pub passed-end : (s : List ℕ) (at i : ℕ) (L : List ℕ) (n : ℕ) → Passed s at i L n → length s ≤ i → LettersRead s at L (record { count = n; next = i })
 passed-end s at i L n P h = passed-all s at i L n P (no-letter s i (P .within) h)
 
 -- the whole text
@@ -198,7 +198,7 @@ module _ (s out before letters : List ℕ) (lent : Lent s out before) (same : le
   unfolding parsed
   whole-unopened z o r q = no-syntax s o letters r (rw (not-kind s 0 opening O 1 z)) q
 
-  module _ (y : opening .kind ≡ 1) (sets : Letters) (S : Lettered s (opening .next) letters sets) where
+  module _ (y : opening .kind ≡ 1) (sets : Letters) (S : LettersRead s (opening .next) letters sets) where
     opened : parsed s ≡ declared s (lettersAt (length s) s (opening .next)) (sets .next)
     unfolding parsed
     opened = rw (kind-of s 0 opening O 1 y, next-of s 0 opening O, ← S .ends (length s) (omega arith))
@@ -226,7 +226,7 @@ module _ (s out before letters : List ℕ) (lent : Lent s out before) (same : le
         close-within : closing .next ≤ length s
         close-within = moves s (sets .next) closing C (S .within) .within
 
-        pub body-room : Room s out (closing .next) 0 0
+        pub body-room : ReaderRoom s out (closing .next) 0 0
         body-room = record { within = close-within; room = omega (arith, lent .short); wide = lent .wide; shallow = omega arith }
 
         module _ (o : List ℕ) (body : Reading) (B : Reads formula s out o (closing .next) 0 0 body) where

@@ -19,7 +19,7 @@ use Rattle.text_tokens.proofs.Laws.{Moves, token-moves, between-range}
 use Rattle.text_grammar.specs.declared.Reading.{Reading}
 use Rattle.text_grammar.specs.Grammar.{Level, unit, conjunction, disjunction, formula, kindAt, nextAt, valueAt}
 use Rattle.text_grammar.specs.Parser.{Part, missing, found, mapPart, joinSign, quantifierOf, quantifierSign, relationSign, joined, closed, bound, operand, variableLiteral, compared, sizeLiteral, rank, parseAt}
-use Rattle.text_grammar.specs.inner.Contract.{Room, Accepted, Outcome, Reads, Prefix, Prefixed, Form, Operands}
+use Rattle.text_grammar.specs.inner.Contract.{ReaderRoom, Accepted, Outcome, Reads, Prefix, Prefixed, Form, Operands}
 use Rattle.text_tree.proofs.Records.{pushed, stored-kept, before-record}
 use Rattle.text_grammar.proofs.Signs.{stands, stands-not, join-sign-some, quantifier-operator, relation-is}
 
@@ -48,12 +48,12 @@ module _ (s : List ℕ) (i : ℕ) (t : Token) (T : t ≡ tokenAt s i) where
   moves h = rw T (token-moves s i h)
 
   -- behind a token there is room for what it leaves
-  pub token-room : (out : List ℕ) (n d : ℕ) → Room s out i n d → Room s out (t .next) n d
+  pub token-room : (out : List ℕ) (n d : ℕ) → ReaderRoom s out i n d → ReaderRoom s out (t .next) n d
   token-room out n d room =
       let M = moves (room .within) in
       record { within = M .within; room = omega (arith, room .room, M .on); wide = room .wide; shallow = omega (arith, room .shallow, M .on) }
 
-  pub token-within : (out : List ℕ) (n d : ℕ) → Room s out i n d → t .next ≤ length s
+  pub token-within : (out : List ℕ) (n d : ℕ) → ReaderRoom s out i n d → t .next ≤ length s
   token-within out n d room = moves (room .within) .within
 
 -- outcomes
@@ -143,8 +143,8 @@ module _ (l m k : Level) (J : Joins l m k) (s before : List ℕ) (at n d : ℕ) 
       inside = moves s (a .next) t T (first .within) .within
 
       -- what the second part asks
-      pub join-room : Room s before at n d → length o ≡ length before
-          → (4 * (length s - t .next) + rank k < 4 * (length s - at) + rank l) × (Room s o (t .next) (a .count) d)
+      pub join-room : ReaderRoom s before at n d → length o ≡ length before
+          → (4 * (length s - t .next) + rank k < 4 * (length s - at) + rank l) × (ReaderRoom s o (t .next) (a .count) d)
       join-room room len =
           let R = first in (
             omega (arith, R .onward, onward, inside, J .above, J .below),
@@ -164,13 +164,13 @@ module _ (l m k : Level) (J : Joins l m k) (s before : List ℕ) (at n d : ℕ) 
             refusal _ s before o′ at n d b (step-bad g at (a .next) (R .tree) q (R .is) sign P) e′
 
         -- there is room for the operator
-        pub join-push : Room s before at n d → b .ok ≡ true → (b .count + 2 ≤ 8192) × (a .count ≤ b .count)
+        pub join-push : ReaderRoom s before at n d → b .ok ≡ true → (b .count + 2 ≤ 8192) × (a .count ≤ b .count)
         join-push room e′ =
             let R = first in
             let Q = accepted k s o o′ (t .next) (a .count) d b B e′ in
             (omega (arith, R .short, R .onward, onward, Q .short, Q .within, room .room, room .within), Q .count)
 
-        pub join-more : Room s before at n d → length o ≡ length before → length o′ ≡ length o → b .ok ≡ true
+        pub join-more : ReaderRoom s before at n d → length o ≡ length before → length o′ ≡ length o → b .ok ≡ true
             → (u : List ℕ) → u ≡ set (set o′ (b .count) (a .count)) (b .count + 1) (joinOperator q) → (x : Bool) → x ≡ (a .deep || b .deep)
             → Reads l s before u at n d (record { ok = true; deep = x; next = b .next; count = b .count + 2 })
         unfolding tooDeep
@@ -209,8 +209,8 @@ unfoldable pub quantifier : (q : Quantifier) (v : ℕ) → Prefix v (quantifierO
 unfolding tooDeep
 quantifier q v = record { make = bind q v; stores = λ t e a r d. of-bind r d; deeper = λ d a. refl }
 
-module _ (s before : List ℕ) (at n d payload operator : ℕ) (room : Room s before (at - 1) n d) (low : 1 ≤ at) (high : at ≤ length s) where
-  pub prefix-room : Room s before at n (d + 1)
+module _ (s before : List ℕ) (at n d payload operator : ℕ) (room : ReaderRoom s before (at - 1) n d) (low : 1 ≤ at) (high : at ≤ length s) where
+  pub prefix-room : ReaderRoom s before at n (d + 1)
   prefix-room = record { within = high; room = omega (arith, room .room); wide = room .wide; shallow = omega (arith, room .shallow) }
 
   module _ (o : List ℕ) (a : Reading) (A : Reads unit s before o at n (d + 1) a) where
@@ -276,13 +276,13 @@ unit-is : (p : Part) (s before o : List ℕ) (at n d : ℕ) (r : Reading) → ((
 unit-is p s before o at n d r step O zero h = absurd (omega arith)
 unit-is p s before o at n d r step O (suc g) h = earlier _ _ s before o at at n d r (step g) (le-refl _) O
 
-module _ (s before : List ℕ) (at n d : ℕ) (room : Room s before at n d) (t : Token) (T : t ≡ tokenAt s at) where
+module _ (s before : List ℕ) (at n d : ℕ) (room : ReaderRoom s before at n d) (t : Token) (T : t ≡ tokenAt s at) where
   first-moves : Moves s at t
   first-moves = moves s at t T (room .within)
 
   -- what the reader of a unit behind a prefix asks, the prefix ending at j
   pub prefixed-room : (j : ℕ) → at < j → j ≤ length s
-      → (4 * (length s - j) + 2 < 4 * (length s - at) + 1) × (Room s before (j - 1) n d × (1 ≤ j) × (j ≤ length s))
+      → (4 * (length s - j) + 2 < 4 * (length s - at) + 1) × (ReaderRoom s before (j - 1) n d × (1 ≤ j) × (j ≤ length s))
   prefixed-room j on inside =
       (omega arith, (record { within = omega arith; room = omega (arith, room .room); wide = room .wide; shallow = omega (arith, room .shallow) }, omega arith, inside))
 
@@ -351,7 +351,7 @@ module _ (s before : List ℕ) (at n d : ℕ) (room : Room s before at n d) (t :
     bracket-step : (g : ℕ) → parseAt (suc g) unit s at ≡ closed s (parseAt g formula s (t .next))
     bracket-step g = rw (← next-of s at t T) (unit-bracket g s at (kind-of s at t T 3 y))
 
-    pub bracket-room : (4 * (length s - t .next) + 4 < 4 * (length s - at) + 1) × (Room s before (t .next) n (d + 1))
+    pub bracket-room : (4 * (length s - t .next) + 4 < 4 * (length s - at) + 1) × (ReaderRoom s before (t .next) n (d + 1))
     bracket-room = (
       omega (arith, bracket-on, first-within),
       record { within = first-within; room = omega (arith, bracket-on, room .room); wide = room .wide; shallow = omega (arith, bracket-on, room .shallow) },
@@ -440,7 +440,7 @@ unfoldable pub size-form : (k : ℕ) → between 16 k 21 ≡ true → Form (k + 
 unfolding literalOperator literalPayload
 size-form k e = record { make = size (relationOf (k - 16)); operates = λ x y. omega (arith, relation-is k e); pays = λ x y. refl }
 
-module _ (s before : List ℕ) (at n d : ℕ) (room : Room s before at n d) (t : Token) (T : t ≡ tokenAt s at) where
+module _ (s before : List ℕ) (at n d : ℕ) (room : ReaderRoom s before at n d) (t : Token) (T : t ≡ tokenAt s at) where
   module _ (first operator wanted : ℕ) where
     pub operand-no : (t .kind ≡ wanted → ⊥) → (o : List ℕ) (r : Reading) → r .ok ≡ false → Operands s before o first operator wanted at n d r
     operand-no z o r q m = refusal _ s before o at n d r (rw (not-kind s at t T wanted z)) q

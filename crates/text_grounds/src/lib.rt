@@ -14,6 +14,7 @@ pub struct CoreAnswer {
     pub cells: u32,
 }
 
+// A ground applies, with all other fields 0.
 fn refused(ground: u8) -> CoreAnswer
     ensures { λ r. ⌜ (r .refused ≡ ground) × (r .nodes ≡ 0) × (r .cells ≡ 0) ⌝ }
 {

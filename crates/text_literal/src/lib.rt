@@ -16,7 +16,7 @@ ghost use mathlib.Core.Bool.{false};
 ghost use Prim.Native.Nat.{_≤_};
 ghost use lib.ListN.{length};
 ghost use Rattle.text_grammar.specs.Parser.{variableLiteral, sizeLiteral};
-ghost use Rattle.text_grammar.specs.inner.Contract.{Room, Outcome, Operands, Keeps, Lettered};
+ghost use Rattle.text_grammar.specs.inner.Contract.{ReaderRoom, Outcome, Operands, Keeps, LettersRead};
 
 // Operators of records (crate syntax, specs/Stored.antt). Those of the other signs follow from the kinds of tokens: an
 // arrow's is its kind less ARROW, a quantifier's its kind less QUANTIFIER, that of `v < w` and its kin is the relation's
@@ -50,7 +50,7 @@ fn operand(
     n: usize,
     d: usize,
 ) -> Reading
-    requires { ⌜ Room (now text) (now out) at n d × (1 ≤ wanted) ⌝ }
+    requires { ⌜ ReaderRoom (now text) (now out) at n d × (1 ≤ wanted) ⌝ }
     ensures { λ r. ⌜ Operands (now (text .entry)) (now (out .entry)) (now (out .exit)) first operator wanted at n d r ⌝ }
 {
     let t = token_at(text, at);
@@ -80,7 +80,7 @@ pub fn variable_literal(
     n: usize,
     d: usize,
 ) -> Reading
-    requires { ⌜ Room (now text) (now out) at n d ⌝ }
+    requires { ⌜ ReaderRoom (now text) (now out) at n d ⌝ }
     ensures { λ r. ⌜ Outcome (variableLiteral (now (text .entry)) v at) (now (text .entry)) (now (out .entry)) (now (out .exit)) at n d r ⌝ }
 {
     let t = token_at(text, at);
@@ -98,7 +98,7 @@ pub fn variable_literal(
 
 // The rest of `#S <= 9` and its kin, from behind the `#`.
 pub fn size_literal(text: &[u8], at: usize, out: &mut [u16], n: usize, d: usize) -> Reading
-    requires { ⌜ Room (now text) (now out) at n d ⌝ }
+    requires { ⌜ ReaderRoom (now text) (now out) at n d ⌝ }
     ensures { λ r. ⌜ Outcome (sizeLiteral (now (text .entry)) at) (now (text .entry)) (now (out .entry)) (now (out .exit)) at n d r ⌝ }
 {
     let s = token_at(text, at);
@@ -126,7 +126,7 @@ fn keep(letters: &mut [u8], n: usize, letter: u8) -> usize
 // The set letters at `at`, all passed, and the first of them kept, as many as there is room for.
 pub fn set_letters(text: &[u8], at: usize, letters: &mut [u8]) -> Letters
     requires { ⌜ at ≤ length (now text) ⌝ }
-    ensures { λ r. ⌜ Lettered (now (text .entry)) at (now (letters .exit)) r ⌝ }
+    ensures { λ r. ⌜ LettersRead (now (text .entry)) at (now (letters .exit)) r ⌝ }
 {
     let mut i = at;
     let mut count: usize = 0;

@@ -20,12 +20,14 @@ pub struct Faults {
     pub quantifiers: bool,
 }
 
+// A letter as a number of 16 bits.
 fn wide(b: u8) -> u16
     ensures { λ r. ⌜ r ≡ b ⌝ }
 {
     b as u16
 }
 
+// One of two holds.
 fn or(a: bool, b: bool) -> bool
     ensures { λ r. ⌜ r ≡ (a || b) ⌝ }
 {
@@ -49,6 +51,7 @@ pub fn set_number(sets: &[u8], s: u16) -> usize
     i
 }
 
+// Whether a set letter is not declared.
 fn undeclared(sets: &[u8], s: u16) -> bool
     ensures { λ r. ⌜ r ≡ not (among (now (sets .entry)) s) ⌝ }
 {
@@ -81,6 +84,7 @@ fn with_letter(bound: u64, v: u16) -> u64
     flip_port(bound, (v - 97) as u32)
 }
 
+// Whether a literal names a set that is not declared or a variable that is not bound (ground 5).
 fn names_literal(operator: u16, x: u16, sets: &[u8], bound: u64) -> bool
     ensures { λ r. ⌜ NamesLiteral (now (sets .entry)) operator x bound r ⌝ }
 {
@@ -98,6 +102,7 @@ fn names_literal(operator: u16, x: u16, sets: &[u8], bound: u64) -> bool
     !is_bound(bound, s)
 }
 
+// Whether a literal's constant is above 64 (ground 6).
 fn high_literal(operator: u16, x: u16) -> bool
     ensures { λ r. ⌜ HighLiteral operator x r ⌝ }
 {
@@ -107,6 +112,7 @@ fn high_literal(operator: u16, x: u16) -> bool
     64 < x % 256
 }
 
+// The faults of a literal.
 fn literal_faults(operator: u16, x: u16, sets: &[u8], bound: u64) -> Faults
     ensures { λ r. ⌜ LiteralFaults (now (sets .entry)) operator x bound r ⌝ }
 {
@@ -142,6 +148,7 @@ fn quantifier_faults(a: Faults, again: bool, d: u32) -> Faults
     }
 }
 
+// The faults of two parts together.
 fn both_faults(a: Faults, b: Faults) -> Faults
     ensures { λ r. ⌜ (r .names ≡ (a .names || b .names)) × (r .constants ≡ (a .constants || b .constants)) × (r .quantifiers ≡ (a .quantifiers || b .quantifiers)) ⌝ }
 {
@@ -155,6 +162,7 @@ fn both_faults(a: Faults, b: Faults) -> Faults
     }
 }
 
+// No fault.
 fn no_faults() -> Faults {
     Faults {
         names: false,
@@ -201,6 +209,7 @@ pub fn formula_faults(t: &[u16], e: usize, sets: &[u8]) -> Faults
     find_faults(t, e, sets, 0, 0)
 }
 
+// The first letter of a list.
 fn first(sets: &[u8]) -> u16
     requires { ⌜ 1 ≤ length (now sets) ⌝ }
     ensures { λ r. ⌜ r ≡ getD (now (sets .entry)) 0 0 ⌝ }
@@ -208,6 +217,7 @@ fn first(sets: &[u8]) -> u16
     wide(sets[0])
 }
 
+// Whether a letter stands twice in a list (ground 5).
 fn declared_twice(sets: &[u8]) -> bool
     ensures { λ r. ⌜ r ≡ declaredTwice (now (sets .entry)) ⌝ }
 {

@@ -5,6 +5,7 @@ ghost use Prim.Native.Nat.{_+_, _-_, _≤_};
 ghost use lib.ListN.{length, set, getD};
 ghost use Rattle.text_tree.specs.inner.Stored.{literalCode};
 
+// One of two holds.
 pub fn or(a: bool, b: bool) -> bool
     ensures { λ r. ⌜ r ≡ (a || b) ⌝ }
 {
@@ -20,6 +21,7 @@ pub fn push(out: &mut [u16], n: usize, payload: u16, operator: u16)
     out[n + 1] = operator;
 }
 
+// The other polarity.
 pub fn flip(p: bool) -> bool
     ensures { λ r. ⌜ r ≡ not p ⌝ }
 {
@@ -44,6 +46,7 @@ pub fn operator_at(t: &[u16], e: usize) -> u16
     t[e - 1]
 }
 
+// The payload of the record that ends at e.
 pub fn payload_at(t: &[u16], e: usize) -> u16
     requires { ⌜ (2 ≤ e) × (e ≤ length (now t)) ⌝ }
     ensures { λ r. ⌜ r ≡ getD (now (t .entry)) (e - 2) 0 ⌝ }

@@ -4,7 +4,7 @@ use lib.ListN.{take}
 use borrow.Author.Needs.{needs}
 use Rattle.logic.specs.declared.Move.{Move}
 use Rattle.contracts.specs.Lists.{moveCall, trialCall, improveCall, Step}
-use Rattle.call_list.specs.Encoding.{tag, moveOf, kindsOf, cellsLent, Says, answerNumbers}
+use Rattle.call_list.specs.Encoding.{tag, moveOf, kindsOf, cellsLent, Encodes, answerNumbers}
 use Rattle.call_list.specs.inner.Steps.{OneAfter}
 use Rattle.call_list.specs.Scratch.{lentTo, answerNumber}
 use Rattle.call_list.proofs.Extending.{scratch-lent}
@@ -43,7 +43,7 @@ same-length-3 : tie.Need-same-length-3
 same-length-3 c = search needs
 
 returns : tie.Need-returns
-unfolding OneAfter Says tag Step answerNumbers
+unfolding OneAfter Encodes tag Step answerNumbers
 returns c =
     record { exchange = moveCall (c .before .before .before .before .before .before .before .before .before .before .before .before .before .before .before .move-of .result) (c .before .before .before .before .before .before .before .before .make-move .result); says = (c .before .before .before .before .before .before .before .before .before .before .before .if1 .taken, c .before .before .before .before .before .before .before .before .before .before .before .before .before .before .before .move-of .ensures); step = c .before .before .before .before .before .before .before .before .make-move .ensures; scratch-step = none-lent _ _ _ _; answer-is = c .before .before .tell-moved .ensures }
 
@@ -75,7 +75,7 @@ same-length-7 : tie.Need-same-length-7
 same-length-7 c = search needs
 
 returns-2 : tie.Need-returns-2
-unfolding OneAfter Says tag Step answerNumbers cellsLent lentTo answerNumber
+unfolding OneAfter Encodes tag Step answerNumbers cellsLent lentTo answerNumber
 returns-2 c =
     record { exchange = trialCall (c .before .before .before .before .before .before .before .before .before .before .before .before .before .before .before .move-of .result) (take (c .before .before .before .before .before .before .before .before .before .before .before .before .lesser .result - 0) (c .before .before .before .before .before .before .before .before .before .before .before .before .before .before .before .before .before .before .before .before .before .before .before .args .scratch .now)) (c .before .before .before .before .before .before .trial .result); says = (c .before .before .before .before .before .before .before .before .before .before .if2 .taken, c .before .before .before .before .before .before .before .before .before .before .before .before .before .before .before .move-of .ensures, scratch-lent (c .before .before .before .before .before .before .before .before .before .before .before .before .before .before .before .before .before .before .before .before .before .before .before .args .scratch .now) _ (c .before .before .before .before .before .before .before .before .before .before .before .before .before .wide .result) (c .before .before .before .before .before .before .before .before .before .before .before .before .lesser .result) (c .before .before .before .before .before .before .before .before .before .before .before .before .before .wide .ensures) (c .before .before .before .before .before .before .before .before .before .before .before .before .lesser .ensures)); step = (c .before .before .before .before .before .before .trial .ensures .0, refl); scratch-step = front-lent _ _ _ (c .before .before .before .before .before .before .before .before .before .before .before .before .lesser .result - 0) _ refl (c .before .before .before .before .before .before .trial .ensures .1); answer-is = c .before .before .tell-moved2 .ensures }
 
@@ -107,7 +107,7 @@ same-length-11 : tie.Need-same-length-11
 same-length-11 c = search needs
 
 returns-3 : tie.Need-returns-3
-unfolding OneAfter Says tag Step answerNumbers cellsLent lentTo answerNumber kindsOf moveOf
+unfolding OneAfter Encodes tag Step answerNumbers cellsLent lentTo answerNumber kindsOf moveOf
 returns-3 c =
     record { exchange = improveCall (c .before .before .before .before .before .before .before .before .before .before .before .before .before .before .before .before .before .before .before .before .move-of .result .kind) (take (c .before .before .before .before .before .before .before .before .before .before .before .before .before .before .before .before .before .lesser .result - 0) (c .before .before .before .before .before .before .before .before .before .before .before .before .before .before .before .before .before .before .before .before .before .before .before .before .before .before .before .before .args .scratch .now)) (c .before .before .before .before .before .before .before .before .before .before .improve .result); says = (c .before .before .before .before .before .before .before .before .before .before .before .before .before .before .if3 .taken, ap (λ (m : Move). m .kind) (c .before .before .before .before .before .before .before .before .before .before .before .before .before .before .before .before .before .before .before .before .move-of .ensures), scratch-lent (c .before .before .before .before .before .before .before .before .before .before .before .before .before .before .before .before .before .before .before .before .before .before .before .before .before .before .before .before .args .scratch .now) _ (c .before .before .before .before .before .before .before .before .before .before .before .before .before .before .before .before .before .before .wide .result) (c .before .before .before .before .before .before .before .before .before .before .before .before .before .before .before .before .before .lesser .result) (c .before .before .before .before .before .before .before .before .before .before .before .before .before .before .before .before .before .before .wide .ensures) (c .before .before .before .before .before .before .before .before .before .before .before .before .before .before .before .before .before .lesser .ensures)); step = c .before .before .before .before .before .before .before .before .before .before .improve .ensures .0; scratch-step = front-lent _ _ _ (c .before .before .before .before .before .before .before .before .before .before .before .before .before .before .before .before .before .lesser .result - 0) _ refl (c .before .before .before .before .before .before .before .before .before .before .improve .ensures .1); answer-is = c .before .before .tell-improved .ensures }
 

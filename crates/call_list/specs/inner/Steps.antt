@@ -8,13 +8,13 @@ use Rattle.table_format.specs.Decode.{decode}
 use Rattle.contracts.specs.State.{State}
 use Rattle.contracts.specs.Lists.{Exchange, Step}
 use Rattle.call_list.specs.Scratch.{ScratchOne}
-use Rattle.call_list.specs.Encoding.{Says, Unknown, answerNumbers}
+use Rattle.call_list.specs.Encoding.{Encodes, Unknown, answerNumbers}
 use Rattle.call_list.specs.Working.{Stopped}
 
 -- One call was worked: the numbers say a call, which answered what the ten numbers say and left the tables as its contract allows.
 pub record OneWorked (bytes call : List ℕ) (s : State) (scratch answer : List ℕ) (s′ : State) (scratch′ answer′ : List ℕ) : Type 0 where
   pub exchange : Exchange
-  pub says : Says (length scratch) call exchange
+  pub says : Encodes (length scratch) call exchange
   pub step : Step bytes s exchange s′
   pub scratch-step : ScratchOne (decode bytes) exchange scratch scratch′
   pub answer-is : answer′ ≡ answerNumbers exchange ++ drop 10 answer

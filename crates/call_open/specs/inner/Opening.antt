@@ -10,7 +10,7 @@ use Rattle.logic.specs.Configuration.{ownMasks, allWithin}
 use Rattle.logic.specs.Cells.{ownCells}
 use Rattle.logic.specs.Moves.{Ground, refusal}
 use Rattle.table_format.specs.Decode.{Decoded, broken, sound, decode}
-use Rattle.cells_walk.specs.inner.Root.{Indexed}
+use Rattle.cells_walk.specs.inner.Root.{PlanIndex}
 use Rattle.call_open.specs.declared.Opened.{Opened}
 
 -- 12 and 13, where the shortest of the lent cell tables is so long.
@@ -29,7 +29,7 @@ pub record OpenPlan (ports sets : ℕ) (bytes masks : List ℕ) (shortest : ℕ)
   pub decodes : decode bytes ≡ sound plan
   pub ports-are : ports ≡ plan .ports
   pub sets-are : sets ≡ plan .sets
-  pub indexed : Indexed plan firsts ends uses
+  pub indexed : PlanIndex plan firsts ends uses
   pub own-masks : ownMasks plan ≤ length masks
   pub own-cells : ownCells plan ≤ shortest
   pub within : allWithin (plan .ports) (take (ownMasks plan) masks) ≡ true

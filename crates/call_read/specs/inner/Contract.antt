@@ -15,7 +15,7 @@ use Rattle.contracts.specs.declared.Answer.{Answer}
 use Rattle.contracts.specs.Read.{tableLength, readOr}
 
 -- A text in the grammar: its tree in the table t, the first of its set letters in another. Ground 5 is decided by the first 17.
-pub record Kept (t : List ℕ) (e : ℕ) (letters : List ℕ) (n : ℕ) (sets : List ℕ) (a : Tree) : Type 0 where
+pub record TextKept (t : List ℕ) (e : ℕ) (letters : List ℕ) (n : ℕ) (sets : List ℕ) (a : Tree) : Type 0 where
   pub stored : Stored t e a
   pub lettered : Lettered a
   pub letters-are : take n letters ≡ take 17 sets
@@ -26,10 +26,10 @@ pub record SomeText (u : ℕ) (t : List ℕ) (e : ℕ) (letters : List ℕ) (n :
   pub within : n ≤ length letters
   pub sets : List ℕ
   pub tree : Tree
-  pub kept : Kept t e letters n sets tree
+  pub kept : TextKept t e letters n sets tree
 
 -- Grounds 5 to 9 and 12, and the table.
 unfoldable pub Finishes : ℕ → List ℕ → ℕ → List ℕ → ℕ → List ℕ → List ℕ → Answer → Type 0
-Finishes u t e letters n before after r = (sets : List ℕ) (a : Tree) → Kept t e letters n sets a
+Finishes u t e letters n before after r = (sets : List ℕ) (a : Tree) → TextKept t e letters n sets a
     → _≡_ {A = Answer × List ℕ} (r, after)
     (readOr (refusal (coreGrounds u sets a ++ ((12, ltb (length before) (tableLength (planOf u sets a))) ∷ []))) u (read sets a) before)

@@ -33,7 +33,7 @@ Marked (port r v w) = Unit {0}
 Marked (size r S c) = S < 16
 
 -- What a change is told by: the ports p and q, the sets that change at p, those that change at q, and those that are resized.
-pub record Says (u : ℕ) (ch : Change) (c : Changed) : Type 0 where
+pub record Describes (u : ℕ) (ch : Change) (c : Changed) : Type 0 where
   pub order : c .p ≤ c .q
   pub below : c .q < u
   pub at-p-is : (S v : ℕ) → S < 16 → v < 3 → inMask (c .psets) (4 * S + v) ≡ listed (ch .pairs) S (c .p)
@@ -81,4 +81,4 @@ changeAt s t p q =
 
 -- The change that a move makes is told so.
 unfoldable pub Tells : Move → Changed → Type 0
-Tells m c = (P : Plan) (k : Sets) → P .sets ≤ 16 → known P m ≡ true → Says (P .ports) (pairsChange (movePairs P k m)) c
+Tells m c = (P : Plan) (k : Sets) → P .sets ≤ 16 → known P m ≡ true → Describes (P .ports) (pairsChange (movePairs P k m)) c

@@ -8,14 +8,14 @@ use Rattle.logic.specs.Configuration.{configured, inMasks}
 use Rattle.logic.specs.Truth.{Tuple}
 use Rattle.logic.specs.Change.{Change, modulus, cellOf}
 use Rattle.cells_touch.specs.declared.Changed.{Changed}
-use Rattle.cells_touch.specs.inner.Hits.{Says}
+use Rattle.cells_touch.specs.inner.Hits.{Describes}
 use Rattle.cells_sum.specs.declared.After.{After}
 use Rattle.cells_sum.specs.declared.Sum.{Sum}
 use Rattle.cells_walk.specs.inner.Visit.{Visit, MasksSettled, CellsFit, TablesLong, CellAfter, TreesAfter, PortsVisit, PortsAfter}
 
 -- The tables, the change and the masks after it.
-pub record Ready (u sets : ℕ) (c : Changed) (firsts ends uses masks cells : List ℕ) (change : Change) : Type 0 where
-  pub says : Says u change c
+pub record WalkReady (u sets : ℕ) (c : Changed) (firsts ends uses masks cells : List ℕ) (change : Change) : Type 0 where
+  pub says : Describes u change c
   pub masks-settled : MasksSettled u sets masks
   pub cells-fit : CellsFit cells
   pub long : TablesLong firsts ends uses
@@ -28,12 +28,12 @@ pub record CellReady (u sets : ℕ) (c : Changed) (bytes firsts ends uses masks 
   pub siblings : Forest
   pub first : ℕ
   pub tuple : Tuple
-  pub ready : Ready u sets c firsts ends uses masks cells change
+  pub ready : WalkReady u sets c firsts ends uses masks cells change
   pub visit : Visit u sets change bytes firsts ends uses cells i (tree node children siblings) first d tuple place digits word
 
 unfoldable pub CellGives : ℕ → ℕ → Changed → List ℕ → List ℕ → List ℕ → List ℕ → List ℕ → List ℕ → ℕ → ℕ → ℕ → ℕ → ℕ → After → Type 0
 CellGives u sets c bytes firsts ends uses masks cells i d place digits word r =
-    (ch : Change) (n : Node) (f s : Forest) (b : ℕ) (e : Tuple) → Ready u sets c firsts ends uses masks cells ch
+    (ch : Change) (n : Node) (f s : Forest) (b : ℕ) (e : Tuple) → WalkReady u sets c firsts ends uses masks cells ch
     → Visit u sets ch bytes firsts ends uses cells i (tree n f s) b d e place digits word
     → CellAfter u (configured u sets (inMasks masks)) ch (cellOf u cells) n f b d e r
 
@@ -43,14 +43,14 @@ pub record TreesReady (u sets : ℕ) (c : Changed) (bytes firsts ends uses masks
   pub forest : Forest
   pub first : ℕ
   pub tuple : Tuple
-  pub ready : Ready u sets c firsts ends uses masks cells change
+  pub ready : WalkReady u sets c firsts ends uses masks cells change
   pub visit : Visit u sets change bytes firsts ends uses cells i forest first d tuple place digits word
   pub ends-at : until ≡ i + nodeCount forest
   pub few : acc .changed < modulus
 
 unfoldable pub TreesGive : ℕ → ℕ → Changed → List ℕ → List ℕ → List ℕ → List ℕ → List ℕ → List ℕ → ℕ → ℕ → ℕ → ℕ → ℕ → ℕ → Bool → Sum → Sum → Type 0
 TreesGive u sets c bytes firsts ends uses masks cells i until d place digits word add acc r =
-    (ch : Change) (f : Forest) (b : ℕ) (e : Tuple) → Ready u sets c firsts ends uses masks cells ch
+    (ch : Change) (f : Forest) (b : ℕ) (e : Tuple) → WalkReady u sets c firsts ends uses masks cells ch
     → Visit u sets ch bytes firsts ends uses cells i f b d e place digits word → until ≡ i + nodeCount f
     → TreesAfter u (configured u sets (inMasks masks)) ch (cellOf u cells) add f b d e acc r
 
@@ -60,13 +60,13 @@ pub record PortsReady (u sets : ℕ) (c : Changed) (bytes firsts ends uses masks
   pub forest : Forest
   pub first : ℕ
   pub tuple : Tuple
-  pub ready : Ready u sets c firsts ends uses masks cells change
+  pub ready : WalkReady u sets c firsts ends uses masks cells change
   pub visit : PortsVisit u sets change bytes firsts ends uses cells i forest first d tuple row digits word used
   pub low : acc .value < modulus
   pub few : acc .changed < modulus
 
 unfoldable pub PortsSo : ℕ → ℕ → Changed → List ℕ → List ℕ → List ℕ → List ℕ → List ℕ → List ℕ → ℕ → ℕ → ℕ → ℕ → ℕ → ℕ → Bool → ℕ → Sum → Sum → Type 0
 PortsSo u sets c bytes firsts ends uses masks cells i d row digits word used add m acc r =
-    (ch : Change) (f : Forest) (b : ℕ) (e : Tuple) → Ready u sets c firsts ends uses masks cells ch
+    (ch : Change) (f : Forest) (b : ℕ) (e : Tuple) → WalkReady u sets c firsts ends uses masks cells ch
     → PortsVisit u sets ch bytes firsts ends uses cells i f b d e row digits word used
     → PortsAfter u (configured u sets (inMasks masks)) ch (cellOf u cells) add f b d e m acc r

@@ -1,4 +1,3 @@
-use native.Mathlib.Omega.{arith}
 use borrow.Author.Needs.{needs}
 use Rattle.cells_walk.specs.inner.Visit.{Afresh}
 use Rattle.cells_walk.proofs.Steps.{afresh-member, afresh-port, afresh-size, member-ready, comparison-ready, size-ready}

@@ -23,12 +23,12 @@ pub record NodeIs (bytes firsts ends uses : List ℕ) (i : ℕ) (n : Node) (c : 
   pub uses-are : getD uses i 0 ≡ bitOr (nodeUses n) (forestUses c)
 
 -- The tables hold a forest: its first node is i, its first cell b, its depth d.
-unfoldable pub Holds : ℕ → List ℕ → List ℕ → List ℕ → List ℕ → ℕ → Forest → ℕ → ℕ → Type 0
-Holds u bytes firsts ends uses i none b d = Unit {0}
-Holds u bytes firsts ends uses i (tree n c s) b d =
+unfoldable pub IndexHolds : ℕ → List ℕ → List ℕ → List ℕ → List ℕ → ℕ → Forest → ℕ → ℕ → Type 0
+IndexHolds u bytes firsts ends uses i none b d = Unit {0}
+IndexHolds u bytes firsts ends uses i (tree n c s) b d =
     NodeIs bytes firsts ends uses i n c b
-    × Holds u bytes firsts ends uses (suc i) c (b + u ^ d) (childDepth n d)
-    × Holds u bytes firsts ends uses (i + suc (nodeCount c)) s (siblingFirst u n c b d) d
+    × IndexHolds u bytes firsts ends uses (suc i) c (b + u ^ d) (childDepth n d)
+    × IndexHolds u bytes firsts ends uses (i + suc (nodeCount c)) s (siblingFirst u n c b d) d
 
 -- What the rules of the table say of a node: its depth, a literal's variables, set and constant, and how many children it has.
 unfoldable pub LiteralFits : ℕ → ℕ → Literal → Type 0

@@ -10,12 +10,12 @@ use Rattle.logic.specs.Cells.{ownCells, firstCells}
 use Rattle.table_format.specs.Decode.{sound, decode}
 use Rattle.table_format.specs.inner.Index.{ends, usesTable, laid}
 use Rattle.cells_touch.specs.declared.Changed.{Changed}
-use Rattle.cells_touch.specs.inner.Hits.{Says}
+use Rattle.cells_touch.specs.inner.Hits.{Describes}
 use Rattle.cells_sum.specs.declared.After.{After}
 use Rattle.cells_walk.specs.inner.Visit.{MasksSettled, CellsFit, TablesLong}
 
 -- The index tables of a plan, as its check leaves them in tables of any numbers.
-pub record Indexed (P : Plan) (firsts ends′ uses : List ℕ) : Type 0 where
+pub record PlanIndex (P : Plan) (firsts ends′ uses : List ℕ) : Type 0 where
   pub firsts₀ : List ℕ
   pub ends₀ : List ℕ
   pub uses₀ : List ℕ
@@ -29,10 +29,10 @@ pub record RootReady (u sets : ℕ) (c : Changed) (bytes firsts ends′ uses mas
   pub decodes : decode bytes ≡ sound plan
   pub ports-are : u ≡ plan .ports
   pub sets-are : sets ≡ plan .sets
-  pub indexed : Indexed plan firsts ends′ uses
+  pub indexed : PlanIndex plan firsts ends′ uses
   pub long : TablesLong firsts ends′ uses
   pub change : Change
-  pub says : Says u change c
+  pub says : Describes u change c
   pub masks-settled : MasksSettled u sets masks
   pub cells-fit : CellsFit cells
   pub own-cells : ownCells plan ≤ length cells
@@ -44,4 +44,4 @@ pub record RootAfter (P : Plan) (ch : Change) (masks cells : List ℕ) (r : Afte
   pub changed-is : r .changed ≡ differing (take (ownCells P) cells) (newCells P (spelled P masks) ch (take (ownCells P) cells))
 
 unfoldable pub RootGives : ℕ → Changed → List ℕ → List ℕ → List ℕ → After → Type 0
-RootGives u c bytes masks cells r = (P : Plan) (ch : Change) → decode bytes ≡ sound P → Says u ch c → RootAfter P ch masks cells r
+RootGives u c bytes masks cells r = (P : Plan) (ch : Change) → decode bytes ≡ sound P → Describes u ch c → RootAfter P ch masks cells r

@@ -18,7 +18,7 @@ use Rattle.cells_sum.specs.inner.Walk.{gathered, changes}
 use Rattle.cells_sum.specs.declared.After.{After}
 use Rattle.cells_sum.specs.declared.Sum.{Sum}
 use Rattle.table_format.specs.Bytes.{recordLength, kindField, relationField, aField, bField, recordsOf, recordAt, relationByte, aByte, bByte}
-use Rattle.cells_walk.specs.inner.Nodes.{Holds, LiteralFits, Fitting}
+use Rattle.cells_walk.specs.inner.Nodes.{IndexHolds, LiteralFits, Fitting}
 
 -- The ports of a tuple in one number, eight bits a variable, the outermost lowest.
 unfoldable pub packed : Tuple → ℕ
@@ -27,7 +27,7 @@ packed (p ∷ e) = packed e + p * 256 ^ length e
 
 -- The walk stands before the trees of a forest at a tuple.
 pub record Visit (u sets : ℕ) (ch : Change) (bytes firsts ends uses cells : List ℕ) (i : ℕ) (f : Forest) (b d : ℕ) (e : Tuple) (place digits word : ℕ) : Type 0 where
-  pub holds : Holds u bytes firsts ends uses i f b d
+  pub holds : IndexHolds u bytes firsts ends uses i f b d
   pub fitting : Fitting sets f d
   pub tuple : TupleOf u d e
   pub place-is : place ≡ placeOf u e
@@ -92,7 +92,7 @@ RecordAfresh u sets d bytes i masks digits r =
 
 -- The walk stands below a quantifier at depth d, before the tree of its one child at each port: `row` is the place of the first.
 pub record PortsVisit (u sets : ℕ) (ch : Change) (bytes firsts ends uses cells : List ℕ) (i : ℕ) (f : Forest) (b d : ℕ) (e : Tuple) (row digits word used : ℕ) : Type 0 where
-  pub holds : Holds u bytes firsts ends uses i f b (suc d)
+  pub holds : IndexHolds u bytes firsts ends uses i f b (suc d)
   pub fitting : Fitting sets f (suc d)
   pub tuple : TupleOf u d e
   pub row-is : row ≡ placeOf u e * u

@@ -1,22 +1,22 @@
 use native.Mathlib.Omega.{arith}
 use borrow.Author.Needs.{needs}
-use Rattle.move_legal.specs.inner.Legal.{Says}
+use Rattle.move_legal.specs.inner.Legal.{Decides}
 use Rattle.move_legal.proofs.Known.{says-fields}
 use Rattle.move_legal.proofs.has_fields.Statement.{statement}
 use Rattle.move_legal.proofs.has_fields.Tie as tie
 
 returns : tie.Need-returns
-unfolding Says
+unfolding Decides
 returns c =
     λ F. let x = F .kind-low in omega (arith, x, c .if1 .taken)
 
 returns-2 : tie.Need-returns-2
-unfolding Says
+unfolding Decides
 returns-2 c =
     λ F. let x = F .kind-high in omega (arith, x, c .if2 .taken)
 
 returns-3 : tie.Need-returns-3
-unfolding Says
+unfolding Decides
 returns-3 c =
     λ F. let x = F .s-below in omega (arith, x, c .if3 .taken)
 
@@ -24,12 +24,12 @@ t-end-requires : tie.Need-t-end-requires
 t-end-requires c κs = search needs
 
 returns-4 : tie.Need-returns-4
-unfolding Says
+unfolding Decides
 returns-4 c =
     λ F. let x = F .t-below in omega (arith, x, c .before .before .t-end .ensures, c .if4 .taken)
 
 returns-5 : tie.Need-returns-5
-unfolding Says
+unfolding Decides
 returns-5 c =
     λ F. let x = F .p-below in omega (arith, x, c .if5 .taken)
 

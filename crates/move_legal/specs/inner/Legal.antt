@@ -49,9 +49,9 @@ pub record LegalOver (ports sets : ℕ) (m : Move) (masks : List ℕ) : Type 0 w
   pub fitting : fits (inMasks (take sets masks)) m ≡ true
 
 -- What a test says of what it tests.
-unfoldable pub Says : Bool → Type 0 → Type 0
-Says true A = A
-Says false A = A → ⊥
+unfoldable pub Decides : Bool → Type 0 → Type 0
+Decides true A = A
+Decides false A = A → ⊥
 
 pub record MoveReady (ports sets : ℕ) (masks : List ℕ) : Type 0 where
   pub ports64 : ports ≤ 64

@@ -1,6 +1,5 @@
 use mathlib.Core.Path.{refl}
 use Prim.Native.Nat.{_-_}
-use native.Mathlib.Omega.{arith}
 use lib.ListN.{getD}
 use borrow.Author.Needs.{needs}
 use Rattle.logic.proofs.Written.{Written, start, one-more-first, all-first, take-tabulate}

@@ -4,7 +4,7 @@ use denote.Ref.{now}
 use borrow.Author.Tests.{not-true, not-false}
 use borrow.Author.Needs.{needs}
 use Rattle.logic.specs.Moves.{ofKinds}
-use Rattle.move_legal.specs.inner.Legal.{Says, Fields}
+use Rattle.move_legal.specs.inner.Legal.{Decides, Fields}
 use Rattle.move_order.proofs.Known.{says-suits}
 use Rattle.move_legal.proofs.Known.{says-yes, says-no}
 use Rattle.move_order.proofs.is_candidate.Statement.{statement}
@@ -14,7 +14,7 @@ of-kinds-requires : tie.Need-of-kinds-requires
 of-kinds-requires c κs = search needs
 
 returns : tie.Need-returns
-unfolding Says ofKinds
+unfolding Decides ofKinds
 returns c =
     λ S. true≢false (sym (S .of-kinds) ∙ (sym (c .before .of-kinds .ensures) ∙ not-true _ (c .if1 .taken)))
 
@@ -22,7 +22,7 @@ has-fields-requires : tie.Need-has-fields-requires
 has-fields-requires c κs = search needs
 
 returns-2 : tie.Need-returns-2
-unfolding Says
+unfolding Decides
 returns-2 c =
     λ S. says-no (c .before .has-fields .result) (Fields (c .before .before .before .before .before .args .ports) (c .before .before .before .before .before .args .sets) (c .before .before .before .before .before .args .m)) (c .before .has-fields .ensures) (not-true _ (c .if2 .taken)) (S .fields)
 

@@ -65,13 +65,13 @@ GivesNext ports sets kinds masks m r =
     (P : Plan) → P .ports ≡ ports → P .sets ≡ sets → NextOr (r .found) P kinds (take sets masks) m (r .m)
 
 -- One step through the known moves of the kinds: none of them lies between m and r.
-pub record Steps (ports sets kinds : ℕ) (m r : Move) : Type 0 where
+pub record StepsOn (ports sets kinds : ℕ) (m r : Move) : Type 0 where
   pub position : Position ports sets r
   pub later : place m < place r
   pub none-between : (m′ : Move) → Fields ports sets m′ → ofKinds kinds m′ ≡ true → place m < place m′ → place r ≤ place m′
 
 unfoldable pub StepsAny : ℕ → ℕ → Move → Move → Type 0
-StepsAny ports sets m r = (kinds : ℕ) → Steps ports sets kinds m r
+StepsAny ports sets m r = (kinds : ℕ) → StepsOn ports sets kinds m r
 
 -- What stands before the first move.
 unfoldable pub outset : Move

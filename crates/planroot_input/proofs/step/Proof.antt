@@ -2,13 +2,13 @@ use mathlib.Core.Path.{_≡_, refl, _∙_}
 use Prim.Native.Nat.{_-_, _≤_}
 use native.Mathlib.Omega.{arith}
 use lib.ListN.{length, take}
-use Rattle.planroot_input.specs.inner.Scans.{Steps}
+use Rattle.planroot_input.specs.inner.Scans.{PassesPiece}
 use Rattle.planroot_input.proofs.Stepping.{steps-none, steps-one, steps-all}
 use Rattle.planroot_input.proofs.step.Statement.{statement}
 use Rattle.planroot_input.proofs.step.Tie as tie
 
 abbrev Inv-loop : tie.InvT-loop
-Inv-loop bytes masks₀ text₀ r₀ i₀ masks text r i = Steps r₀ (take i bytes) masks₀ text₀ r masks text × (i ≤ length bytes) × (length masks ≡ length masks₀) × (length text ≡ length text₀)
+Inv-loop bytes masks₀ text₀ r₀ i₀ masks text r i = PassesPiece r₀ (take i bytes) masks₀ text₀ r masks text × (i ≤ length bytes) × (length masks ≡ length masks₀) × (length text ≡ length text₀)
 
 abbrev μ-loop : tie.MeasureT-loop
 μ-loop bytes masks₀ text₀ r₀ i₀ masks text r i = length bytes - i

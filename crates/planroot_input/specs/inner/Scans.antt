@@ -12,7 +12,7 @@ use Rattle.planroot_input.specs.Lines.{ends, words, value, isRun, allRun
 use Rattle.planroot_input.specs.inner.Words.{IsWord}
 
 -- The lent tables: a plan has at most 16 masks, and a text of 4,097 bytes is too long, whatever follows.
-pub record Room (ms tx : List ℕ) : Type 0 where
+pub record InputRoom (ms tx : List ℕ) : Type 0 where
   pub masks-room : 16 ≤ length ms
   pub text-room : 4097 ≤ length tx
 
@@ -74,8 +74,8 @@ pub record Ended (s : Scan) (done : List (List ℕ)) (last : List ℕ) (r : Scan
 unfoldable pub EndsWord : Scan → List ℕ → Scan → List ℕ → Type 0
 EndsWord s ms r ms′ = (done : List (List ℕ)) (last : List ℕ) → IsWord last (s .word) → Gathered done (s .masks) ms → Ended s done last r ms′
 
-unfoldable pub Steps : Scan → List ℕ → List ℕ → List ℕ → Scan → List ℕ → List ℕ → Type 0
-Steps s bytes ms tx r ms′ tx′ = (input : List ℕ) → Scanned input s ms tx → Scanned (input ++ bytes) r ms′ tx′
+unfoldable pub PassesPiece : Scan → List ℕ → List ℕ → List ℕ → Scan → List ℕ → List ℕ → Type 0
+PassesPiece s bytes ms tx r ms′ tx′ = (input : List ℕ) → Scanned input s ms tx → Scanned (input ++ bytes) r ms′ tx′
 
 -- Nothing is passed.
 unfoldable pub Starts : Scan → Type 0

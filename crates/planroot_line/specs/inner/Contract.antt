@@ -43,5 +43,5 @@ pub record SomeInput (s : Scan) (ms tx table : List ℕ) : Type 0 where
   pub input : List ℕ
   pub scanned : Scanned input s ms tx
 
-unfoldable pub Finishes : Scan → List ℕ → List ℕ → List ℕ → List ℕ → Line → Type 0
-Finishes s ms tx table cells r = (input : List ℕ) → Scanned input s ms tx → r ≡ inputLine input table cells
+unfoldable pub LinesInput : Scan → List ℕ → List ℕ → List ℕ → List ℕ → Line → Type 0
+LinesInput s ms tx table cells r = (input : List ℕ) → Scanned input s ms tx → r ≡ inputLine input table cells

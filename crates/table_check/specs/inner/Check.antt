@@ -32,7 +32,7 @@ pub record Placed (l : List ℕ) (i parent d ports sets width first : ℕ) (firs
   pub room-uses : 512 ≤ length uses
 
 -- What is known of the forest, and what the index tables hold of it.
-pub record Indexed (i d ports first : ℕ) (f : Forest) (r : Checked) (firsts ends′ uses firsts′ ends″ uses′ : List ℕ) : Type 0 where
+pub record PartIndexed (i d ports first : ℕ) (f : Forest) (r : Checked) (firsts ends′ uses firsts′ ends″ uses′ : List ℕ) : Type 0 where
   pub trees : r .trees ≡ treeCount f
   pub cells : r .cells ≡ cellCount ports f d
   pub used : r .uses ≡ forestUses f
@@ -42,7 +42,7 @@ pub record Indexed (i d ports first : ℕ) (f : Forest) (r : Checked) (firsts en
 
 pub record Judged (l : List ℕ) (i parent d ports sets above first : ℕ) (r : Checked) (firsts ends uses firsts′ ends′ uses′ : List ℕ) : Type 0 where
   pub accepts : r .ok ≡ true
-      → (f : Forest) × Sound l i parent d sets above f × Indexed i d ports first f r firsts ends uses firsts′ ends′ uses′
+      → (f : Forest) × Sound l i parent d sets above f × PartIndexed i d ports first f r firsts ends uses firsts′ ends′ uses′
   pub refuses : r .ok ≡ false → (f : Forest) → Sound l i parent d sets above f → ⊥
 
 -- What the check of a part's first record asks: its rules, and that the part has the whole tree, which ends at e.
@@ -93,7 +93,7 @@ pub record PlanJudged (bytes : List ℕ) (r : Info) (firsts ends uses firsts′ 
   pub accepts : r .ok ≡ true → (P : Plan) × (decode bytes ≡ sound P) × PlanIndexed P r firsts ends uses firsts′ ends′ uses′
   pub refuses : r .ok ≡ false → decode bytes ≡ broken
 
-pub record Room (firsts ends uses : List ℕ) : Type 0 where
+pub record IndexRoom (firsts ends uses : List ℕ) : Type 0 where
   pub of-firsts : 512 ≤ length firsts
   pub of-ends : 512 ≤ length ends
   pub of-uses : 512 ≤ length uses

@@ -65,7 +65,7 @@ rowOf rev p F G s = F p (inside (not p)) (G (not p) (inside (not p)) s)
 rowOf iff p F G s = joinWith two imp p F G (inside p) (joinWith two rev p F G (inside p) s)
 
 -- The table has room for records up to number i, and for 512 of them at most.
-pub record Ready (sets : List ℕ) (i : ℕ) (out : List ℕ) : Type 0 where
+pub record EmitReady (sets : List ℕ) (i : ℕ) (out : List ℕ) : Type 0 where
   pub few-sets : length sets ≤ 16
   pub placed : recordLength * i ≤ length out
   pub few : length out ≤ recordLength * 512
@@ -77,7 +77,7 @@ pub record EmitsLiteral (operator payload : ℕ) (sets : List ℕ) (b : Bound) (
       → Records (tree (lit (literalAt sets (boundLetters b) p l)) none none) parent i before after r
 
 -- The tree whose records end at place e, with d quantifiers around it and no fourth.
-pub record Sound (t : List ℕ) (e d : ℕ) (a : Tree) : Type 0 where
+pub record Emittable (t : List ℕ) (e d : ℕ) (a : Tree) : Type 0 where
   pub stored : Stored t e a
   pub lettered : Lettered a
   pub shallow : fourth d a ≡ false
@@ -85,26 +85,26 @@ pub record Sound (t : List ℕ) (e d : ℕ) (a : Tree) : Type 0 where
 -- The next number is within the table, and whatever tree the table keeps, the records of its part of the core are written.
 pub record Emits (t : List ℕ) (e : ℕ) (sets : List ℕ) (b : Bound) (p : Bool) (up : Up) (i : ℕ) (before after : List ℕ) (r : ℕ) : Type 0 where
   pub placed : recordLength * r ≤ length before
-  pub writes : (a : Tree) → Sound t e (b .count) a → Records (place sets (boundLetters b) p a (aboveOf (up .kind)) none) (up .number) i before after r
+  pub writes : (a : Tree) → Emittable t e (b .count) a → Records (place sets (boundLetters b) p a (aboveOf (up .kind)) none) (up .number) i before after r
 
 abbrev pub core : List ℕ → Bound → Tree → Bool → Part
 core sets b a p = place sets (boundLetters b) p a
 
 pub record EmitsJoin (t : List ℕ) (m e operator : ℕ) (sets : List ℕ) (b : Bound) (p : Bool) (up : Up) (i : ℕ) (before after : List ℕ) (r : ℕ) : Type 0 where
   pub placed : recordLength * r ≤ length before
-  pub writes : (j : Join) → operator ≡ joinOperator j → (x y : Tree) → Sound t m (b .count) x → Sound t e (b .count) y
+  pub writes : (j : Join) → operator ≡ joinOperator j → (x y : Tree) → Emittable t m (b .count) x → Emittable t e (b .count) y
       → Records (joinWith two j p (core sets b x) (core sets b y) (aboveOf (up .kind)) none) (up .number) i before after r
 
 -- The same inside the joint.
 pub record EmitsRow (t : List ℕ) (m e operator : ℕ) (sets : List ℕ) (b : Bound) (p : Bool) (up : Up) (i : ℕ) (before after : List ℕ) (r : ℕ) : Type 0 where
   pub placed : recordLength * r ≤ length before
-  pub writes : (j : Join) → operator ≡ joinOperator j → aboveOf (up .kind) ≡ inside (jointAt j p) → (x y : Tree) → Sound t m (b .count) x → Sound t e (b .count) y
+  pub writes : (j : Join) → operator ≡ joinOperator j → aboveOf (up .kind) ≡ inside (jointAt j p) → (x y : Tree) → Emittable t m (b .count) x → Emittable t e (b .count) y
       → Records (rowOf j p (core sets b x) (core sets b y) none) (up .number) i before after r
 
 -- The records of a text's core fill a table of their length. "The root is node 0 with parent 65,535."
 unfoldable pub PutsCore : List ℕ → ℕ → List ℕ → List ℕ → List ℕ → Type 0
 PutsCore t e sets before after =
-    (a : Tree) → Sound t e 0 a → length before ≡ recordLength * nodeCount (coreOf sets a) → after ≡ records (coreOf sets a) 0 65535
+    (a : Tree) → Emittable t e 0 a → length before ≡ recordLength * nodeCount (coreOf sets a) → after ≡ records (coreOf sets a) 0 65535
 
 -- The table has room for the header and so many records.
 pub record PlanReady (sets : List ℕ) (nodes : ℕ) (table : List ℕ) : Type 0 where
@@ -116,4 +116,4 @@ pub record PlanReady (sets : List ℕ) (nodes : ℕ) (table : List ℕ) : Type 0
 -- "Reading [..] writes the plan table": the bytes of the plan, and behind them what stood there.
 unfoldable pub WritesPlan : ℕ → List ℕ → List ℕ → ℕ → ℕ → List ℕ → List ℕ → Type 0
 WritesPlan u sets t e nodes before after =
-    (a : Tree) → Sound t e 0 a → nodes ≡ nodeCount (coreOf sets a) → after ≡ encoding (planOf u sets a) ++ drop (tableBytes (length sets) nodes) before
+    (a : Tree) → Emittable t e 0 a → nodes ≡ nodeCount (coreOf sets a) → after ≡ encoding (planOf u sets a) ++ drop (tableBytes (length sets) nodes) before

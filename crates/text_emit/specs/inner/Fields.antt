@@ -30,7 +30,7 @@ unfoldable pub boundLetters : Bound → List ℕ
 boundLetters b = letters (b .count) (b .outer) (b .middle) (b .inner)
 
 -- One more letter is bound, if fewer than three are.
-pub record Binds (b : Bound) (v : ℕ) (r : Bound) : Type 0 where
+pub record BindsLetter (b : Bound) (v : ℕ) (r : Bound) : Type 0 where
   pub letters-are : b .count < 3 → boundLetters r ≡ v ∷ boundLetters b
   pub count-is : b .count < 3 → r .count ≡ suc (b .count)
 

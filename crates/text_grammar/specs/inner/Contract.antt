@@ -15,7 +15,7 @@ use Rattle.text_grammar.specs.Parser.{Part, missing, found, mapPart, ope
 
 -- A reader at position `at` of the text s, with n numbers in the table and d of `(`, `~` and quantifiers around it. Each
 -- byte gives at most one record, so a text of 4,096 bytes fits 8,192 numbers.
-pub record Room (s out : List ℕ) (at n d : ℕ) : Type 0 where
+pub record ReaderRoom (s out : List ℕ) (at n d : ℕ) : Type 0 where
   pub within : at ≤ length s
   pub room : n + 2 * (length s - at) ≤ 8192
   pub wide : 8192 ≤ length out
@@ -68,7 +68,7 @@ pub record Keeps (n v : ℕ) (before after : List ℕ) (r : ℕ) : Type 0 where
   pub full : length before ≤ n → (after ≡ before) × (r ≡ n)
 
 -- The set letters at `at`, for every bound that suffices: the first of them, as many as there is room for, stand in the table.
-pub record Lettered (s : List ℕ) (at : ℕ) (letters : List ℕ) (r : Letters) : Type 0 where
+pub record LettersRead (s : List ℕ) (at : ℕ) (letters : List ℕ) (r : Letters) : Type 0 where
   pub few : r .count ≤ length letters
   pub kept : (f : ℕ) → length s ≤ f + at → take (r .count) letters ≡ take (length letters) (lettersAt f s at)
   pub ends : (f : ℕ) → length s ≤ f + at → r .next ≡ afterLetters f s at
