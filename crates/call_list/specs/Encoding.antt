@@ -27,8 +27,8 @@ kindsOf call = getD call 1 0
 unfoldable pub cellsLent : List ℕ → ℕ → ℕ
 cellsLent call scratch-length = min (getD call 6 0) scratch-length
 
--- The call that seven numbers say, whatever it answers: 1 a move, 2 a trial, 3 improve. "Scratch may be another table at every call, hold anything or be too
--- short": only its length is said, and a move is lent none.
+-- The call that seven numbers say, whatever it answers: 1 a move, 2 a trial, 3 improve. "Scratch may be another table at every
+-- call, hold anything or be too short": only its length is said, and a move is lent none.
 unfoldable pub Encodes : ℕ → List ℕ → Exchange → Type 0
 Encodes scratch-length call (moveCall m r) = (tag call ≡ 1) × (m ≡ moveOf call)
 Encodes scratch-length call (trialCall m scratch r) = (tag call ≡ 2) × (m ≡ moveOf call) × (length scratch ≡ cellsLent call scratch-length)

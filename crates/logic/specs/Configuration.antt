@@ -24,7 +24,8 @@ unfoldable pub portsIn : ℕ → (ℕ → Bool) → ℕ
 portsIn zero s = 0
 portsIn (suc u) s = portsIn u s + indicator (s u)
 
--- The configuration of n sets over the ports below u: what is in a set, and how many ports are.
+-- "The configuration is n masks of 64 bits", by the sets that they spell: of n sets over the ports below u, what is in a set and
+-- how many ports are.
 unfoldable pub configured : ℕ → ℕ → Sets → Configuration
 configured u n k = record { member = k; size = λ S. portsIn u (k S) }
 

@@ -1,5 +1,4 @@
--- The legal moves of some kinds in one order, and what a step to the next of them gives. Paper 01, section One move; paper 02,
--- request 2026-01.
+-- The legal moves of some kinds in one order. Paper 01, section One move; paper 02, request 2026-01.
 use mathlib.Core.Path.{_≡_}
 use mathlib.Core.Logic.{_⊎_}
 use mathlib.Core.Bool.{Bool, cond, _&&_}

@@ -13,11 +13,12 @@ headerLength = 9
 unfoldable pub recordLength : ℕ
 recordLength = 8
 
--- Where the records of a table over so many sets begin: right behind the header, however many sets there are.
+-- "Header, 9 bytes [..] Then 8 bytes a node": where the records of a table over so many sets begin, right behind the header
+-- however many sets there are.
 unfoldable pub recordsFrom : ℕ → ℕ
 recordsFrom sets = headerLength
 
--- How many bytes a table over so many sets and of so many nodes has.
+-- The same sentence: how many bytes a table over so many sets and of so many nodes has.
 abbrev pub tableBytes : ℕ → ℕ → ℕ
 tableBytes sets nodes = recordsFrom sets + recordLength * nodes
 

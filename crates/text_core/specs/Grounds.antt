@@ -1,5 +1,4 @@
--- Grounds 5 to 9 in their order, and what the functions over a stored tree give. Every claim is of each tree that the table
--- keeps and whose letters are letters.
+-- Grounds 5 to 9 in their order: paper 01, section Grounds for refusal.
 use mathlib.Core.List.{List, [], _∷_}
 use Prim.Native.Nat.{ℕ}
 use lib.Dec.{ltb}

@@ -1,4 +1,4 @@
--- What depends on the plan alone, node by node: first cells, ends, and which sets are used at or below a node.
+-- What depends on the plan alone, node by node: ends, and which sets are used at or below a node; and a list laid into another.
 use mathlib.Core.List.{[], _∷_, List, _++_}
 use Prim.Native.Nat.{suc, _*_, _^_, ℕ, _+_}
 use lib.Bits.{bitOr}
