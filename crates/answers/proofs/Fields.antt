@@ -4,7 +4,8 @@ use Prim.Native.Nat.{ℕ}
 use Rattle.logic.specs.declared.Move.{Move}
 use Rattle.contracts.specs.declared.Improved.{Improved}
 use Rattle.contracts.specs.declared.Improved.the-variants.{Made, NoBetter, Refused}
-use Rattle.contracts.specs.ImproveCall.{improvedNumber, improvedFound, improvedMove, noMove, improvedBefore, improvedAfter, improvedChanged}
+use Rattle.logic.specs.Moves.{noMove}
+use Rattle.contracts.specs.ImproveCall.{improvedNumber, improvedFound, improvedMove, improvedBefore, improvedAfter, improvedChanged}
 use Rattle.answers.specs.Moving.{ImproveFields}
 
 -- the struct of each answer of improve

@@ -5,12 +5,12 @@ use contracts::Improved;
 use contracts::Loaded;
 use contracts::Moved;
 use logic::Move;
+use logic::no_move;
 ghost use mathlib.Core.Path.{_≡_};
 ghost use Rattle.contracts.specs.declared.Moved.the-variants.{Accepted};
 ghost use Rattle.contracts.specs.declared.Improved.the-variants.{Made};
 ghost use Rattle.answers.specs.Boundary.{ReadFields, LoadFields};
 ghost use Rattle.answers.specs.Moving.{MoveFields, ImproveFields};
-ghost use Rattle.contracts.specs.ImproveCall.{noMove};
 
 // Root before, root after, and how many cells differ.
 pub fn accepted(r: After) -> Moved
@@ -105,19 +105,6 @@ pub struct ImproveAnswer {
     pub before: u32,
     pub after: u32,
     pub changed: u32,
-}
-
-// The move of an answer that has none: all 0.
-fn no_move() -> Move
-    ensures { λ r. ⌜ r ≡ noMove ⌝ }
-{
-    Move {
-        kind: 0,
-        s: 0,
-        t: 0,
-        p: 0,
-        q: 0,
-    }
 }
 
 // A move's or trial's answer as its C struct.

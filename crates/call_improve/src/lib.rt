@@ -1,8 +1,8 @@
 // The call improve: the best legal move of some kinds, made if it leaves a smaller root than now. Paper 01, section One move.
 use answers::made;
-use call_open::lesser;
 use call_open::open_tables;
 use contracts::Improved;
+use logic::lesser;
 use move_best::Choice;
 use move_best::choose;
 use move_make::carry;

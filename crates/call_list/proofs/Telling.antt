@@ -8,7 +8,8 @@ use Rattle.logic.specs.declared.Move.{Move}
 use Rattle.contracts.specs.declared.Moved.{Moved}
 use Rattle.contracts.specs.declared.Improved.{Improved}
 use Rattle.contracts.specs.MoveCall.{movedNumber, movedBefore, movedAfter, movedChanged}
-use Rattle.contracts.specs.ImproveCall.{noMove, improvedNumber, improvedFound, improvedMove, improvedBefore, improvedAfter, improvedChanged}
+use Rattle.logic.specs.Moves.{noMove}
+use Rattle.contracts.specs.ImproveCall.{improvedNumber, improvedFound, improvedMove, improvedBefore, improvedAfter, improvedChanged}
 use Rattle.call_list.specs.Encoding.{tenNumbers, movedNumbers, improvedNumbers}
 
 -- ten stores leave the ten numbers and what stood behind them

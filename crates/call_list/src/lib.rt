@@ -2,16 +2,17 @@
 use call_improve::improve;
 use call_move::make_move;
 use call_move::trial;
-use call_open::lesser;
 use contracts::Improved;
 use contracts::Moved;
 use logic::Move;
+use logic::lesser;
+use logic::no_move;
+use logic::wide;
 ghost use mathlib.Core.Path.{_≡_};
 ghost use mathlib.Core.List.{_++_};
 ghost use Prim.Native.Nat.{_*_, _≤_};
 ghost use lib.ListN.{length, drop};
 ghost use Rattle.contracts.specs.State.{tables};
-ghost use Rattle.contracts.specs.ImproveCall.{noMove};
 ghost use Rattle.call_list.specs.Encoding.{moveOf, tenNumbers, movedNumbers, improvedNumbers};
 ghost use Rattle.call_list.specs.inner.Steps.{OneAfter, NextFits};
 ghost use Rattle.call_list.specs.Working.{Worked, Stopped};
@@ -20,19 +21,6 @@ ghost use Rattle.call_list.specs.Working.{Worked, Stopped};
 const CALL: usize = 7;
 
 const ANSWER: usize = 10;
-
-// What stands in an answer that has no move.
-fn no_move() -> Move
-    ensures { λ r. ⌜ r ≡ noMove ⌝ }
-{
-    Move {
-        kind: 0,
-        s: 0,
-        t: 0,
-        p: 0,
-        q: 0,
-    }
-}
 
 // An answer's ten numbers.
 fn tell(number: u32, found: u32, m: Move, before: u32, after: u32, changed: u32, answer: &mut [u32])
@@ -95,13 +83,6 @@ fn move_of(call: &[u32]) -> Move
         p: call[4],
         q: call[5],
     }
-}
-
-// A length that a call gives.
-fn wide(x: u32) -> usize
-    ensures { λ r. ⌜ r ≡ x ⌝ }
-{
-    x as usize
 }
 
 // One call by its tag: 1 a move, 2 a trial, 3 improve. Any other tag is unknown, and nothing is written for it.

@@ -1,27 +1,28 @@
 -- Load's answer by what the opening of its tables gives. Assumes nothing.
-use mathlib.Core.Path.{_≡_, refl, sym, ap}
-use mathlib.Core.List.{List}
+use mathlib.Core.Path.{_≡_, refl}
+use mathlib.Core.List.{List, []}
 use Prim.Native.Nat.{ℕ, zero, suc}
 use native.Mathlib.Omega.{arith}
 use lib.ListN.{length}
 use Rattle.logic.specs.Formula.{nodeCount}
 use Rattle.logic.specs.Configuration.{ownMasks}
-use Rattle.table_format.specs.Decode.{Decoded, broken, sound}
+use Rattle.table_format.specs.Decode.{Decoded}
 use Rattle.contracts.specs.State.{State, tables}
 use Rattle.contracts.specs.declared.Loaded.{Loaded}
 use Rattle.contracts.specs.declared.Loaded.the-variants.{Refused}
 use Rattle.contracts.specs.Load.{loadGrounds, loads}
 use Rattle.contracts.proofs.LoadAnswers.{load-refused}
-use Rattle.call_open.specs.inner.Opening.{openGrounds, openNumber, OpenPlan}
+use Rattle.call_open.specs.inner.Opening.{openNumber, OpenPlan}
+use Rattle.call_open.proofs.Opening.{one-table, shut-first}
 use Rattle.cells_fill.specs.inner.Fill.{FillReady}
 
 -- one of 11 to 13 applies
 pub load-shut : (d : Decoded) (masks xs : List ℕ) (n : ℕ) → (n ≡ 0 → ⊥) → n ≡ openNumber d masks (length xs)
     → _≡_ {A = Loaded × State} (Refused n, tables masks xs) (loads d (tables masks xs))
-unfolding openNumber openGrounds loads loadGrounds
-load-shut broken masks xs n h q = ap (λ (k : ℕ). (Refused k, tables masks xs)) q
-load-shut (sound P) masks xs zero h q = absurd (h refl)
-load-shut (sound P) masks xs (suc g) h q = load-refused masks xs P g (sym q)
+unfolding loadGrounds
+load-shut d masks xs zero h q = absurd (h refl)
+load-shut d masks xs (suc g) h q =
+    load-refused d (tables masks xs) g (shut-first (tables masks xs) (length xs) [] (λ P k. []) (one-table (length xs)) d g q)
 
 -- the cells can be filled
 pub fill-ready : (ports sets nodes : ℕ) (bytes masks xs x y z : List ℕ) (o : OpenPlan ports sets bytes masks (length xs) x y z) → nodes ≡ nodeCount (o .plan .formula)

@@ -1,16 +1,14 @@
 // The calls trial and move. Paper 01, section One move.
 use answers::accepted;
-use call_open::lesser;
 use call_open::open_tables;
-use cells_touch::change_of;
-use cells_try::root_after;
 use contracts::Moved;
+use logic::MASK_ROOM;
 use logic::Move;
+use logic::lesser;
+use logic::own_masks;
 use move_legal::move_number;
-use move_legal::narrow;
 use move_make::carry;
-use move_masks::copy_masks;
-use move_masks::masks_after;
+use move_try::try_move;
 ghost use mathlib.Core.Path.{_≡_};
 ghost use lib.ListN.{length};
 ghost use Rattle.table_format.specs.Decode.{decode};
@@ -31,25 +29,23 @@ pub fn trial(table: &[u8], masks: &[u64], cells: &[u32], scratch: &mut [u32], m:
     if o.number != 0 {
         return Moved::Refused(o.number);
     }
-    let ports = o.ports;
-    let sets = o.sets;
-    let number = move_number(m, ports, sets, masks);
+    let number = move_number(m, o.ports, o.sets, masks);
     if number != 0 {
         return Moved::Refused(number);
     }
-    let mut after = [0u64; 16];
-    copy_masks(masks, sets, &mut after);
-    masks_after(m, narrow(ports), narrow(sets), &mut after[0..sets]);
-    accepted(root_after(
+    let mut work = [0u64; MASK_ROOM];
+    let own = own_masks(o.sets);
+    accepted(try_move(
         table,
         &firsts,
         &ends,
         &uses,
-        &after[0..sets],
+        masks,
         cells,
-        ports,
-        sets,
-        change_of(m),
+        o.ports,
+        o.sets,
+        m,
+        &mut work[0..own],
     ))
 }
 

@@ -1,5 +1,5 @@
 -- The index table read as bounds. Assumes nothing.
-use mathlib.Core.Path.{_≡_, sym, ap, _∙_}
+use mathlib.Core.Path.{_≡_, refl, sym, ap, _∙_}
 use mathlib.Core.Bool.{Bool, cond}
 use mathlib.Core.List.{List, [], _∷_}
 use Prim.Native.Nat.{ℕ, _+_, _≤_, _<_}
@@ -14,6 +14,12 @@ use Rattle.table_format.specs.inner.Index.{laid}
 use Rattle.table_format.proofs.Laid.{length-firsts}
 use Rattle.table_format.proofs.Ready.{own-count}
 use Rattle.call_node.specs.inner.Bounds.{boundAt}
+use Rattle.logic.specs.Moves.{refusal}
+use Rattle.table_format.specs.Decode.{Decoded, broken, sound}
+use Rattle.contracts.specs.Call.{planGrounds}
+use Rattle.contracts.specs.NodeCells.{PartGives}
+use Rattle.contracts.proofs.NodeAnswers.{part-broken, part-short}
+use Rattle.call_open.specs.inner.Opening.{cellsNumber}
 use Rattle.contracts.proofs.NodeParts.{bounded, bounded-is, last-bound, NodeBounds, node-bounds}
 
 -- the bounds as the code reads them from the index table
@@ -47,3 +53,13 @@ bounds-of P zs firsts node from to nodes total e n t h a b =
     node-bounds (P .ports) (P .formula) node from to total (omega (arith, n)) q
     (a ∙ bound-read (P .ports) (P .formula) zs firsts node nodes total e n q (omega arith))
     (b ∙ bound-read (P .ports) (P .formula) zs firsts (node + 1) nodes total e n q (omega arith))
+
+-- 11 or 12 applies: the part is empty
+pub part-shut : (d : Decoded) (cells node n : ℕ) → (n ≡ 0 → ⊥) → n ≡ cellsNumber d cells → PartGives d cells node (record { first = 0; count = 0 })
+unfolding cellsNumber planGrounds refusal
+part-shut broken cells node n h q = part-broken broken cells node refl
+part-shut (sound P) cells node n h q = part-short (sound P) cells node P refl (short (decLt cells (ownCells P)))
+  where
+    short : Dec (cells < ownCells P) → cells < ownCells P
+    short (yes l) = l
+    short (no l) = absurd (h (q ∙ ap (λ (b : Bool). cond b 12 0) (le-ltb cells (ownCells P) (omega arith))))

@@ -1,6 +1,7 @@
 // The call for one node's cells. Paper 01, section One move.
+use call_open::open_cells;
 use contracts::Part;
-use table_check::check;
+use logic::wide;
 ghost use mathlib.Core.Path.{_≡_};
 ghost use Prim.Native.Nat.{_≤_};
 ghost use lib.ListN.{length};
@@ -8,20 +9,13 @@ ghost use Rattle.call_node.specs.inner.Bounds.{boundAt};
 ghost use Rattle.contracts.specs.NodeCells.{nodeCells, PartGives};
 ghost use Rattle.table_format.specs.Decode.{decode};
 
-// A first cell as a place of the table.
-fn wide_cell(x: u32) -> usize
-    ensures { λ r. ⌜ r ≡ x ⌝ }
-{
-    x as usize
-}
-
 // Where the cells of node i begin; where the last node's end, if there is no node i.
 pub fn bound_of(firsts: &[u32], i: usize, nodes: usize, total: usize) -> usize
     requires { ⌜ nodes ≤ length (now firsts) ⌝ }
     ensures { λ r. ⌜ r ≡ boundAt (now (firsts .entry)) i nodes total ⌝ }
 {
     if i < nodes {
-        return wide_cell(firsts[i]);
+        return wide(firsts[i]);
     }
     total
 }
@@ -34,15 +28,12 @@ pub fn node_bounds(table: &[u8], cells: usize, node: usize) -> Part
     let mut firsts = [0u32; 512];
     let mut ends = [0u16; 512];
     let mut uses = [0u64; 512];
-    let info = check(table, &mut firsts, &mut ends, &mut uses);
-    if !info.ok {
+    let o = open_cells(table, cells, &mut firsts, &mut ends, &mut uses);
+    if o.number != 0 {
         return Part { first: 0, count: 0 };
     }
-    let nodes = info.nodes;
-    let total = info.cells;
-    if cells < total {
-        return Part { first: 0, count: 0 };
-    }
+    let nodes = o.nodes;
+    let total = o.cells;
     if nodes <= node {
         return Part { first: 0, count: 0 };
     }

@@ -1,52 +1,107 @@
--- Grounds 11 to 13 as the code tries them. Assumes nothing.
+-- Grounds 11 to 13 as the code tries them, and as the first of every call's. Assumes nothing.
 use mathlib.Core.Path.{_≡_, refl, sym, ap, ap₂, _∙_}
 use mathlib.Core.Bool.{Bool, true, false, cond, not, _||_}
-use mathlib.Core.List.{List}
-use Prim.Native.Nat.{ℕ, suc, _≤_, _<_}
+use mathlib.Core.List.{List, [], _∷_}
+use Prim.Native.Nat.{ℕ, zero, suc, min, _≤_, _<_}
+use native.Mathlib.Decide.{decLe}
 use native.Mathlib.Omega.{arith}
 use lib.Dec.{ltb}
 use lib.ListN.{length, take}
 use borrow.Author.Tests.{lt-ltb, le-ltb}
 use Rattle.logic.specs.Formula.{Plan, nodeCount}
-use Rattle.logic.specs.Configuration.{ownMasks, allWithin}
+use Rattle.logic.specs.Configuration.{Sets, inMasks, ownMasks, allWithin}
 use Rattle.logic.specs.Cells.{ownCells}
-use Rattle.logic.specs.Moves.{refusal}
+use Rattle.logic.specs.Moves.{Ground, refusal}
+use Rattle.logic.specs.Change.{someOf}
 use Rattle.table_format.specs.Decode.{Decoded, broken, sound, decode}
 use Rattle.table_format.proofs.Encoding.{decode-sound, one-plan}
 use Rattle.table_format.proofs.Ready.{ready}
 use Rattle.cells_walk.specs.inner.Root.{PlanIndex}
+use Rattle.contracts.specs.State.{State, tables}
+use Rattle.contracts.specs.Call.{planGrounds, tableGrounds, callGrounds}
+use Rattle.contracts.proofs.Calls.{LentEnough}
 use Rattle.call_open.specs.declared.Opened.{Opened}
-use Rattle.call_open.specs.inner.Opening.{openGrounds, openNumber, OpenPlan, Opens}
+use Rattle.call_open.specs.inner.Opening.{cellsNumber, openNumber, IndexedPlan, OpensCells, OpenPlan, Opens}
 
-module _ (bytes masks : List ℕ) (shortest : ℕ) (r : Opened) (x y z : List ℕ) where
+module _ (bytes : List ℕ) (shortest : ℕ) (r : Opened) (x y z : List ℕ) where
   -- a number other than 0 opens nothing
-  closes : (g : ℕ) → r .number ≡ suc g → suc g ≡ openNumber (decode bytes) masks shortest → Opens bytes masks shortest r x y z
-  closes g h q = record { number-is = h ∙ q; opens = λ e. absurd (omega (arith, h, e)); nodes-are = λ e. absurd (omega (arith, h, e)); cells-are = λ e. absurd (omega (arith, h, e)) }
+  closes-cells : (g : ℕ) → r .number ≡ suc g → suc g ≡ cellsNumber (decode bytes) shortest → OpensCells bytes shortest r x y z
+  closes-cells g h q = record { number-is = h ∙ q; opens = λ e. absurd (omega (arith, h, e)) }
 
-  pub opens-broken : r .number ≡ 11 → decode bytes ≡ broken → Opens bytes masks shortest r x y z
-  unfolding openNumber
-  opens-broken h d = closes 10 h (sym (ap (λ (w : Decoded). openNumber w masks shortest) d))
+  pub cells-broken : r .number ≡ 11 → decode bytes ≡ broken → OpensCells bytes shortest r x y z
+  unfolding cellsNumber planGrounds refusal
+  cells-broken h d = closes-cells 10 h (sym (ap (λ (w : Decoded). cellsNumber w shortest) d))
 
   module _ (P : Plan) (d : decode bytes ≡ sound P) where
-    number-of : (a b : Bool) → (ltb (length masks) (ownMasks P) || ltb shortest (ownCells P)) ≡ a → not (allWithin (P .ports) (take (ownMasks P) masks)) ≡ b
-        → openNumber (decode bytes) masks shortest ≡ cond a 12 (cond b 13 0)
-    unfolding openNumber openGrounds refusal
-    number-of a b h k = ap (λ (w : Decoded). openNumber w masks shortest) d ∙ ap₂ (λ (v w : Bool). cond v 12 (cond w 13 0)) h k
+    cells-number : (a : Bool) → ltb shortest (ownCells P) ≡ a → cellsNumber (decode bytes) shortest ≡ cond a 12 0
+    unfolding cellsNumber planGrounds refusal
+    cells-number a h = ap (λ (w : Decoded). cellsNumber w shortest) d ∙ ap (λ (v : Bool). cond v 12 0) h
 
+    pub cells-few : r .number ≡ 12 → shortest < ownCells P → OpensCells bytes shortest r x y z
+    cells-few h l = closes-cells 11 h (sym (cells-number true (lt-ltb _ _ l)))
+
+    pub cells-open : r .number ≡ 0 → r .ports ≡ P .ports → r .sets ≡ P .sets → r .nodes ≡ nodeCount (P .formula) → r .cells ≡ ownCells P → PlanIndex P x y z
+        → ownCells P ≤ shortest → OpensCells bytes shortest r x y z
+    cells-open h u n k c i l = record {
+      number-is = h ∙ sym (cells-number false (le-ltb _ _ l));
+      opens = λ _. record {
+        plan = P;
+        decodes = d;
+        ports-are = u;
+        sets-are = n;
+        nodes-are = k;
+        cells-are = c;
+        indexed = i;
+        own-cells = l;
+      };
+    }
+
+module _ (bytes masks : List ℕ) (shortest : ℕ) (r : Opened) (x y z : List ℕ) where
+  closes : (g : ℕ) → r .number ≡ suc g → suc g ≡ openNumber (decode bytes) masks shortest → Opens bytes masks shortest r x y z
+  closes g h q = record {
+    number-is = h ∙ q;
+    opens = λ e. absurd (omega (arith, h, e));
+    nodes-are = λ e. absurd (omega (arith, h, e));
+    cells-are = λ e. absurd (omega (arith, h, e));
+  }
+
+  number-of : (P : Plan) → decode bytes ≡ sound P → (a b w : Bool) → ltb (length masks) (ownMasks P) ≡ a → ltb shortest (ownCells P) ≡ b
+      → allWithin (P .ports) (take (ownMasks P) masks) ≡ w → openNumber (decode bytes) masks shortest ≡ cond (a || (b || false)) 12 (cond (not w) 13 0)
+  unfolding openNumber planGrounds tableGrounds refusal someOf
+  number-of P d a b w h k l =
+      ap (λ (v : Decoded). openNumber v masks shortest) d
+      ∙ (λ i. cond (h i || (k i || false)) 12 (cond (not (l i)) 13 0))
+
+  -- 11 and 12 of the cell tables stand first
+  pub opens-not : (r .number ≡ 0 → ⊥) → r .number ≡ cellsNumber (decode bytes) shortest → Opens bytes masks shortest r x y z
+  unfolding cellsNumber openNumber planGrounds tableGrounds refusal someOf
+  opens-not h e = go (decode bytes) (r .number) refl refl
+    where
+      few : (a b c : Bool) (n : ℕ) → (n ≡ 0 → ⊥) → n ≡ cond a 12 0 → n ≡ cond (b || (a || false)) 12 (cond c 13 0)
+      few true true c n q w = w
+      few true false c n q w = w
+      few false b c n q w = absurd (q w)
+
+      same : (d : Decoded) (n : ℕ) → (n ≡ 0 → ⊥) → n ≡ cellsNumber d shortest → n ≡ openNumber d masks shortest
+      same broken n q w = w
+      same (sound P) n q w = few (ltb shortest (ownCells P)) (ltb (length masks) (ownMasks P)) (not (allWithin (P .ports) (take (ownMasks P) masks))) n q w
+
+      go : (d : Decoded) (n : ℕ) → decode bytes ≡ d → r .number ≡ n → Opens bytes masks shortest r x y z
+      go d zero p q = absurd (h q)
+      go d (suc g) p q = closes g q (sym q ∙ same (decode bytes) (r .number) h e)
+
+  module _ (P : Plan) (d : decode bytes ≡ sound P) where
     pub opens-few-masks : r .number ≡ 12 → length masks < ownMasks P → Opens bytes masks shortest r x y z
-    opens-few-masks h l = closes 11 h (sym (number-of true _ (ap (λ (v : Bool). v || ltb shortest (ownCells P)) (lt-ltb _ _ l)) refl))
-
-    pub opens-few-cells : r .number ≡ 12 → ownMasks P ≤ length masks → shortest < ownCells P → Opens bytes masks shortest r x y z
-    opens-few-cells h m l = closes 11 h (sym (number-of true _ (ap₂ _||_ (le-ltb _ _ m) (lt-ltb _ _ l)) refl))
+    opens-few-masks h l = closes 11 h (sym (number-of P d true _ _ (lt-ltb _ _ l) refl refl))
 
     module _ (m : ownMasks P ≤ length masks) (l : ownCells P ≤ shortest) where
       pub opens-not-within : r .number ≡ 13 → allWithin (P .ports) (take (ownMasks P) masks) ≡ false → Opens bytes masks shortest r x y z
-      opens-not-within h w = closes 12 h (sym (number-of false true (ap₂ _||_ (le-ltb _ _ m) (le-ltb _ _ l)) (ap not w)))
+      opens-not-within h w = closes 12 h (sym (number-of P d false false false (le-ltb _ _ m) (le-ltb _ _ l) w))
 
       pub opens-all : r .number ≡ 0 → r .ports ≡ P .ports → r .sets ≡ P .sets → r .nodes ≡ nodeCount (P .formula) → r .cells ≡ ownCells P → PlanIndex P x y z
           → allWithin (P .ports) (take (ownMasks P) masks) ≡ true → Opens bytes masks shortest r x y z
       opens-all h u n k c i w = record {
-        number-is = h ∙ sym (number-of false false (ap₂ _||_ (le-ltb _ _ m) (le-ltb _ _ l)) (ap not w));
+        number-is = h ∙ sym (number-of P d false false true (le-ltb _ _ m) (le-ltb _ _ l) w);
         opens = λ _. record {
           plan = P;
           decodes = d;
@@ -78,9 +133,64 @@ open-longer ports sets bytes masks shortest n x y z o l = record {
   within = o .within;
 }
 
+-- the tables that are open are long enough, and no own mask has a port of u or more
+pub open-enough : (ports sets : ℕ) (bytes masks cells : List ℕ) (shortest : ℕ) (x y z : List ℕ) (o : OpenPlan ports sets bytes masks shortest x y z) → shortest ≤ length cells
+    → LentEnough (o .plan) (tables masks cells)
+open-enough ports sets bytes masks cells shortest x y z o l =
+    record { masks-enough = o .own-masks; cells-enough = omega (arith, o .own-cells, l); within = o .within }
+
 -- a plan has a cell, its root's, and a number of cells that 32 bits hold
 pub root-cell : (bytes : List ℕ) (P : Plan) → decode bytes ≡ sound P → 0 < ownCells P
 root-cell bytes P d = let r = ready bytes P (nodeCount (P .formula)) d refl in omega (arith, r .total)
 
 pub few-cells : (bytes : List ℕ) (P : Plan) → decode bytes ≡ sound P → ownCells P < 4294967296
 few-cells bytes P d = let r = ready bytes P (nodeCount (P .formula)) d refl in omega (arith, r .total, r .facts .few)
+
+-- The length of the shortest of the cell tables that a call is lent: too short if one of them is.
+pub Shortest : ℕ → List ℕ → Type 0
+Shortest shortest lengths = (t : ℕ) → (ltb shortest t || false) ≡ someOf (λ l. ltb l t) lengths
+
+pub one-table : (x : ℕ) → Shortest x (x ∷ [])
+unfolding Shortest someOf
+one-table x t = refl
+
+pub two-tables : (x y : ℕ) → Shortest (min x y) (x ∷ y ∷ [])
+unfolding Shortest someOf
+two-tables x y t = go (decLe t x) (decLe t y)
+  where
+    go : Dec (t ≤ x) → Dec (t ≤ y) → (ltb (min x y) t || false) ≡ (ltb x t || (ltb y t || false))
+    go (yes a) (yes b) = rw (le-ltb x t a, le-ltb y t b, le-ltb (min x y) t (omega arith))
+    go (yes a) (no b) = rw (le-ltb x t a, lt-ltb y t (omega arith), lt-ltb (min x y) t (omega arith))
+    go (no a) b = rw (lt-ltb x t (omega arith), lt-ltb (min x y) t (omega arith))
+
+-- A call tries 11 to 13 first: its number is that of the opening, or that of its further grounds.
+module _ (s : State) (shortest : ℕ) (lengths : List ℕ) (more : Plan → Sets → List Ground) (short : Shortest shortest (length (s .cells) ∷ lengths)) where
+  first-three : (a b : Bool) (g : ℕ) → suc g ≡ cond a 12 (cond b 13 0) → (n : ℕ) → cond a 12 (cond b 13 n) ≡ suc g
+  first-three true b g q n = sym q
+  first-three false true g q n = sym q
+  first-three false false g q n = absurd (omega arith)
+
+  later : (a b : Bool) (n : ℕ) → _≡_ {A = ℕ} (cond a 12 (cond b 13 0)) 0 → cond a 12 (cond b 13 n) ≡ n
+  later true b n q = absurd (omega arith)
+  later false true n q = absurd (omega arith)
+  later false false n q = refl
+
+  numbers : (P : Plan) → refusal (callGrounds (sound P) s lengths more)
+      ≡ cond (ltb (length (s .masks)) (ownMasks P) || (ltb shortest (ownCells P) || false)) 12
+      (cond (not (allWithin (P .ports) (take (ownMasks P) (s .masks)))) 13 (refusal (more P (inMasks (take (ownMasks P) (s .masks))))))
+  unfolding callGrounds planGrounds tableGrounds refusal Shortest
+  numbers P =
+      ap (λ (b : Bool). cond (ltb (length (s .masks)) (ownMasks P) || b) 12
+      (cond (not (allWithin (P .ports) (take (ownMasks P) (s .masks)))) 13 (refusal (more P (inMasks (take (ownMasks P) (s .masks)))))))
+      (sym (short (ownCells P)))
+
+  pub shut-first : (d : Decoded) (g : ℕ) → suc g ≡ openNumber d (s .masks) shortest → refusal (callGrounds d s lengths more) ≡ suc g
+  unfolding openNumber callGrounds planGrounds tableGrounds refusal someOf
+  shut-first broken g h = sym h
+  shut-first (sound P) g h =
+      numbers P ∙ first-three (ltb (length (s .masks)) (ownMasks P) || (ltb shortest (ownCells P) || false)) (not (allWithin (P .ports) (take (ownMasks P) (s .masks)))) g h (refusal (more P (inMasks (take (ownMasks P) (s .masks)))))
+
+  pub open-then : (P : Plan) → openNumber (sound P) (s .masks) shortest ≡ 0
+      → refusal (callGrounds (sound P) s lengths more) ≡ refusal (more P (inMasks (take (ownMasks P) (s .masks))))
+  unfolding openNumber planGrounds tableGrounds refusal someOf
+  open-then P h = numbers P ∙ later (ltb (length (s .masks)) (ownMasks P) || (ltb shortest (ownCells P) || false)) (not (allWithin (P .ports) (take (ownMasks P) (s .masks)))) (refusal (more P (inMasks (take (ownMasks P) (s .masks))))) h

@@ -1,12 +1,13 @@
 // Grounds 11 to 13, which every call over a plan's tables tries first. Paper 01, section Grounds for refusal.
+use logic::own_masks;
 use logic::within_ports;
 use table_check::check;
 ghost use mathlib.Core.Path.{_≡_};
-ghost use Prim.Native.Nat.{min, _≤_};
+ghost use Prim.Native.Nat.{_≤_};
 ghost use lib.ListN.{length, take};
 ghost use Rattle.logic.specs.Configuration.{allWithin};
 ghost use Rattle.table_check.specs.inner.Check.{IndexRoom};
-ghost use Rattle.call_open.specs.inner.Opening.{Opens};
+ghost use Rattle.call_open.specs.inner.Opening.{OpensCells, Opens};
 
 // Whether no mask of the first `sets` has a port of `ports` or more.
 fn masks_ok(masks: &[u64], sets: usize, ports: usize) -> bool
@@ -46,7 +47,34 @@ fn closed(number: u8) -> Opened
     }
 }
 
-// Tries 11 to 13 and fills the index tables; `shortest` is the length of the shortest cell table that is lent.
+// Tries 11, and 12 of the cell tables, and fills the index tables; `shortest` is the length of the shortest cell table that is lent.
+pub fn open_cells(
+    table: &[u8],
+    shortest: usize,
+    firsts: &mut [u32],
+    ends: &mut [u16],
+    uses: &mut [u64],
+) -> Opened
+    requires { ⌜ IndexRoom (now firsts) (now ends) (now uses) ⌝ }
+    ensures { λ r. ⌜ OpensCells (now (table .entry)) shortest r (now (firsts .exit)) (now (ends .exit)) (now (uses .exit)) ⌝ }
+{
+    let info = check(table, firsts, ends, uses);
+    if !info.ok {
+        return closed(11);
+    }
+    if shortest < info.cells {
+        return closed(12);
+    }
+    Opened {
+        number: 0,
+        ports: info.ports,
+        sets: info.sets,
+        nodes: info.nodes,
+        cells: info.cells,
+    }
+}
+
+// Tries 11 to 13 and fills the index tables.
 pub fn open_tables(
     table: &[u8],
     masks: &[u64],
@@ -58,34 +86,15 @@ pub fn open_tables(
     requires { ⌜ IndexRoom (now firsts) (now ends) (now uses) ⌝ }
     ensures { λ r. ⌜ Opens (now (table .entry)) (now (masks .entry)) shortest r (now (firsts .exit)) (now (ends .exit)) (now (uses .exit)) ⌝ }
 {
-    let info = check(table, firsts, ends, uses);
-    if !info.ok {
-        return closed(11);
+    let o = open_cells(table, shortest, firsts, ends, uses);
+    if o.number != 0 {
+        return o;
     }
-    if masks.len() < info.sets {
+    if masks.len() < own_masks(o.sets) {
         return closed(12);
     }
-    if shortest < info.cells {
-        return closed(12);
-    }
-    if !masks_ok(masks, info.sets, info.ports) {
+    if !masks_ok(masks, own_masks(o.sets), o.ports) {
         return closed(13);
     }
-    Opened {
-        number: 0,
-        ports: info.ports,
-        sets: info.sets,
-        nodes: info.nodes,
-        cells: info.cells,
-    }
-}
-
-// The lesser of two lengths.
-pub fn lesser(a: usize, b: usize) -> usize
-    ensures { λ r. ⌜ r ≡ min a b ⌝ }
-{
-    if a <= b {
-        return a;
-    }
-    b
+    o
 }

@@ -1,12 +1,12 @@
 -- Laws of the calls' definitions.
+pub mod Calls
 pub mod Grounds
 pub mod Reading
 pub mod LoadAnswers
-pub mod NodeAnswers
-pub mod NodeParts
-pub mod LoadParts
 pub mod Lists
 pub mod OwnParts
+pub mod NodeAnswers
+pub mod NodeParts
 pub mod Spelling
 pub mod Steps
 pub mod Within

@@ -24,14 +24,17 @@ use Rattle.table_format.proofs.Facts.{plan-facts}
 use Rattle.contracts.specs.State.{State, tables, ownTables, withRest}
 use Rattle.contracts.specs.declared.Moved.{Moved}
 use Rattle.contracts.specs.declared.Improved.{Improved}
-use Rattle.contracts.specs.MoveCall.{tableGrounds, moveCallGrounds, cellsAfter, moveAnswer, tablesAfter, moveOr, movePlan, moves}
-use Rattle.contracts.specs.TrialCall.{trialOr, trialPlan, trials}
-use Rattle.contracts.specs.ImproveCall.{improveGrounds, rootNow, rootAfter, MadeBest, NoneBetter, Chosen, ImprovesOr, ImprovesPlan, Improves}
+use Rattle.contracts.specs.Call.{callGrounds, callOr, call}
+use Rattle.contracts.specs.MoveCall.{moveCallGrounds, cellsAfter, moveAnswer, tablesAfter, movesOwn, moves}
+use Rattle.contracts.specs.TrialCall.{trialsOwn, trials}
+use Rattle.contracts.specs.ImproveCall.{improveGrounds, rootNow, rootAfter, MadeBest, NoneBetter, Chosen, ImprovesOr, Improves}
 use Rattle.contracts.specs.Book.{Book, fedMove, bookMade, movedBook, chosenStep, bookStep}
 use Rattle.contracts.specs.Lists.{Exchange, moveCall, trialCall, improveCall, Step, feed, bookRoot, bookCells, NumbersRight, MovedRight, scratchGround, BestMade, NoneLowers, ImprovedRight, Right, AsBook}
+use Rattle.contracts.proofs.Calls.{either-ground, LentEnough, tables-pass}
 use Rattle.contracts.proofs.Within.{move-within, move-length}
 use Rattle.logic.proofs.Changed as changed
 use Rattle.contracts.specs.declared.Improved.the-variants as improved
+use Rattle.contracts.specs.declared.Moved.the-variants as moved
 
 -- the book that own masks spell, and its tables
 abbrev spelt : List ℕ → Book
@@ -47,11 +50,6 @@ pub record OwnKept (P : Plan) (b : Book) (own : State) : Type 0 where
   pub within : allWithin (P .ports) (own .masks) ≡ true
   pub penalties : own .cells ≡ bookCells P (b .sets)
 
--- grounds answer 0 only if the first does not apply and the rest answer 0
-pub either-ground : (a : Bool) (i g : ℕ) → cond a (suc i) g ≡ 0 → (a ≡ false) × (g ≡ 0)
-either-ground true i g h = absurd (omega arith)
-either-ground false i g h = (refl, h)
-
 -- a move that meets neither 14 nor 15 is legal
 pub grounds-legal : (P : Plan) (k : Sets) (m : Move) → refusal (moveGrounds P k m) ≡ 0 → legal P k m ≡ true
 unfolding refusal moveGrounds
@@ -63,25 +61,17 @@ later-ground : (i : ℕ) (b : Bool) (gs : List Ground) → refusal ((suc i, b) �
 unfolding refusal
 later-ground i b gs h = either-ground b i (refusal gs) h .1
 
--- Where the tables that the load accepted are lent, 12 applies only if another table, as scratch, is too short, and 13 never.
-pub tables-pass : (P : Plan) (own : List ℕ) (masks-length cells-length : ℕ) (lengths : List ℕ) (gs : List Ground)
-    → ownMasks P ≤ masks-length → ownCells P ≤ cells-length → allWithin (P .ports) own ≡ true
-    → refusal (tableGrounds P own masks-length (cells-length ∷ lengths) ++ gs) ≡ refusal ((12, someOf (λ l. ltb l (ownCells P)) lengths) ∷ gs)
-unfolding tableGrounds refusal someOf
-tables-pass P own ml cl ls gs a b w = rw (le-ltb ml (ownMasks P) a, le-ltb cl (ownCells P) b, w)
-
--- the same where scratch is lent
 or-nothing : (b : Bool) → (b || false) ≡ b
 or-nothing true = refl
 or-nothing false = refl
 
-pub scratch-passes : (P : Plan) (own : List ℕ) (masks-length cells-length : ℕ) (scratch : List ℕ) (gs : List Ground)
-    → ownMasks P ≤ masks-length → ownCells P ≤ cells-length → allWithin (P .ports) own ≡ true
-    → refusal (tableGrounds P own masks-length (cells-length ∷ length scratch ∷ []) ++ gs) ≡ refusal (scratchGround P scratch ∷ gs)
+-- where scratch is lent too, 12 applies if it is too short
+pub scratch-passes : (P : Plan) (s : State) (scratch : List ℕ) (more : Plan → Sets → List Ground) → LentEnough P s
+    → refusal (callGrounds (sound P) s (length scratch ∷ []) more) ≡ refusal (scratchGround P scratch ∷ more P (inMasks (take (ownMasks P) (s .masks))))
 unfolding scratchGround someOf
-scratch-passes P own ml cl scratch gs a b w =
-    tables-pass P own ml cl (length scratch ∷ []) gs a b w
-    ∙ ap (λ (t : Bool). refusal ((12, t) ∷ gs)) (or-nothing (ltb (length scratch) (ownCells P)))
+scratch-passes P s scratch more l =
+    tables-pass P s (length scratch ∷ []) more l
+    ∙ ap (λ (t : Bool). refusal ((12, t) ∷ more P (inMasks (take (ownMasks P) (s .masks))))) (or-nothing (ltb (length scratch) (ownCells P)))
 
 module _ (P : Plan) (facts : PlanFacts P) where
   -- A legal move leaves the penalties of the sets with its pairs flipped.
@@ -129,47 +119,16 @@ module _ (P : Plan) (facts : PlanFacts P) where
       let f : bookTables P (own .masks) ≡ own = λ i. tables (own .masks) ((ap (bookCells P) (o .spells) ∙ sym (o .penalties)) i) in
       subst (λ (j : Book). C j own) e (subst (C (spelt (own .masks))) f c)
 
-  -- tables that are not written
-  same-kept : (own : List ℕ) → length own ≡ ownMasks P → allWithin (P .ports) own ≡ true → OwnKept P (spelt own) (bookTables P own)
-  same-kept own l w = record { spells = refl; enough = l; within = w; penalties = refl }
-
-  -- a move by the first ground that applies to it
-  move-at : (m : Move) (own : List ℕ) → length own ≡ ownMasks P → allWithin (P .ports) own ≡ true
-      → (g : ℕ) → refusal (moveGrounds P (inMasks own) m) ≡ g
-      → (let r = moveOr g P m (bookTables P own) in
-      MovedRight g P (inMasks own) m (r .0) × OwnKept P (cond (eqb g 0) (movedBook P m (spelt own)) (spelt own)) (r .1))
-  unfolding moveOr moveAnswer MovedRight rootNow rootAfter
-  move-at m own l w zero e =
-      let h = grounds-legal P (inMasks own) m e in (made-numbers m own h (omega arith), made-kept m own h l w)
-  move-at m own l w (suc g) e = rw (ne-eqb (suc g) 0 (λ z. omega arith)) (refl, same-kept own l w)
-
-  -- Moves, over the plan's own parts.
-  pub move-own : (m : Move) (b : Book) (own : State) → OwnKept P b own
-      → (let g = refusal (moveGrounds P (b .sets) m) in
-      let r = moveOr g P m own in MovedRight g P (b .sets) m (r .0) × OwnKept P (bookStep P b (fedMove m)) (r .1))
-  unfolding bookStep
+  -- An accepted move or trial: its three numbers, and what the move leaves, over the plan's own parts.
+  pub move-own : (m : Move) (b : Book) (own : State) → OwnKept P b own → legal P (b .sets) m ≡ true
+      → NumbersRight P (b .sets) m (rootNow (own .cells)) (rootAfter P m (own .masks) (own .cells)) (differing (own .cells) (cellsAfter P m (own .masks) (own .cells)))
+      × OwnKept P (movedBook P m b) (tablesAfter P m own)
   move-own m b own o =
       of-book b own
-      (λ j s. let g = refusal (moveGrounds P (j .sets) m) in
-      let r = moveOr g P m s in MovedRight g P (j .sets) m (r .0) × OwnKept P (cond (eqb g 0) (movedBook P m j) j) (r .1))
-      o (move-at m (own .masks) (o .enough) (o .within) (refusal (moveGrounds P (inMasks (own .masks)) m)) refl)
-
-  trial-at : (m : Move) (own : List ℕ) → length own ≡ ownMasks P → (g : ℕ) → (g ≡ 0 → legal P (inMasks own) m ≡ true)
-      → MovedRight g P (inMasks own) m (trialOr g P m (bookTables P own))
-  unfolding trialOr moveAnswer MovedRight rootNow rootAfter
-  trial-at m own l zero H = made-numbers m own (H refl) (omega arith)
-  trial-at m own l (suc g) H = refl
-
-  -- Trials, over the plan's own parts.
-  pub trial-own : (m : Move) (scratch : List ℕ) (b : Book) (own : State) → OwnKept P b own
-      → (let g = refusal (scratchGround P scratch ∷ moveGrounds P (b .sets) m) in MovedRight g P (b .sets) m (trialOr g P m own))
-  unfolding scratchGround
-  trial-own m scratch b own o =
-      of-book b own
-      (λ j s. let g = refusal (scratchGround P scratch ∷ moveGrounds P (j .sets) m) in MovedRight g P (j .sets) m (trialOr g P m s))
-      o (trial-at m (own .masks) (o .enough) (refusal (scratchGround P scratch ∷ moveGrounds P (inMasks (own .masks)) m))
-      (λ e. grounds-legal P (inMasks (own .masks)) m
-      (later-ground 11 (ltb (length scratch) (ownCells P)) (moveGrounds P (inMasks (own .masks)) m) e)))
+      (λ j s. legal P (j .sets) m ≡ true
+      → NumbersRight P (j .sets) m (rootNow (s .cells)) (rootAfter P m (s .masks) (s .cells)) (differing (s .cells) (cellsAfter P m (s .masks) (s .cells)))
+      × OwnKept P (movedBook P m j) (tablesAfter P m s))
+      o (λ h. (made-numbers m (own .masks) h (omega (arith, o .enough)), made-kept m (own .masks) h (o .enough) (o .within)))
 
   -- an accepted improve that makes a move
   best-made : (kinds : ℕ) (own : List ℕ) → length own ≡ ownMasks P → (m : Move) (b a n : ℕ) (own′ : State)
@@ -180,10 +139,9 @@ module _ (P : Plan) (facts : PlanFacts P) where
       let r = root-made m own h (omega arith) in
       let q = made-numbers m own h (omega arith) in
       record {
-        of-kinds = x .candidate .of-kinds;
-        is-legal = h;
+        candidate = x .candidate;
         lowers = rw (← r) (rw (← (q .before-right)) (x .smaller));
-        least = λ m′ f g. rw (← r) (rw (← (root-made m′ own g (omega arith))) (x .least m′ record { of-kinds = f; is-legal = g }));
+        least = λ m′ g. rw (← r) (rw (← (root-made m′ own (g .is-legal) (omega arith))) (x .least m′ g));
         numbers = record {
           before-right = x .before-is ∙ q .before-right;
           after-right = x .after-is ∙ q .after-right;
@@ -196,27 +154,27 @@ module _ (P : Plan) (facts : PlanFacts P) where
       → NoneBetter P kinds (bookTables P own) root own′ → NoneLowers P (inMasks own) kinds root
   unfolding rootNow bookRoot rootPenalty bookCells
   none-lowers kinds own l root own′ x = record {
-    none = λ m f g. rw (← (root-made m own g (omega arith))) (x .none-smaller m record { of-kinds = f; is-legal = g });
+    none = λ m g. rw (← (root-made m own (g .is-legal) (omega arith))) (x .none-smaller m g);
     root-right = x .root-is;
   }
 
   improve-at : (kinds : ℕ) (own : List ℕ) → length own ≡ ownMasks P → allWithin (P .ports) own ≡ true
-      → (g : ℕ) (r : Improved) (own′ : State) → ImprovesOr g P kinds (bookTables P own) r own′
-      → ImprovedRight g P (inMasks own) kinds r × OwnKept P (chosenStep P (spelt own) r) own′
-  unfolding ImprovesOr Chosen ImprovedRight chosenStep
-  improve-at kinds own l w zero (improved.Made m b a n) own′ x =
+      → (r : Improved) (own′ : State) → Chosen P kinds (bookTables P own) r own′
+      → ImprovedRight 0 P (inMasks own) kinds r × OwnKept P (chosenStep P (spelt own) r) own′
+  unfolding Chosen ImprovedRight chosenStep
+  improve-at kinds own l w (improved.Made m b a n) own′ x =
       (best-made kinds own l m b a n own′ x, rw (x .tables-are) (made-kept m own (x .candidate .is-legal) l w))
-  improve-at kinds own l w zero (improved.NoBetter root) own′ x = (none-lowers kinds own l root own′ x, rw (x .tables-kept) (same-kept own l w))
-  improve-at kinds own l w zero (improved.Refused number) own′ x = absurd x
-  improve-at kinds own l w (suc g) r own′ x = (x .0, rw (x .0, x .1) (same-kept own l w))
+  improve-at kinds own l w (improved.NoBetter root) own′ x =
+      (none-lowers kinds own l root own′ x, rw (x .tables-kept) (record { spells = refl; enough = l; within = w; penalties = refl }))
+  improve-at kinds own l w (improved.Refused number) own′ x = absurd x
 
-  -- Improve, over the plan's own parts, for every answer that is allowed.
-  pub improve-own : (kinds g : ℕ) (b : Book) (own : State) → OwnKept P b own → (r : Improved) (own′ : State)
-      → ImprovesOr g P kinds own r own′ → ImprovedRight g P (b .sets) kinds r × OwnKept P (chosenStep P b r) own′
-  improve-own kinds g b own o r own′ =
+  -- An accepted improve, over the plan's own parts, for every answer that is allowed.
+  pub improve-own : (kinds : ℕ) (b : Book) (own : State) → OwnKept P b own → (r : Improved) (own′ : State)
+      → Chosen P kinds own r own′ → ImprovedRight 0 P (b .sets) kinds r × OwnKept P (chosenStep P b r) own′
+  improve-own kinds b own o r own′ =
       of-book b own
-      (λ j s. ImprovesOr g P kinds s r own′ → ImprovedRight g P (j .sets) kinds r × OwnKept P (chosenStep P j r) own′)
-      o (improve-at kinds (own .masks) (o .enough) (o .within) g r own′)
+      (λ j s. Chosen P kinds s r own′ → ImprovedRight 0 P (j .sets) kinds r × OwnKept P (chosenStep P j r) own′)
+      o (improve-at kinds (own .masks) (o .enough) (o .within) r own′)
 
 -- What stands before and after each call of a list: masks and cells are the book's, and no mask has a port of u or more.
 pub record StateHolds (P : Plan) (b : Book) (tail-masks tail-cells : List ℕ) (s : State) : Type 0 where
@@ -276,52 +234,72 @@ module _ (P : Plan) (b : Book) (tail-masks tail-cells : List ℕ) (s : State) wh
       front = ap (take (ownMasks P)) m ∙ take-at (own .masks) tail-masks (ownMasks P) (o .enough)
 
 module _ (P : Plan) (facts : PlanFacts P) (b : Book) (tail-masks tail-cells : List ℕ) (s s′ : State) (h : StateHolds P b tail-masks tail-cells s) where
+  -- the plan's own parts, and what follows of them for the tables afterwards
+  abbrev own : State
+  own = ownTables P s
+
+  kept : OwnKept P b own
+  kept = holds-own P b tail-masks tail-cells s h
+
+  lent : LentEnough P s
+  lent = record { masks-enough = h .kept .enough-masks; cells-enough = h .enough-cells; within = h .within }
+
+  after : (b′ : Book) (own′ : State) → OwnKept P b′ own′ → s′ ≡ withRest P own′ s → StateHolds P b′ tail-masks tail-cells s′
+  after b′ own′ o e = own-holds P b′ tail-masks tail-cells s′ own′ o (e ∙ rest-is P b tail-masks tail-cells s h own′)
+
+  -- a move by the first ground that applies to it
+  move-at : (m : Move) (r : Moved) (g : ℕ) → refusal (moveGrounds P (b .sets) m) ≡ g → (r, s′) ≡ callOr moved.Refused g (sound P) (movesOwn m) s
+      → MovedRight g P (b .sets) m r × StateHolds P (cond (eqb g 0) (movedBook P m b) b) tail-masks tail-cells s′
+  unfolding callOr movesOwn moveAnswer MovedRight rootNow rootAfter
+  move-at m r zero q e =
+      let o = move-own P facts m b own kept (grounds-legal P (b .sets) m q) in
+      (rw (ap (λ (t : Moved × State). t .0) e) (o .0), after (movedBook P m b) (tablesAfter P m own) (o .1) (ap (λ (t : Moved × State). t .1) e))
+  move-at m r (suc g) q e = (
+    ap (λ (t : Moved × State). t .0) e,
+    rw (ne-eqb (suc g) 0 (λ z. omega arith)) (subst (StateHolds P b tail-masks tail-cells) (sym (ap (λ (t : Moved × State). t .1) e)) h),
+  )
+
   move-step : (m : Move) (r : Moved) → (r, s′) ≡ moves (sound P) m s
       → MovedRight (refusal (moveGrounds P (b .sets) m)) P (b .sets) m r × StateHolds P (bookStep P b (fedMove m)) tail-masks tail-cells s′
-  unfolding moves movePlan moveCallGrounds refusal someOf
+  unfolding moves moveCallGrounds call bookStep someOf refusal
   move-step m r e =
-      let masks = take (ownMasks P) (s .masks) in
-      let own = ownTables P s in
-      let o = holds-own P b tail-masks tail-cells s h in
-      let q = move-own P facts m b own o in
-      let g : refusal (tableGrounds P masks (length (s .masks)) (length (s .cells) ∷ []) ++ moveGrounds P (inMasks masks) m)
-      ≡ refusal (moveGrounds P (b .sets) m) =
-      tables-pass P masks (length (s .masks)) (length (s .cells)) [] (moveGrounds P (inMasks masks) m) (h .kept .enough-masks) (h .enough-cells) (h .within)
+      let g : refusal (callGrounds (sound P) s [] (λ Q k. moveGrounds Q k m)) ≡ refusal (moveGrounds P (b .sets) m) =
+      tables-pass P s [] (λ Q k. moveGrounds Q k m) lent
       ∙ ap (λ (j : Sets). refusal (moveGrounds P j m)) (h .kept .masks-are) in
-      let all : _≡_ {A = Moved × State} (r, s′) (let x = moveOr (refusal (moveGrounds P (b .sets) m)) P m own in (x .0, withRest P (x .1) s)) =
-      e ∙ ap (λ (i : ℕ). let x = moveOr i P m own in (x .0, withRest P (x .1) s)) g in
-      let x = moveOr (refusal (moveGrounds P (b .sets) m)) P m own in (
-        rw (ap (λ (t : Moved × State). t .0) all) (q .0),
-        own-holds P (bookStep P b (fedMove m)) tail-masks tail-cells s′ (x .1) (q .1)
-            (ap (λ (t : Moved × State). t .1) all ∙ rest-is P b tail-masks tail-cells s h (x .1)),
-      )
+      move-at m r (refusal (moveGrounds P (b .sets) m)) refl (e ∙ ap (λ (i : ℕ). callOr moved.Refused i (sound P) (movesOwn m) s) g)
+
+  trial-at : (m : Move) (r : Moved) (g : ℕ) → (g ≡ 0 → legal P (b .sets) m ≡ true) → r ≡ callOr moved.Refused g (sound P) (trialsOwn m) s .0
+      → MovedRight g P (b .sets) m r
+  unfolding callOr trialsOwn moveAnswer MovedRight rootNow rootAfter
+  trial-at m r zero H e = rw e (move-own P facts m b own kept (H refl) .0)
+  trial-at m r (suc g) H e = e
 
   trial-step : (m : Move) (scratch : List ℕ) (r : Moved) → r ≡ trials (sound P) m s (length scratch)
       → MovedRight (refusal (scratchGround P scratch ∷ moveGrounds P (b .sets) m)) P (b .sets) m r
-  unfolding trials trialPlan moveCallGrounds
+  unfolding trials moveCallGrounds call scratchGround
   trial-step m scratch r e =
-      let masks = take (ownMasks P) (s .masks) in
-      let own = ownTables P s in
-      let g = scratch-passes P masks (length (s .masks)) (length (s .cells)) scratch (moveGrounds P (inMasks masks) m)
-      (h .kept .enough-masks) (h .enough-cells) (h .within)
+      let g = scratch-passes P s scratch (λ Q k. moveGrounds Q k m) lent
       ∙ ap (λ (j : Sets). refusal (scratchGround P scratch ∷ moveGrounds P j m)) (h .kept .masks-are) in
-      rw (e ∙ ap (λ (i : ℕ). trialOr i P m own) g) (trial-own P facts m scratch b own (holds-own P b tail-masks tail-cells s h))
+      trial-at m r (refusal (scratchGround P scratch ∷ moveGrounds P (b .sets) m))
+      (λ z. grounds-legal P (b .sets) m (later-ground 11 (ltb (length scratch) (ownCells P)) (moveGrounds P (b .sets) m) z))
+      (e ∙ ap (λ (i : ℕ). callOr moved.Refused i (sound P) (trialsOwn m) s .0) g)
+
+  improve-case : (kinds : ℕ) (r : Improved) (g : ℕ) → ImprovesOr g (sound P) kinds s r s′
+      → ImprovedRight g P (b .sets) kinds r × StateHolds P (chosenStep P b r) tail-masks tail-cells s′
+  unfolding ImprovesOr ImprovedRight chosenStep
+  improve-case kinds r zero x =
+      let q = improve-own P facts kinds b own kept r (x .own) (x .chosen) in
+      (q .0, after (chosenStep P b r) (x .own) (q .1) (x .tables-are))
+  improve-case kinds r (suc g) x = (x .0, rw (x .0, x .1) h)
 
   improve-step : (kinds : ℕ) (scratch : List ℕ) (r : Improved) → Improves (sound P) kinds s (length scratch) r s′
       → ImprovedRight (refusal (scratchGround P scratch ∷ (14, not (kindsKnown kinds)) ∷ [])) P (b .sets) kinds r
       × StateHolds P (chosenStep P b r) tail-masks tail-cells s′
-  unfolding Improves ImprovesPlan improveGrounds
+  unfolding Improves improveGrounds
   improve-step kinds scratch r x =
-      let own = ownTables P s in
       let gs : List Ground = (14, not (kindsKnown kinds)) ∷ [] in
-      let g = scratch-passes P (take (ownMasks P) (s .masks)) (length (s .masks)) (length (s .cells)) scratch gs
-      (h .kept .enough-masks) (h .enough-cells) (h .within) in
-      let q = improve-own P facts kinds (refusal (scratchGround P scratch ∷ gs)) b own (holds-own P b tail-masks tail-cells s h) r (x .own)
-      (subst (λ (i : ℕ). ImprovesOr i P kinds own r (x .own)) g (x .improves)) in (
-        q .0,
-        own-holds P (chosenStep P b r) tail-masks tail-cells s′ (x .own) (q .1)
-            (x .tables-are ∙ rest-is P b tail-masks tail-cells s h (x .own)),
-      )
+      let g = scratch-passes P s scratch (λ Q k. gs) lent in
+      improve-case kinds r (refusal (scratchGround P scratch ∷ gs)) (subst (λ (i : ℕ). ImprovesOr i (sound P) kinds s r s′) g x)
 
   -- a call of each kind
   step-at : (bytes : List ℕ) → decode bytes ≡ sound P → (x : Exchange) → Step bytes s x s′

@@ -1,4 +1,5 @@
 pub mod State
+pub mod Call
 pub mod Admitted
 pub mod Read
 pub mod Load

@@ -1,6 +1,6 @@
 -- Lists of calls, and demand 3 as one claim over every list. Paper 01, section Lists of calls.
 use mathlib.Core.Path.{_≡_}
-use mathlib.Core.Bool.{true, not}
+use mathlib.Core.Bool.{not}
 use mathlib.Core.List.{List, [], _∷_, _++_}
 use Prim.Native.Nat.{ℕ, zero, suc, _≤_, _<_}
 use lib.Dec.{ltb}
@@ -9,7 +9,7 @@ use Rattle.logic.specs.declared.Move.{Move}
 use Rattle.logic.specs.Formula.{Plan}
 use Rattle.logic.specs.Configuration.{Sets, configuration, inMasks, ownMasks}
 use Rattle.logic.specs.Cells.{ownCells, cells as planCells, rootPenalty}
-use Rattle.logic.specs.Moves.{Ground, refusal, moveGrounds, movePairs, legal, kindsKnown, ofKinds}
+use Rattle.logic.specs.Moves.{Ground, refusal, moveGrounds, movePairs, kindsKnown}
 use Rattle.logic.specs.Change.{pairsChange, differing, touchedCount}
 use Rattle.table_format.specs.Decode.{decode}
 use Rattle.contracts.specs.State.{State}
@@ -17,7 +17,8 @@ use Rattle.contracts.specs.declared.Moved.{Moved}
 use Rattle.contracts.specs.declared.Improved.{Improved}
 use Rattle.contracts.specs.MoveCall.{moves}
 use Rattle.contracts.specs.TrialCall.{trials}
-use Rattle.contracts.specs.ImproveCall.{Improves}
+use Rattle.contracts.specs.ImproveCall.{Candidate, Improves}
+use Rattle.contracts.specs.Least.{NoneBelow}
 use Rattle.contracts.specs.Book.{Book, Fed, fedMove, fedTrial, fedImprove, bookMade, bookStep}
 use Rattle.contracts.specs.declared.Improved.the-variants as improved
 use Rattle.contracts.specs.declared.Moved.the-variants as moved
@@ -79,14 +80,13 @@ scratchGround P scratch = (12, ltb (length scratch) (ownCells P))
 -- "'No better move' exactly when no legal move of the kinds lowers the root", with the root's penalty; else a legal move of the
 -- kinds that lowers it, and no other legal move of the kinds leaves a smaller root.
 pub record BestMade (P : Plan) (k : Sets) (kinds : ℕ) (m : Move) (before after changed : ℕ) : Type 0 where
-  pub of-kinds : ofKinds kinds m ≡ true
-  pub is-legal : legal P k m ≡ true
+  pub candidate : Candidate P kinds k m
   pub lowers : bookRoot P (bookMade P m k) < bookRoot P k
-  pub least : (m′ : Move) → ofKinds kinds m′ ≡ true → legal P k m′ ≡ true → bookRoot P (bookMade P m k) ≤ bookRoot P (bookMade P m′ k)
+  pub least : NoneBelow (Candidate P kinds k) (λ x. bookRoot P (bookMade P x k)) (bookRoot P (bookMade P m k))
   pub numbers : NumbersRight P k m before after changed
 
 pub record NoneLowers (P : Plan) (k : Sets) (kinds : ℕ) (root : ℕ) : Type 0 where
-  pub none : (m : Move) → ofKinds kinds m ≡ true → legal P k m ≡ true → bookRoot P k ≤ bookRoot P (bookMade P m k)
+  pub none : NoneBelow (Candidate P kinds k) (λ x. bookRoot P (bookMade P x k)) (bookRoot P k)
   pub root-right : root ≡ bookRoot P k
 
 unfoldable pub ImprovedRight : ℕ → Plan → Sets → ℕ → Improved → Type 0

@@ -2,32 +2,25 @@
 use mathlib.Core.Path.{_≡_}
 use mathlib.Core.Logic.{_≢_}
 use mathlib.Core.List.{List, [], _∷_}
-use Prim.Native.Nat.{ℕ, zero, suc}
-use lib.ListN.{length, take, drop}
+use Prim.Native.Nat.{ℕ}
+use lib.ListN.{length, drop}
 use Rattle.logic.specs.declared.Move.{Move}
 use Rattle.logic.specs.Formula.{Plan}
-use Rattle.logic.specs.Configuration.{ownMasks}
 use Rattle.logic.specs.Cells.{ownCells}
-use Rattle.logic.specs.Moves.{refusal}
 use Rattle.table_format.specs.Decode.{Decoded, broken, sound}
-use Rattle.contracts.specs.State.{State, ownTables}
+use Rattle.contracts.specs.State.{State}
+use Rattle.contracts.specs.Call.{call}
 use Rattle.contracts.specs.declared.Moved.{Moved}
 use Rattle.contracts.specs.declared.Moved.the-variants.{Refused}
 use Rattle.contracts.specs.MoveCall.{moveCallGrounds, moveAnswer}
 
-unfoldable pub trialOr : ℕ → Plan → Move → State → Moved
-trialOr zero P m own = moveAnswer P m (own .masks) (own .cells)
-trialOr (suc g) P m own = Refused (suc g)
+-- An accepted trial over the plan's own tables: a move's answer, and the tables stay.
+unfoldable pub trialsOwn : Move → Plan → State → Moved × State
+trialsOwn m P own = (moveAnswer P m (own .masks) (own .cells), own)
 
 -- The answer over the tables and the length of scratch.
-unfoldable pub trialPlan : Plan → Move → State → ℕ → Moved
-trialPlan P m s scratch-length =
-    trialOr (refusal (moveCallGrounds P (take (ownMasks P) (s .masks)) (length (s .masks)) (length (s .cells) ∷ scratch-length ∷ []) m)) P m
-    (ownTables P s)
-
 unfoldable pub trials : Decoded → Move → State → ℕ → Moved
-trials broken m s scratch-length = Refused 11
-trials (sound P) m s scratch-length = trialPlan P m s scratch-length
+trials d m s scratch-length = call Refused (moveCallGrounds d s (scratch-length ∷ []) m) d (trialsOwn m) s .0
 
 -- How many cells of scratch an accepted call may write.
 unfoldable pub scratchOwn : Decoded → ℕ

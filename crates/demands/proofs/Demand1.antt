@@ -11,38 +11,48 @@ use Rattle.logic.specs.Cells.{ownCells}
 use Rattle.logic.specs.declared.Move.{Move}
 use Rattle.table_format.specs.Decode.{Decoded, broken, sound, decode, ownBytes}
 use Rattle.table_format.proofs.Own.{own-agree}
-use Rattle.contracts.specs.Load.{loads}
+use Rattle.logic.specs.Moves.{refusal}
+use Rattle.contracts.specs.Call.{planGrounds, callGrounds, callOr, call}
+use Rattle.contracts.specs.Load.{loadGrounds, loads}
 use Rattle.call_list.specs.Working.{Worked}
 use Rattle.contracts.specs.NodeCells.{nodeCells}
 use Rattle.call_list.proofs.Scratch.{scratch-length, scratch-past}
 use Rattle.contracts.proofs.NodeAnswers.{node-own}
 use Rattle.contracts.specs.declared.Improved.{Improved}
 use Rattle.contracts.specs.State.{State, ownTables}
-use Rattle.contracts.specs.MoveCall.{moves}
+use Rattle.contracts.specs.MoveCall.{moveCallGrounds, moves}
 use Rattle.contracts.specs.TrialCall.{scratchOwn, trials}
 use Rattle.contracts.specs.ImproveCall.{Improves}
 use Rattle.contracts.specs.OwnParts.{SameFirst, SameTables, SameLent, Allows}
-use Rattle.contracts.proofs.LoadParts.{load-sound}
-use Rattle.contracts.proofs.OwnParts.{move-sound, trial-sound, same-back, improve-any}
+use Rattle.contracts.proofs.OwnParts.{load-sound, move-sound, trial-sound, same-back, improve-any}
+
+-- Two calls of one kind whose tables agree on the plan's own bytes, masks and cells, and on being long enough for them: if they answer
+-- alike over one broken table and over one plan, they have the same answer and leave the same own masks and cells.
+own-parts : {A : Type 0} (f : Decoded → State → A × State) (l l′ : List ℕ) (s s′ : State) → SameFirst (ownBytes l) l l′
+    → ((P : Plan) → decode l ≡ sound P → SameTables P s s′) → f broken s .0 ≡ f broken s′ .0
+    → ((P : Plan) → SameTables P s s′ → (f (sound P) s .0 ≡ f (sound P) s′ .0) × (ownTables P (f (sound P) s .1) ≡ ownTables P (f (sound P) s′ .1)))
+    → (f (decode l) s .0 ≡ f (decode l′) s′ .0)
+    × ((P : Plan) → decode l ≡ sound P → ownTables P (f (decode l) s .1) ≡ ownTables P (f (decode l′) s′ .1))
+own-parts f l l′ s s′ b same none some = (
+  go (decode l) refl ∙ ap (λ (d : Decoded). f d s′ .0) agree,
+  λ P e. ap (λ (d : Decoded). ownTables P (f d s .1)) e ∙ some P (same P e) .1
+      ∙ ap (λ (d : Decoded). ownTables P (f d s′ .1)) (sym e ∙ agree),
+)
+  where
+    agree : decode l ≡ decode l′
+    agree = own-agree l l′ (b .entries) (b .enough)
+
+    go : (d : Decoded) → decode l ≡ d → f d s .0 ≡ f d s′ .0
+    go broken e = none
+    go (sound P) e = some P (same P e) .0
 
 -- Two loads whose tables agree on the plan's own bytes, masks and cells, and on being long enough for them, have the same answer and
 -- leave the same own masks and cells.
 pub load-own-parts : (l l′ : List ℕ) (s s′ : State) → SameFirst (ownBytes l) l l′ → ((P : Plan) → decode l ≡ sound P → SameTables P s s′)
     → (loads (decode l) s .0 ≡ loads (decode l′) s′ .0)
     × ((P : Plan) → decode l ≡ sound P → ownTables P (loads (decode l) s .1) ≡ ownTables P (loads (decode l′) s′ .1))
-unfolding loads
-load-own-parts l l′ s s′ b same = (
-  go (decode l) refl ∙ ap (λ (d : Decoded). loads d s′ .0) agree,
-  λ P e. ap (λ (d : Decoded). ownTables P (loads d s .1)) e ∙ load-sound P s s′ (same P e) .1
-      ∙ ap (λ (d : Decoded). ownTables P (loads d s′ .1)) (sym e ∙ agree),
-)
-  where
-    agree : decode l ≡ decode l′
-    agree = own-agree l l′ (b .entries) (b .enough)
-
-    go : (d : Decoded) → decode l ≡ d → loads d s .0 ≡ loads d s′ .0
-    go broken e = refl
-    go (sound P) e = load-sound P s s′ (same P e) .0
+unfolding loads loadGrounds callGrounds planGrounds refusal call callOr
+load-own-parts l l′ s s′ b same = own-parts loads l l′ s s′ b same refl (λ P t. load-sound P s s′ t)
 
 -- The same of a node's cells.
 pub node-own-parts : (l l′ xs xs′ : List ℕ) (node : ℕ) → SameFirst (ownBytes l) l l′ → ((P : Plan) → decode l ≡ sound P → SameFirst (ownCells P) xs xs′)
@@ -54,30 +64,18 @@ node-own-parts l l′ xs xs′ node b same = go (decode l) refl ∙ ap (λ (d : 
     go broken e = refl
     go (sound P) e = node-own P xs xs′ node (same P e .entries) (same P e .enough)
 
--- Two moves whose tables agree on the plan's own bytes, masks and cells, and on being long enough for them, have the same answer and
--- leave the same own masks and cells.
+-- The same of moves.
 pub move-own-parts : (l l′ : List ℕ) (s s′ : State) (m : Move) → SameFirst (ownBytes l) l l′ → ((P : Plan) → decode l ≡ sound P → SameTables P s s′)
     → (moves (decode l) m s .0 ≡ moves (decode l′) m s′ .0)
     × ((P : Plan) → decode l ≡ sound P → ownTables P (moves (decode l) m s .1) ≡ ownTables P (moves (decode l′) m s′ .1))
-unfolding moves
-move-own-parts l l′ s s′ m b same = (
-  go (decode l) refl ∙ ap (λ (d : Decoded). moves d m s′ .0) agree,
-  λ P e. ap (λ (d : Decoded). ownTables P (moves d m s .1)) e ∙ move-sound P s s′ (same P e) m .1
-      ∙ ap (λ (d : Decoded). ownTables P (moves d m s′ .1)) (sym e ∙ agree),
-)
-  where
-    agree : decode l ≡ decode l′
-    agree = own-agree l l′ (b .entries) (b .enough)
-
-    go : (d : Decoded) → decode l ≡ d → moves d m s .0 ≡ moves d m s′ .0
-    go broken e = refl
-    go (sound P) e = move-sound P s s′ (same P e) m .0
+unfolding moves moveCallGrounds callGrounds planGrounds refusal call callOr
+move-own-parts l l′ s s′ m b same = own-parts (λ d t. moves d m t) l l′ s s′ b same refl (λ P t. move-sound P s s′ t m)
 
 -- The same of trials, whatever scratch holds.
 pub trial-own-parts : (l l′ : List ℕ) (s s′ : State) (scratch scratch′ : List ℕ) (m : Move) → SameFirst (ownBytes l) l l′
     → ((P : Plan) → decode l ≡ sound P → SameLent P s s′ scratch scratch′)
     → trials (decode l) m s (length scratch) ≡ trials (decode l′) m s′ (length scratch′)
-unfolding trials
+unfolding trials moveCallGrounds callGrounds planGrounds refusal call callOr
 trial-own-parts l l′ s s′ scratch scratch′ m b same =
     go (decode l) refl ∙ ap (λ (d : Decoded). trials d m s′ (length scratch′)) (own-agree l l′ (b .entries) (b .enough))
   where

@@ -2,22 +2,21 @@
 -- each cell holds Definition 5's penalty under them, and every answer is right.
 use mathlib.Core.Path.{_≡_, refl, sym, ap, _∙_, subst}
 use mathlib.Core.Logic.{_↔_}
-use mathlib.Core.Bool.{true}
 use mathlib.Core.List.{List}
-use Prim.Native.Nat.{ℕ, _≤_}
+use Prim.Native.Nat.{ℕ}
 use native.Mathlib.Omega.{arith}
 use lib.ListN.{drop}
-use Rattle.logic.specs.declared.Move.{Move}
 use Rattle.logic.specs.Formula.{Plan}
 use Rattle.logic.specs.Configuration.{Sets, ownMasks}
 use Rattle.logic.specs.Cells.{ownCells}
-use Rattle.logic.specs.Moves.{legal, ofKinds}
 use Rattle.call_list.specs.Working.{Worked}
 use Rattle.table_format.specs.Decode.{Decoded, sound, decode}
 use Rattle.contracts.specs.declared.Loaded.the-variants.{Accepted}
 use Rattle.contracts.specs.Load.{loads}
 use Rattle.contracts.specs.declared.Improved.{Improved}
 use Rattle.contracts.specs.State.{State}
+use Rattle.contracts.specs.Least.{NoneBelow}
+use Rattle.contracts.specs.ImproveCall.{Candidate}
 use Rattle.contracts.specs.Book.{firstBook, bookMade}
 use Rattle.contracts.specs.Lists.{Exchange, Run, bookAfter, bookRoot, ImprovedRight, AllRight, AsBook}
 use Rattle.contracts.proofs.Lists.{load-holds, run-right}
@@ -43,11 +42,11 @@ isNoBetter (improved.Refused number) = ⊥
 
 -- An accepted improve that is right answers "no better move" exactly when no legal move of its kinds lowers the root.
 pub no-better-exactly : (P : Plan) (k : Sets) (kinds : ℕ) (r : Improved) → ImprovedRight 0 P k kinds r
-    → ((root : ℕ) × (r ≡ improved.NoBetter root)) ↔ ((m : Move) → ofKinds kinds m ≡ true → legal P k m ≡ true → bookRoot P k ≤ bookRoot P (bookMade P m k))
+    → ((root : ℕ) × (r ≡ improved.NoBetter root)) ↔ NoneBelow (Candidate P kinds k) (λ m. bookRoot P (bookMade P m k)) (bookRoot P k)
 unfolding ImprovedRight isNoBetter
 no-better-exactly P k kinds (improved.Made m b a n) x = (
   (λ e. absurd (subst isNoBetter (sym (e .1)) tt)),
-  (λ H. let h = H m (x .of-kinds) (x .is-legal) in absurd (omega (arith, x .lowers))),
+  (λ H. let h = H m (x .candidate) in absurd (omega (arith, x .lowers))),
 )
 no-better-exactly P k kinds (improved.NoBetter root) x = ((λ e. x .none), (λ H. (root, refl)))
 no-better-exactly P k kinds (improved.Refused number) x = absurd x

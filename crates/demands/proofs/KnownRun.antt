@@ -20,13 +20,14 @@ use Rattle.table_format.specs.Rules.{everyNode, treeCount, arityRule, mayNest, 
 use Rattle.table_format.specs.Decode.{Decoded, sound, decode}
 use Rattle.table_format.proofs.Encoding.{decode-complete}
 use Rattle.contracts.specs.State.{State, tables, ownTables, withRest}
+use Rattle.contracts.specs.Call.{planGrounds, tableGrounds, callGrounds, callOr, call}
 use Rattle.contracts.specs.Book.{firstBook}
-use Rattle.contracts.specs.Load.{loadGrounds, loadedMasks, loadedTables, loadOr, loadPlan, loads}
+use Rattle.contracts.specs.Load.{loadGrounds, loadedMasks, loadedTables, loadsOwn, loads}
 use Rattle.contracts.specs.declared.Moved.{Moved}
 use Rattle.contracts.specs.declared.Improved.{Improved}
-use Rattle.contracts.specs.MoveCall.{tableGrounds, moveCallGrounds, cellsAfter, moveAnswer, tablesAfter, moveOr, movePlan, moves}
-use Rattle.contracts.specs.TrialCall.{trialOr, trialPlan, trials}
-use Rattle.contracts.specs.ImproveCall.{improveGrounds, rootNow, rootAfter, Chosen, ImprovesOr, ImprovesPlan, Improves}
+use Rattle.contracts.specs.MoveCall.{moveCallGrounds, cellsAfter, moveAnswer, tablesAfter, movesOwn, moves}
+use Rattle.contracts.specs.TrialCall.{trialsOwn, trials}
+use Rattle.contracts.specs.ImproveCall.{improveGrounds, rootNow, rootAfter, Chosen, ImprovesOr, Improves}
 use Rattle.contracts.specs.Lists.{Exchange, moveCall, trialCall, improveCall, Step, Run, ended, called, bookAfter, AllRight, AsBook}
 use Rattle.demands.proofs.Demand3.{lists-right}
 use Rattle.contracts.specs.declared.Moved.the-variants as moved
@@ -35,7 +36,7 @@ use Rattle.contracts.specs.declared.Improved.the-variants as improved
 
 -- what computes here
 computing : Unit {0}
-unfolding kindNumber nodeCount childDepth indicator portsIn configuration configured inMask inMasks ownMasks spelled withinPorts enter leave portOf compare sizePenalty literalPenalty sum least copy combine eachPort below penalties penalty cellCount placeOf tupleAt tabulate siblingFirst layout ownCells cells rootPenalty moveKind fieldsKnown fieldsFit known fits legal refusal moveGrounds kindMasks namedMasks moveMasks kindPairs namedPairs movePairs kindWeight kindsKnown ofKinds someOf pairsChange memberHit hit nodeHit forestHit touched modulus differences newNumbers renew cellOf renewals newCell newCells differing literal over plan planA move everyNode treeCount arityRule mayNest nestingRule depthRule literalRule innerRule nodeRule formulaRule mostCells planRule allWithin loadGrounds loadedMasks loadedTables loadOr loadPlan loads tableGrounds moveCallGrounds cellsAfter moveAnswer moveOr movePlan moves trialOr trialPlan trials improveGrounds rootNow rootAfter Chosen ImprovesOr ImprovesPlan Improves Step ownTables withRest tablesAfter
+unfolding kindNumber nodeCount childDepth indicator portsIn configuration configured inMask inMasks ownMasks spelled withinPorts enter leave portOf compare sizePenalty literalPenalty sum least copy combine eachPort below penalties penalty cellCount placeOf tupleAt tabulate siblingFirst layout ownCells cells rootPenalty moveKind fieldsKnown fieldsFit known fits legal refusal moveGrounds kindMasks namedMasks moveMasks kindPairs namedPairs movePairs kindWeight kindsKnown ofKinds someOf pairsChange memberHit hit nodeHit forestHit touched modulus differences newNumbers renew cellOf renewals newCell newCells differing literal over plan planA move everyNode treeCount arityRule mayNest nestingRule depthRule literalRule innerRule nodeRule formulaRule mostCells planRule allWithin loadGrounds loadedMasks loadedTables loadsOwn loads planGrounds tableGrounds callGrounds callOr call moveCallGrounds cellsAfter moveAnswer movesOwn moves trialsOwn trials improveGrounds rootNow rootAfter Chosen ImprovesOr Improves Step ownTables withRest tablesAfter
 computing = tt
 
 -- plan A's cells under its masks, and after each of four moves
@@ -178,7 +179,7 @@ none-better : Improves (sound planA) 15 stateDrop (length scratch) (improved.NoB
 unfolding computing
 none-better = record {
   own = tables (3 ∷ 5 ∷ 1 ∷ []) cellsDrop;
-  improves = record { none-smaller = λ m c. from-zero _; root-is = refl; tables-kept = refl };
+  chosen = record { none-smaller = λ m c. from-zero _; root-is = refl; tables-kept = refl };
   tables-are = refl;
 }
 
@@ -187,7 +188,7 @@ drop-best : Improves (sound planA) 15 stateA (length scratch) (improved.Made (mo
 unfolding computing
 drop-best = record {
   own = tables (3 ∷ 5 ∷ 1 ∷ []) cellsDrop;
-  improves = record {
+  chosen = record {
     candidate = record { of-kinds = refl; is-legal = refl };
     smaller = omega arith;
     least = λ m c. from-zero _;
@@ -202,11 +203,11 @@ drop-best = record {
 -- refused for scratch that is too short, and for a sum of 0
 improve-short : Improves (sound planA) 15 stateA (length short) (improved.Refused 12) stateA
 unfolding computing
-improve-short = record { own = tables (3 ∷ 7 ∷ 1 ∷ []) cellsA; improves = (refl, refl); tables-are = refl }
+improve-short = (refl, refl)
 
 improve-none : Improves (sound planA) 0 stateA (length scratch) (improved.Refused 14) stateA
 unfolding computing
-improve-none = record { own = tables (3 ∷ 7 ∷ 1 ∷ []) cellsA; improves = (refl, refl); tables-are = refl }
+improve-none = (refl, refl)
 
 -- one call of a list over plan A's table
 move-called : (m : Move) (r : Moved) (s s′ : State) → (r, s′) ≡ moves (sound planA) m s → Step bytesA s (moveCall m r) s′

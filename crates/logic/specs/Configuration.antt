@@ -40,9 +40,12 @@ inMask mask p = eqb (mask / 2 ^ p % 2) 1
 unfoldable pub inMasks : List ℕ → Sets
 inMasks masks S p = inMask (getD masks S 0) p
 
--- "The configuration is n masks of 64 bits": the number of a plan's own masks, and the configuration that they spell.
+-- "The configuration is n masks of 64 bits": how many masks n sets have, a plan's own, and the configuration that they spell.
+abbrev pub maskCount : ℕ → ℕ
+maskCount n = n
+
 unfoldable pub ownMasks : Plan → ℕ
-ownMasks P = P .sets
+ownMasks P = maskCount (P .sets)
 
 unfoldable pub spelled : Plan → List ℕ → Configuration
 spelled P masks = configuration P (inMasks masks)

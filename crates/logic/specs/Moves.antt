@@ -8,6 +8,10 @@ use Rattle.logic.specs.declared.Move.{Move}
 use Rattle.logic.specs.Formula.{Plan}
 use Rattle.logic.specs.Configuration.{Sets, enter, leave}
 
+-- The move of an answer that has none: "all other fields 0".
+unfoldable pub noMove : Move
+noMove = record { kind = 0; s = 0; t = 0; p = 0; q = 0 }
+
 -- "1 add, 2 drop, 3 transfer, 4 swap"
 pub data MoveKind : Type 0 where
   add drop transfer swap unknown : MoveKind

@@ -3,7 +3,8 @@
 ghost use mathlib.Core.Path.{_≡_};
 ghost use mathlib.Core.Bool.{not};
 ghost use Prim.Native.Nat.{_≤_, _<_, _^_, min};
-ghost use Rattle.logic.specs.Configuration.{indicator, portsIn, inMask, withinPorts};
+ghost use Rattle.logic.specs.Configuration.{indicator, portsIn, inMask, maskCount, withinPorts};
+ghost use Rattle.logic.specs.Moves.{noMove};
 ghost use Rattle.logic.specs.inner.Flip.{flipPort};
 
 // A move as the operator gives it: kind, set S, set T, port p, port q. The fields are wide, so that no value is cut before
@@ -15,6 +16,19 @@ pub struct Move {
     pub t: u32,
     pub p: u32,
     pub q: u32,
+}
+
+// The move of an answer that has none: all fields 0.
+pub fn no_move() -> Move
+    ensures { λ r. ⌜ r ≡ noMove ⌝ }
+{
+    Move {
+        kind: 0,
+        s: 0,
+        t: 0,
+        p: 0,
+        q: 0,
+    }
 }
 
 // Whether port p is in a mask.
@@ -38,6 +52,16 @@ pub fn flip_port(mask: u64, p: u32) -> u64
     ensures { λ r. ⌜ r ≡ flipPort mask p ⌝ }
 {
     mask ^ (1u64 << p)
+}
+
+// The most masks that a plan has of its own is below this: room for them in local tables.
+pub const MASK_ROOM: usize = 17;
+
+// How many masks of its own a plan of so many sets has.
+pub fn own_masks(sets: usize) -> usize
+    ensures { λ r. ⌜ r ≡ maskCount sets ⌝ }
+{
+    sets
 }
 
 // Whether a mask has no port of u or more.

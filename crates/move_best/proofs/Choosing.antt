@@ -10,23 +10,24 @@ use borrow.Author.Tests.{leb-true, leb-false}
 use Rattle.logic.specs.declared.Move.{Move}
 use Rattle.logic.specs.Formula.{Plan}
 use Rattle.logic.specs.Configuration.{inMasks}
+use Rattle.logic.specs.Moves.{noMove}
 use Rattle.logic.proofs.Lists.{and-left, and-right}
 use Rattle.cells_sum.specs.declared.After.{After}
 use Rattle.contracts.specs.ImproveCall.{rootAfter, Candidate}
 use Rattle.move_order.specs.declared.Next.{Next}
 use Rattle.move_order.specs.inner.Stepping.{place, outset, NextOr}
-use Rattle.move_order.specs.Candidates.{fieldsAre}
 use Rattle.move_legal.specs.inner.Legal.{Sized}
 use Rattle.move_order.proofs.Order.{place-same}
 use Rattle.move_order.proofs.Listing.{candidate-fields, candidate-low, past-outset}
+use Rattle.move_try.specs.inner.Trying.{NumbersAre}
 use Rattle.move_best.specs.declared.Choice.{Choice}
-use Rattle.move_best.specs.inner.Choosing.{NumbersAre, FoundOr, choiceOf, noNumbers}
+use Rattle.move_best.specs.inner.Choosing.{FoundOr, choiceOf, noNumbers}
 
 -- the best of the candidates passed
 unfoldable pub BestSo : Bool → Plan → ℕ → List ℕ → List ℕ → Choice → Type 0
 BestSo true P kinds own before b =
-    Candidate P kinds own (b .m) × NumbersAre P own before (b .m) (b .numbers)
-    × ((n : Move) → Candidate P kinds own n → place n < place (b .m) → b .numbers .value < rootAfter P n own before)
+    Candidate P kinds (inMasks own) (b .m) × NumbersAre P own before (b .m) (b .numbers)
+    × ((n : Move) → Candidate P kinds (inMasks own) n → place n < place (b .m) → b .numbers .value < rootAfter P n own before)
 BestSo false P kinds own before b = b .found ≡ false
 
 -- a root that the best so far beats or equals; before the first candidate none was passed
@@ -37,8 +38,8 @@ Beats false x y = ⊥
 -- The state of a search that stands at a candidate, or has passed them all.
 pub record Sought (P : Plan) (kinds : ℕ) (own before : List ℕ) (best : Choice) (at : Next) : Type 0 where
   pub best-so : BestSo (best .found) P kinds own before best
-  pub here : at .found ≡ true → Candidate P kinds own (at .m)
-  pub passed : (m : Move) → Candidate P kinds own m → (at .found ≡ true → place m < place (at .m))
+  pub here : at .found ≡ true → Candidate P kinds (inMasks own) (at .m)
+  pub passed : (m : Move) → Candidate P kinds (inMasks own) m → (at .found ≡ true → place m < place (at .m))
       → Beats (best .found) (best .numbers .value) (rootAfter P m own before)
 
 -- what the choice between the best so far and a candidate's root leaves
@@ -59,7 +60,7 @@ left false p = 0
 
 module _ (P : Plan) (Z : Sized (P .ports) (P .sets)) (kinds : ℕ) (own before : List ℕ) where
   -- what stands before the next candidate does not stand after this one
-  passed-le : (f : Bool) (m x : Move) → NextOr f P kinds own m x → (n : Move) → Candidate P kinds own n → (f ≡ true → place n < place x) → place n ≤ place m
+  passed-le : (f : Bool) (m x : Move) → NextOr f P kinds own m x → (n : Move) → Candidate P kinds (inMasks own) n → (f ≡ true → place n < place x) → place n ≤ place m
   unfolding NextOr
   passed-le true m x F n c h = go (decLt (place m) (place n))
     where
@@ -68,7 +69,7 @@ module _ (P : Plan) (Z : Sized (P .ports) (P .sets)) (kinds : ℕ) (own before :
       go (no l) = omega arith
   passed-le false m x N n c h = N .all-passed n c
 
-  next-here : (f : Bool) (m x : Move) → NextOr f P kinds own m x → f ≡ true → Candidate P kinds own x
+  next-here : (f : Bool) (m x : Move) → NextOr f P kinds own m x → f ≡ true → Candidate P kinds (inMasks own) x
   unfolding NextOr
   next-here true m x F e = F .candidate
   next-here false m x N e = absurd (false≢true e)
@@ -80,7 +81,7 @@ module _ (P : Plan) (Z : Sized (P .ports) (P .sets)) (kinds : ℕ) (own before :
 
   -- before the first candidate
   pub sought-first : (at : Next) → NextOr (at .found) P kinds own outset (at .m) → Sought P kinds own before (choiceOf false outset noNumbers) at
-  unfolding choiceOf BestSo outset fieldsAre place
+  unfolding choiceOf BestSo outset noMove place
   sought-first at N = record {
     best-so = refl;
     here = next-here (at .found) outset (at .m) N;
@@ -102,7 +103,7 @@ module _ (P : Plan) (Z : Sized (P .ports) (P .sets)) (kinds : ℕ) (own before :
         (go n c (passed-le (next .found) (at .m) (next .m) N n c g) (decLt (place n) (place (at .m))));
   }
     where
-      go : (n : Move) → Candidate P kinds own n → place n ≤ place (at .m) → Dec (place n < place (at .m)) → new .numbers .value ≤ rootAfter P n own before
+      go : (n : Move) → Candidate P kinds (inMasks own) n → place n ≤ place (at .m) → Dec (place n < place (at .m)) → new .numbers .value ≤ rootAfter P n own before
       go n c a (yes b) = h (rootAfter P n own before) (S .passed n c (λ y. b))
       go n c a (no b) =
           let same : at .m ≡ n = place-same (at .m) n (candidate-low P Z (inMasks own) (at .m) (S .here t .is-legal)) (candidate-low P Z (inMasks own) n (c .is-legal)) (omega arith) in
@@ -129,13 +130,13 @@ module _ (P : Plan) (Z : Sized (P .ports) (P .sets)) (kinds : ℕ) (own before :
           (S .here t, e, (λ n c h. beaten (best .found) (best .numbers .value) (a .value) (rootAfter P n own before) q (S .passed n c (λ z. h)))) refl
           (omega (arith, e .after-is)) (λ y h. let l = beaten (best .found) (best .numbers .value) (a .value) y q h in omega (arith, l)))
 
-  found-or : (f : Bool) (b : Choice) → BestSo f P kinds own before b → ((m : Move) → Candidate P kinds own m → Beats f (b .numbers .value) (rootAfter P m own before))
-      → FoundOr f (Candidate P kinds own) P own before b
+  found-or : (f : Bool) (b : Choice) → BestSo f P kinds own before b → ((m : Move) → Candidate P kinds (inMasks own) m → Beats f (b .numbers .value) (rootAfter P m own before))
+      → FoundOr f (Candidate P kinds (inMasks own)) P own before b
   unfolding BestSo FoundOr Beats
   found-or true b h l = record { candidate = h .0; numbers = h .1; least = l; earliest = h .2 }
   found-or false b e l = l
 
   -- past the last
   pub sought-end : (best : Choice) (at : Next) → Sought P kinds own before best at → at .found ≡ false
-      → FoundOr (best .found) (Candidate P kinds own) P own before best
+      → FoundOr (best .found) (Candidate P kinds (inMasks own)) P own before best
   sought-end best at S e = found-or (best .found) best (S .best-so) (λ m c. S .passed m c (λ t. absurd (true≢false (sym t ∙ e))))

@@ -2,4 +2,4 @@
 pub mod Answering
 pub mod Choosing
 pub mod Searching
-pub mod Trying
+pub mod Candidates

@@ -1,19 +1,20 @@
 // The best of all candidates, by the root that each would leave. Nothing is written but the masks that a
 // candidate would leave, in a table of this crate's own. Paper 01, section One move.
 use cells_sum::After;
-use cells_touch::change_of;
-use cells_try::root_after;
+use logic::MASK_ROOM;
 use logic::Move;
+use logic::no_move;
+use logic::own_masks;
 use move_legal::narrow;
-use move_masks::copy_masks;
-use move_masks::masks_after;
 use move_order::first_candidate;
 use move_order::next_candidate;
+use move_try::try_move;
 ghost use mathlib.Core.Path.{_≡_};
 ghost use mathlib.Core.Bool.{true, false, cond, _&&_};
 ghost use lib.Dec.{leb};
 ghost use Rattle.move_order.specs.inner.Stepping.{outset};
-ghost use Rattle.move_best.specs.inner.Choosing.{SearchReady, SearchRoom, TryReady, GivesNumbers, Chooses, choiceOf, noNumbers};
+ghost use Rattle.call_open.specs.inner.Opening.{OpenTables};
+ghost use Rattle.move_best.specs.inner.Choosing.{SearchRoom, Chooses, choiceOf, noNumbers};
 
 // The best so far, once there is a candidate, with its three numbers.
 pub struct Choice {
@@ -22,50 +23,13 @@ pub struct Choice {
     pub numbers: After,
 }
 
-// The three numbers of a legal move.
-fn numbers_of(
-    table: &[u8],
-    firsts: &[u32],
-    ends: &[u16],
-    uses: &[u64],
-    masks: &[u64],
-    cells: &[u32],
-    ports: usize,
-    sets: usize,
-    m: Move,
-    work: &mut [u64],
-) -> After
-    requires { ⌜ TryReady ports sets (now table) (now firsts) (now ends) (now uses) (now masks) (now cells) m (now work) ⌝ }
-    ensures { λ r. ⌜ GivesNumbers (now (table .entry)) (now (masks .entry)) (now (cells .entry)) m r ⌝ }
-{
-    copy_masks(masks, sets, work);
-    masks_after(m, narrow(ports), narrow(sets), work);
-    root_after(
-        table,
-        firsts,
-        ends,
-        uses,
-        &work[..],
-        cells,
-        ports,
-        sets,
-        change_of(m),
-    )
-}
-
 // Before any candidate.
 fn none_yet() -> Choice
     ensures { λ r. ⌜ r ≡ choiceOf false outset noNumbers ⌝ }
 {
     Choice {
         found: false,
-        m: Move {
-            kind: 0,
-            s: 0,
-            t: 0,
-            p: 0,
-            q: 0,
-        },
+        m: no_move(),
         numbers: After {
             old: 0,
             value: 0,
@@ -111,7 +75,7 @@ fn search(
     let mut best = none_yet();
     let mut at = first_candidate(kinds, u, n, masks);
     while at.found {
-        let a = numbers_of(
+        let a = try_move(
             table,
             firsts,
             ends,
@@ -141,10 +105,11 @@ pub fn choose(
     sets: usize,
     kinds: u32,
 ) -> Choice
-    requires { ⌜ SearchReady ports sets (now table) (now firsts) (now ends) (now uses) (now masks) (now cells) ⌝ }
+    requires { ⌜ OpenTables ports sets (now table) (now firsts) (now ends) (now uses) (now masks) (now cells) ⌝ }
     ensures { λ r. ⌜ Chooses (now (table .entry)) (now (masks .entry)) (now (cells .entry)) kinds r ⌝ }
 {
-    let mut work = [0u64; 16];
+    let mut work = [0u64; MASK_ROOM];
+    let own = own_masks(sets);
     search(
         table,
         firsts,
@@ -155,6 +120,6 @@ pub fn choose(
         ports,
         sets,
         kinds,
-        &mut work[0..sets],
+        &mut work[0..own],
     )
 }

@@ -1,3 +1,1 @@
--- Laws.
-pub mod Accepting
-pub mod Answering
+pub mod Carrying

@@ -1,2 +1,2 @@
 -- What only proofs and inner contracts use.
-pub mod Judged
+pub mod Carrying

@@ -16,7 +16,7 @@ use Rattle.move_legal.specs.inner.Legal.{Fields, Decides}
 use Rattle.move_legal.proofs.Known.{fields-known, fields-here, known-fields, fields-there}
 
 pub suits-candidate : (P : Plan) (ports sets kinds : ℕ) (masks : List ℕ) (m : Move) → P .ports ≡ ports → P .sets ≡ sets
-    → Suits ports sets kinds masks m → Candidate P kinds (take sets masks) m
+    → Suits ports sets kinds masks m → Candidate P kinds (inMasks (take sets masks)) m
 unfolding legal
 suits-candidate P ports sets kinds masks m e f S = record {
   of-kinds = S .of-kinds;
@@ -24,7 +24,7 @@ suits-candidate P ports sets kinds masks m e f S = record {
 }
 
 pub candidate-suits : (P : Plan) (ports sets kinds : ℕ) (masks : List ℕ) (m : Move) → P .ports ≡ ports → P .sets ≡ sets
-    → Candidate P kinds (take sets masks) m → Suits ports sets kinds masks m
+    → Candidate P kinds (inMasks (take sets masks)) m → Suits ports sets kinds masks m
 unfolding legal
 candidate-suits P ports sets kinds masks m e f C = record {
   of-kinds = C .of-kinds;

@@ -11,7 +11,7 @@ use Rattle.logic.specs.declared.Move.{Move}
 use Rattle.logic.specs.Formula.{Plan}
 use Rattle.logic.specs.Configuration.{Sets, inMasks}
 use Rattle.logic.specs.Penalty.{eachPort}
-use Rattle.logic.specs.Moves.{known, fits, legal, ofKinds}
+use Rattle.logic.specs.Moves.{noMove, known, fits, legal, ofKinds}
 use Rattle.logic.proofs.Lists.{and-left, and-right, and-true}
 use Rattle.contracts.specs.ImproveCall.{Candidate}
 use Rattle.move_order.specs.Candidates.{fieldsAre, allMoves, kept, candidates, Rising, Once}
@@ -208,12 +208,12 @@ module _ (P : Plan) (Z : Sized (P .ports) (P .sets)) where
 
   -- a list that rises and has all candidates after m is the walk from m
   walk-of : (kinds : ℕ) (own : List ℕ) (b : ℕ) (ms : List Move) (m : Move) → RisingIn (suc (place m)) b ms
-      → ((n : Move) → List·Memᴰ n ms → Candidate P kinds own n)
-      → ((n : Move) → Candidate P kinds own n → place m < place n → List·Memᴰ n ms) → Walked P kinds own m ms
+      → ((n : Move) → List·Memᴰ n ms → Candidate P kinds (inMasks own) n)
+      → ((n : Move) → Candidate P kinds (inMasks own) n → place m < place n → List·Memᴰ n ms) → Walked P kinds own m ms
   unfolding RisingIn Walked
   walk-of kinds own b [] m r C all = record { all-passed = λ n c. go n c (decLt (place m) (place n)) }
     where
-      go : (n : Move) → Candidate P kinds own n → Dec (place m < place n) → place n ≤ place m
+      go : (n : Move) → Candidate P kinds (inMasks own) n → Dec (place m < place n) → place n ≤ place m
       go n c (yes h) = absurd (List·Memᴰ·not-nil (all n c h))
       go n c (no h) = omega arith
   walk-of kinds own b (x ∷ ms) m r C all = (
@@ -241,7 +241,7 @@ module _ (P : Plan) (Z : Sized (P .ports) (P .sets)) where
 
   -- The list is what steps to the next candidate, from the outset until there is none, go through ..
   pub candidates-walked : (kinds : ℕ) (own : List ℕ) → Walked P kinds own outset (candidates P kinds (inMasks own))
-  unfolding outset fieldsAre place
+  unfolding outset noMove place
   candidates-walked kinds own =
       walk-of kinds own 5242880 (candidates P kinds (inMasks own)) outset
       (raise 5242880 (candidates P kinds (inMasks own)) (omega arith)

@@ -46,7 +46,7 @@ fn at_fields(kind: u32, s: u32, t: u32, p: u32, q: u32) -> Move
 }
 
 // The next position after m: q counts up first, then p, T, S and the kind.
-fn step(m: Move, ports: u32, sets: u32) -> Move
+fn next_place(m: Move, ports: u32, sets: u32) -> Move
     requires { ⌜ Begins ports sets m ⌝ }
     ensures { λ r. ⌜ StepsAny ports sets m r ⌝ }
 {
@@ -71,7 +71,7 @@ fn advance(m: Move, kinds: u32, ports: u32, sets: u32) -> Move
     ensures { λ r. ⌜ StepsOn ports sets kinds m r ⌝ }
 {
     if of_kinds(kinds, m.kind) {
-        return step(m, ports, sets);
+        return next_place(m, ports, sets);
     }
     at_fields(m.kind + 1, 0, 0, 0, 0)
 }

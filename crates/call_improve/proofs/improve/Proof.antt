@@ -1,16 +1,28 @@
+use borrow.Author.Needs.{needs}
 use mathlib.Core.Path.{sym, _∙_}
 use native.Mathlib.Omega.{arith}
+use lib.ListN.{length}
 use borrow.Author.Tests.{not-true, not-false}
 use Rattle.logic.specs.Change.{modulus}
 use Rattle.cells_walk.specs.inner.Visit.{CellsFit}
-use Rattle.move_best.specs.inner.Choosing.{Chooses}
-use Rattle.call_open.proofs.Opening.{open-longer, root-cell}
-use Rattle.move_make.specs.inner.Judged.{Carries}
 use Rattle.contracts.proofs.Scratch.{scratch-kept}
-use Rattle.call_improve.proofs.Improving.{improve-shut, improve-unknown, improve-none, chosen-free, improve-made, root-now}
+use Rattle.call_open.specs.inner.Opening.{OpenPlan}
+use Rattle.call_open.proofs.Opening.{open-longer, root-cell}
+use Rattle.move_make.specs.inner.Carrying.{Carries}
+use Rattle.move_best.specs.inner.Choosing.{Chooses}
+use Rattle.call_improve.proofs.Improving.{improve-shut, improve-unknown, improve-none, improve-made, best, root-now}
 use borrow.Author.Needs.{needs}
 use Rattle.call_improve.proofs.improve.Statement.{statement}
 use Rattle.call_improve.proofs.improve.Tie as tie
+use Rattle.call_improve.proofs.improve.Reads as reads
+use Rattle.call_improve.proofs.improve.Lts as lts
+use Rattle.answers.proofs.made.Reads as made-reads
+use Rattle.call_improve.proofs.kinds_known.Reads as kinds-known-reads
+use Rattle.call_improve.proofs.lowers.Reads as lowers-reads
+use Rattle.call_open.proofs.open_tables.Reads as open-tables-reads
+use Rattle.logic.proofs.lesser.Reads as lesser-reads
+use Rattle.move_best.proofs.choose.Reads as choose-reads
+use Rattle.move_make.proofs.carry.Reads as carry-reads
 
 lesser-requires : tie.Need-lesser-requires
 lesser-requires c κs = search needs
@@ -43,7 +55,7 @@ same-length-2 c = search needs
 returns-2 : tie.Need-returns-2
 returns-2 c =
     let o = c .before .before .before .before .before .before .before .open-tables .ensures .opens (c .before .before .if1 .left) in
-    (improve-unknown _ (o .plan) (o .decodes) _ _ _ _ (sym (rw (c .before .before .before .before .before .before .before .before .before .before .before .before .lesser .ensures) at (c .before .before .before .before .before .before .before .open-tables .ensures .number-is)) ∙ c .before .before .if1 .left) (sym (c .before .kinds-known .ensures) ∙ not-true _ (c .if2 .taken)), scratch-kept _ _ _)
+    (improve-unknown _ _ _ _ _ (o .plan) (o .decodes) (sym (rw (c .before .before .before .before .before .before .before .before .before .before .before .before .lesser .ensures) at (c .before .before .before .before .before .before .before .open-tables .ensures .number-is)) ∙ c .before .before .if1 .left) (sym (c .before .kinds-known .ensures) ∙ not-true _ (c .if2 .taken)), scratch-kept _ _ _)
 
 slice-aggregate-choose : tie.Need-slice-aggregate-choose
 slice-aggregate-choose c = search needs
@@ -57,7 +69,11 @@ slice-aggregate-choose-3 c = search needs
 choose-requires : tie.Need-choose-requires
 unfolding CellsFit modulus
 choose-requires c κs =
-    record { opened = open-longer _ _ _ _ _ _ _ _ _ (c .before .before .before .before .before .before .before .before .before .before .before .before .open-tables .ensures .opens (c .before .before .before .before .before .before .before .if1 .left)) (omega (arith, c .before .before .before .before .before .before .before .before .before .before .before .before .before .before .before .before .before .lesser .ensures)); long = record { firsts-long = omega (arith, c .before .before .before .before .before .before .before .before .before .before .before .before .open-tables .kept .1 .1 .1 .0); ends-long = omega (arith, c .before .before .before .before .before .before .before .before .before .before .before .before .open-tables .kept .1 .1 .1 .1 .0); uses-long = omega (arith, c .before .before .before .before .before .before .before .before .before .before .before .before .open-tables .kept .1 .1 .1 .1 .1 .0) }; cells-fit = (λ j. omega (arith, c .before .before .before .before .before .before .before .before .before .before .before .before .before .before .before .before .before .before .before .slice-known2 .given j)) }
+    record {
+      opened = open-longer _ _ _ _ _ _ _ _ _ (c .before .before .before .before .before .before .before .before .before .before .before .before .open-tables .ensures .opens (c .before .before .before .before .before .before .before .if1 .left)) (omega (arith, c .before .before .before .before .before .before .before .before .before .before .before .before .before .before .before .before .before .lesser .ensures));
+      long = record { firsts-long = omega (arith, c .before .before .before .before .before .before .before .before .before .before .before .before .open-tables .kept .1 .1 .1 .0); ends-long = omega (arith, c .before .before .before .before .before .before .before .before .before .before .before .before .open-tables .kept .1 .1 .1 .1 .0); uses-long = omega (arith, c .before .before .before .before .before .before .before .before .before .before .before .before .open-tables .kept .1 .1 .1 .1 .1 .0) };
+      cells-fit = (λ j. omega (arith, c .before .before .before .before .before .before .before .before .before .before .before .before .before .before .before .before .before .before .before .slice-known2 .given j));
+    }
 
 slice-read-root : tie.Need-slice-read-root
 slice-read-root c =
@@ -77,7 +93,7 @@ returns-3 : tie.Need-returns-3
 unfolding Chooses
 returns-3 c =
     let o = c .before .before .before .before .before .before .before .before .before .before .before .before .before .before .before .before .open-tables .ensures .opens (c .before .before .before .before .before .before .before .before .before .before .before .if1 .left) in
-    (improve-none _ (o .plan) (o .decodes) _ _ _ _ (sym (rw (c .before .before .before .before .before .before .before .before .before .before .before .before .before .before .before .before .before .before .before .before .before .lesser .ensures) at (c .before .before .before .before .before .before .before .before .before .before .before .before .before .before .before .before .open-tables .ensures .number-is)) ∙ c .before .before .before .before .before .before .before .before .before .before .before .if1 .left) (sym (c .before .before .before .before .before .before .before .before .before .before .kinds-known .ensures) ∙ not-false _ (c .before .before .before .before .before .before .before .before .before .if2 .left)) _ (c .before .before .before .choose .ensures (o .plan) (o .decodes)) _ (root-now _ (o .plan) (o .decodes) _) (sym (c .before .lowers .ensures) ∙ not-true _ (c .if3 .taken)), scratch-kept _ _ _)
+    (improve-none _ _ _ _ _ (o .plan) (o .decodes) (sym (rw (c .before .before .before .before .before .before .before .before .before .before .before .before .before .before .before .before .before .before .before .before .before .lesser .ensures) at (c .before .before .before .before .before .before .before .before .before .before .before .before .before .before .before .before .open-tables .ensures .number-is)) ∙ c .before .before .before .before .before .before .before .before .before .before .before .if1 .left) (sym (c .before .before .before .before .before .before .before .before .before .before .kinds-known .ensures) ∙ not-false _ (c .before .before .before .before .before .before .before .before .before .if2 .left)) _ (c .before .before .before .choose .ensures (o .plan) (o .decodes)) _ (root-now _ (o .plan) (o .decodes) _) (sym (c .before .lowers .ensures) ∙ not-true _ (c .if3 .taken)), scratch-kept _ _ _)
 
 slice-aggregate-carry : tie.Need-slice-aggregate-carry
 slice-aggregate-carry c = search needs
@@ -91,14 +107,14 @@ slice-aggregate-carry-3 c = search needs
 carry-requires : tie.Need-carry-requires
 unfolding CellsFit modulus Chooses
 carry-requires c κs =
-    let o = c .before .before .before .before .before .before .before .before .before .before .before .before .before .before .before .before .before .before .before .before .before .open-tables .ensures .opens (c .before .before .before .before .before .before .before .before .before .before .before .before .before .before .before .before .if1 .left) in
+    let o = open-longer _ _ _ _ _ (length (c .before .before .before .before .before .before .before .before .before .before .before .before .before .before .before .before .before .before .before .before .before .before .before .before .before .before .before .before .before .before .before .args .cells .now)) _ _ _ (c .before .before .before .before .before .before .before .before .before .before .before .before .before .before .before .before .before .before .before .before .before .open-tables .ensures .opens (c .before .before .before .before .before .before .before .before .before .before .before .before .before .before .before .before .if1 .left)) (omega (arith, c .before .before .before .before .before .before .before .before .before .before .before .before .before .before .before .before .before .before .before .before .before .before .before .before .before .before .lesser .ensures)) in
     record {
-      shortest = _;
-      opened = o;
-      room = omega (arith, c .before .before .before .before .before .before .before .before .before .before .before .before .before .before .before .before .before .before .before .before .before .before .before .before .before .before .lesser .ensures);
-      fit = (λ j. omega (arith, c .before .before .before .before .before .before .before .before .before .before .before .before .before .before .before .before .before .before .before .before .before .before .before .before .before .before .before .before .slice-known2 .given j));
-      long = record { firsts-long = omega (arith, c .before .before .before .before .before .before .before .before .before .before .before .before .before .before .before .before .before .before .before .before .before .open-tables .kept .1 .1 .1 .0); ends-long = omega (arith, c .before .before .before .before .before .before .before .before .before .before .before .before .before .before .before .before .before .before .before .before .before .open-tables .kept .1 .1 .1 .1 .0); uses-long = omega (arith, c .before .before .before .before .before .before .before .before .before .before .before .before .before .before .before .before .before .before .before .before .before .open-tables .kept .1 .1 .1 .1 .1 .0) };
-      free = chosen-free _ (o .plan) (o .decodes) _ _ _ _ (sym (rw (c .before .before .before .before .before .before .before .before .before .before .before .before .before .before .before .before .before .before .before .before .before .before .before .before .before .before .lesser .ensures) at (c .before .before .before .before .before .before .before .before .before .before .before .before .before .before .before .before .before .before .before .before .before .open-tables .ensures .number-is)) ∙ c .before .before .before .before .before .before .before .before .before .before .before .before .before .before .before .before .if1 .left) (sym (c .before .before .before .before .before .before .before .before .before .before .before .before .before .before .before .kinds-known .ensures) ∙ not-false _ (c .before .before .before .before .before .before .before .before .before .before .before .before .before .before .if2 .left)) _ (c .before .before .before .before .before .before .before .before .choose .ensures (o .plan) (o .decodes)) _ (root-now _ (o .plan) (o .decodes) _) (sym (c .before .before .before .before .before .before .lowers .ensures) ∙ not-false _ (c .before .before .before .before .before .if3 .left));
+      tables-open = record {
+        opened = o;
+        long = record { firsts-long = omega (arith, c .before .before .before .before .before .before .before .before .before .before .before .before .before .before .before .before .before .before .before .before .before .open-tables .kept .1 .1 .1 .0); ends-long = omega (arith, c .before .before .before .before .before .before .before .before .before .before .before .before .before .before .before .before .before .before .before .before .before .open-tables .kept .1 .1 .1 .1 .0); uses-long = omega (arith, c .before .before .before .before .before .before .before .before .before .before .before .before .before .before .before .before .before .before .before .before .before .open-tables .kept .1 .1 .1 .1 .1 .0) };
+        cells-fit = (λ j. omega (arith, c .before .before .before .before .before .before .before .before .before .before .before .before .before .before .before .before .before .before .before .before .before .before .before .before .before .before .before .before .slice-known2 .given j));
+      };
+      is-legal = best _ _ _ _ _ (o .plan) (o .decodes) (sym (rw (c .before .before .before .before .before .before .before .before .before .before .before .before .before .before .before .before .before .before .before .before .before .before .before .before .before .before .lesser .ensures) at (c .before .before .before .before .before .before .before .before .before .before .before .before .before .before .before .before .before .before .before .before .before .open-tables .ensures .number-is)) ∙ c .before .before .before .before .before .before .before .before .before .before .before .before .before .before .before .before .if1 .left) (sym (c .before .before .before .before .before .before .before .before .before .before .before .before .before .before .before .kinds-known .ensures) ∙ not-false _ (c .before .before .before .before .before .before .before .before .before .before .before .before .before .before .if2 .left)) _ (c .before .before .before .before .before .before .before .before .choose .ensures (o .plan) (o .decodes)) _ (root-now _ (o .plan) (o .decodes) _) (sym (c .before .before .before .before .before .before .lowers .ensures) ∙ not-false _ (c .before .before .before .before .before .if3 .left)) .candidate .is-legal;
     }
 
 made-requires : tie.Need-made-requires
@@ -114,7 +130,7 @@ returns-4 : tie.Need-returns-4
 unfolding Chooses Carries
 returns-4 c =
     let o = c .before .before .before .before .before .before .before .before .before .before .before .before .before .before .before .before .before .before .before .before .before .before .before .before .before .before .before .open-tables .ensures .opens (c .before .before .before .before .before .before .before .before .before .before .before .before .before .before .before .before .before .before .before .before .before .before .if1 .left) in
-    rw (c .made .ensures) (improve-made _ (o .plan) (o .decodes) _ _ _ _ (sym (rw (c .before .before .before .before .before .before .before .before .before .before .before .before .before .before .before .before .before .before .before .before .before .before .before .before .before .before .before .before .before .before .before .before .lesser .ensures) at (c .before .before .before .before .before .before .before .before .before .before .before .before .before .before .before .before .before .before .before .before .before .before .before .before .before .before .before .open-tables .ensures .number-is)) ∙ c .before .before .before .before .before .before .before .before .before .before .before .before .before .before .before .before .before .before .before .before .before .before .if1 .left) (sym (c .before .before .before .before .before .before .before .before .before .before .before .before .before .before .before .before .before .before .before .before .before .kinds-known .ensures) ∙ not-false _ (c .before .before .before .before .before .before .before .before .before .before .before .before .before .before .before .before .before .before .before .before .if2 .left)) _ (c .before .before .before .before .before .before .before .before .before .before .before .before .before .before .choose .ensures (o .plan) (o .decodes)) _ (root-now _ (o .plan) (o .decodes) _) (sym (c .before .before .before .before .before .before .before .before .before .before .before .before .lowers .ensures) ∙ not-false _ (c .before .before .before .before .before .before .before .before .before .before .before .if3 .left)) _ _ _ (c .before .before .before .before .before .carry .ensures (o .plan) (o .decodes)), scratch-kept _ _ _)
+    rw (c .made .ensures) (improve-made _ _ _ _ _ (o .plan) (o .decodes) (sym (rw (c .before .before .before .before .before .before .before .before .before .before .before .before .before .before .before .before .before .before .before .before .before .before .before .before .before .before .before .before .before .before .before .before .lesser .ensures) at (c .before .before .before .before .before .before .before .before .before .before .before .before .before .before .before .before .before .before .before .before .before .before .before .before .before .before .before .open-tables .ensures .number-is)) ∙ c .before .before .before .before .before .before .before .before .before .before .before .before .before .before .before .before .before .before .before .before .before .before .if1 .left) (sym (c .before .before .before .before .before .before .before .before .before .before .before .before .before .before .before .before .before .before .before .before .before .kinds-known .ensures) ∙ not-false _ (c .before .before .before .before .before .before .before .before .before .before .before .before .before .before .before .before .before .before .before .before .if2 .left)) _ (c .before .before .before .before .before .before .before .before .before .before .before .before .before .before .choose .ensures (o .plan) (o .decodes)) _ (root-now _ (o .plan) (o .decodes) _) (sym (c .before .before .before .before .before .before .before .before .before .before .before .before .lowers .ensures) ∙ not-false _ (c .before .before .before .before .before .before .before .before .before .before .before .if3 .left)) _ _ _ (c .before .before .before .before .before .carry .ensures (o .plan) (o .decodes)), scratch-kept _ _ _)
 
 pub improve-spec : {M : Type 1} → statement M
 improve-spec =

@@ -77,7 +77,7 @@ same-length-7 c = search needs
 returns-2 : tie.Need-returns-2
 unfolding OneAfter Encodes tag Step answerNumbers cellsLent lentTo answerNumber
 returns-2 c =
-    record { exchange = trialCall (c .before .before .before .before .before .before .before .before .before .before .before .before .before .before .before .move-of .result) (take (c .before .before .before .before .before .before .before .before .before .before .before .before .lesser .result - 0) (c .before .before .before .before .before .before .before .before .before .before .before .before .before .before .before .before .before .before .before .before .before .before .before .args .scratch .now)) (c .before .before .before .before .before .before .trial .result); says = (c .before .before .before .before .before .before .before .before .before .before .if2 .taken, c .before .before .before .before .before .before .before .before .before .before .before .before .before .before .before .move-of .ensures, scratch-lent (c .before .before .before .before .before .before .before .before .before .before .before .before .before .before .before .before .before .before .before .before .before .before .before .args .scratch .now) _ (c .before .before .before .before .before .before .before .before .before .before .before .before .before .wide .result) (c .before .before .before .before .before .before .before .before .before .before .before .before .lesser .result) (c .before .before .before .before .before .before .before .before .before .before .before .before .before .wide .ensures) (c .before .before .before .before .before .before .before .before .before .before .before .before .lesser .ensures)); step = (c .before .before .before .before .before .before .trial .ensures .0, refl); scratch-step = front-lent _ _ _ (c .before .before .before .before .before .before .before .before .before .before .before .before .lesser .result - 0) _ refl (c .before .before .before .before .before .before .trial .ensures .1); answer-is = c .before .before .tell-moved2 .ensures }
+    record { exchange = trialCall (c .before .before .before .before .before .before .before .before .before .before .before .before .before .before .before .move-of .result) (take (c .before .before .before .before .before .before .before .before .before .before .before .before .lesser .result - 0) (c .before .before .before .before .before .before .before .before .before .before .before .before .before .before .before .before .before .before .before .before .before .before .before .args .scratch .now)) (c .before .before .before .before .before .before .trial .result); says = (c .before .before .before .before .before .before .before .before .before .before .if2 .taken, c .before .before .before .before .before .before .before .before .before .before .before .before .before .before .before .move-of .ensures, scratch-lent (c .before .before .before .before .before .before .before .before .before .before .before .before .before .before .before .before .before .before .before .before .before .before .before .args .scratch .now) _ (c .before .before .before .before .before .before .before .before .before .before .before .before .before .wide .result) (c .before .before .before .before .before .before .before .before .before .before .before .before .lesser .result) (c .before .before .before .before .before .before .before .before .before .before .before .before .before .wide .ensures .0) (c .before .before .before .before .before .before .before .before .before .before .before .before .lesser .ensures)); step = (c .before .before .before .before .before .before .trial .ensures .0, refl); scratch-step = front-lent _ _ _ (c .before .before .before .before .before .before .before .before .before .before .before .before .lesser .result - 0) _ refl (c .before .before .before .before .before .before .trial .ensures .1); answer-is = c .before .before .tell-moved2 .ensures }
 
 sub-improve : tie.Need-sub-improve
 sub-improve c = search needs
@@ -109,7 +109,7 @@ same-length-11 c = search needs
 returns-3 : tie.Need-returns-3
 unfolding OneAfter Encodes tag Step answerNumbers cellsLent lentTo answerNumber kindsOf moveOf
 returns-3 c =
-    record { exchange = improveCall (c .before .before .before .before .before .before .before .before .before .before .before .before .before .before .before .before .before .before .before .before .move-of .result .kind) (take (c .before .before .before .before .before .before .before .before .before .before .before .before .before .before .before .before .before .lesser .result - 0) (c .before .before .before .before .before .before .before .before .before .before .before .before .before .before .before .before .before .before .before .before .before .before .before .before .before .before .before .before .args .scratch .now)) (c .before .before .before .before .before .before .before .before .before .before .improve .result); says = (c .before .before .before .before .before .before .before .before .before .before .before .before .before .before .if3 .taken, ap (λ (m : Move). m .kind) (c .before .before .before .before .before .before .before .before .before .before .before .before .before .before .before .before .before .before .before .before .move-of .ensures), scratch-lent (c .before .before .before .before .before .before .before .before .before .before .before .before .before .before .before .before .before .before .before .before .before .before .before .before .before .before .before .before .args .scratch .now) _ (c .before .before .before .before .before .before .before .before .before .before .before .before .before .before .before .before .before .before .wide .result) (c .before .before .before .before .before .before .before .before .before .before .before .before .before .before .before .before .before .lesser .result) (c .before .before .before .before .before .before .before .before .before .before .before .before .before .before .before .before .before .before .wide .ensures) (c .before .before .before .before .before .before .before .before .before .before .before .before .before .before .before .before .before .lesser .ensures)); step = c .before .before .before .before .before .before .before .before .before .before .improve .ensures .0; scratch-step = front-lent _ _ _ (c .before .before .before .before .before .before .before .before .before .before .before .before .before .before .before .before .before .lesser .result - 0) _ refl (c .before .before .before .before .before .before .before .before .before .before .improve .ensures .1); answer-is = c .before .before .tell-improved .ensures }
+    record { exchange = improveCall (c .before .before .before .before .before .before .before .before .before .before .before .before .before .before .before .before .before .before .before .before .move-of .result .kind) (take (c .before .before .before .before .before .before .before .before .before .before .before .before .before .before .before .before .before .lesser .result - 0) (c .before .before .before .before .before .before .before .before .before .before .before .before .before .before .before .before .before .before .before .before .before .before .before .before .before .before .before .before .args .scratch .now)) (c .before .before .before .before .before .before .before .before .before .before .improve .result); says = (c .before .before .before .before .before .before .before .before .before .before .before .before .before .before .if3 .taken, ap (λ (m : Move). m .kind) (c .before .before .before .before .before .before .before .before .before .before .before .before .before .before .before .before .before .before .before .before .move-of .ensures), scratch-lent (c .before .before .before .before .before .before .before .before .before .before .before .before .before .before .before .before .before .before .before .before .before .before .before .before .before .before .before .before .args .scratch .now) _ (c .before .before .before .before .before .before .before .before .before .before .before .before .before .before .before .before .before .before .wide .result) (c .before .before .before .before .before .before .before .before .before .before .before .before .before .before .before .before .before .lesser .result) (c .before .before .before .before .before .before .before .before .before .before .before .before .before .before .before .before .before .before .wide .ensures .0) (c .before .before .before .before .before .before .before .before .before .before .before .before .before .before .before .before .before .lesser .ensures)); step = c .before .before .before .before .before .before .before .before .before .before .improve .ensures .0; scratch-step = front-lent _ _ _ (c .before .before .before .before .before .before .before .before .before .before .before .before .before .before .before .before .before .lesser .result - 0) _ refl (c .before .before .before .before .before .before .before .before .before .before .improve .ensures .1); answer-is = c .before .before .tell-improved .ensures }
 
 returns-4 : tie.Need-returns-4
 unfolding OneAfter tag

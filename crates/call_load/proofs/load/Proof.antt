@@ -2,7 +2,7 @@ use mathlib.Core.Path.{refl}
 use native.Mathlib.Omega.{arith}
 use Rattle.cells_fill.specs.inner.Fill.{FillsPlan}
 use Rattle.contracts.proofs.LoadAnswers.{accepted, load-accepts}
-use Rattle.call_open.proofs.Opening.{root-cell, few-cells}
+use Rattle.call_open.proofs.Opening.{open-enough, root-cell, few-cells}
 use Rattle.call_load.proofs.Opening.{load-shut, fill-ready}
 use borrow.Author.Needs.{needs}
 use Rattle.call_load.proofs.load.Statement.{statement}
@@ -46,7 +46,7 @@ returns-2 : tie.Need-returns-2
 unfolding FillsPlan
 returns-2 c =
     let o = c .before .before .before .before .before .before .before .before .before .before .before .open-tables .ensures .opens (c .before .before .before .before .before .before .if1 .left) in
-    load-accepts _ _ (c .before .before .before .before .before .before .before .before .before .before .before .before .before .before .before .before .before .before .args .cells .now) _ (o .plan) _ _ (o .decodes) (accepted _ (c .before .before .before .before .before .before .before .before .before .before .before .before .before .before .before .before .before .before .args .cells .now) (o .plan) (o .own-masks) (o .own-cells) (o .within)) (c .before .before .before .before .fill .ensures (o .plan) (o .decodes)) (root-cell _ (o .plan) (o .decodes)) refl (c .before .before .before .before .before .before .before .before .before .before .before .open-tables .ensures .cells-are (c .before .before .before .before .before .before .if1 .left) (o .plan) (o .decodes))
+    load-accepts _ _ (c .before .before .before .before .before .before .before .before .before .before .before .before .before .before .before .before .before .before .args .cells .now) _ (o .plan) _ _ (o .decodes) (accepted (o .plan) _ (open-enough _ _ _ _ (c .before .before .before .before .before .before .before .before .before .before .before .before .before .before .before .before .before .before .args .cells .now) _ _ _ _ o (omega arith))) (c .before .before .before .before .fill .ensures (o .plan) (o .decodes)) (root-cell _ (o .plan) (o .decodes)) refl (c .before .before .before .before .before .before .before .before .before .before .before .open-tables .ensures .cells-are (c .before .before .before .before .before .before .if1 .left) (o .plan) (o .decodes))
 
 pub load-spec : {M : Type 1} → statement M
 load-spec =

@@ -3,19 +3,22 @@ use Prim.Native.Nat.{ℕ}
 use native.Mathlib.Omega.{arith}
 use lib.ListN.{take}
 use borrow.Author.Tests.{not-true, not-false}
-use borrow.Author.Needs.{needs}
 use Rattle.logic.specs.Configuration.{ownMasks, allWithin}
 use Rattle.table_format.proofs.Encoding.{decode-sound}
 use Rattle.table_format.proofs.Facts.{plan-facts}
-use Rattle.call_open.proofs.Opening.{opens-broken, opens-few-masks, opens-few-cells, opens-not-within, opens-all}
+use Rattle.call_open.proofs.Opening.{opens-not, opens-few-masks, opens-not-within, opens-all}
+use borrow.Author.Needs.{needs}
 use Rattle.call_open.proofs.open_tables.Statement.{statement}
 use Rattle.call_open.proofs.open_tables.Tie as tie
+use Rattle.call_open.proofs.open_tables.Reads as reads
+use Rattle.call_open.proofs.open_tables.Lts as lts
+use Rattle.call_open.proofs.closed.Reads as closed-reads
+use Rattle.call_open.proofs.masks_ok.Reads as masks-ok-reads
+use Rattle.call_open.proofs.open_cells.Reads as open-cells-reads
+use Rattle.logic.proofs.own_masks.Reads as own-masks-reads
 
-check-requires : tie.Need-check-requires
-check-requires c κs = search needs
-
-closed-requires : tie.Need-closed-requires
-closed-requires c κs = search needs
+open-cells-requires : tie.Need-open-cells-requires
+open-cells-requires c κs = search needs
 
 same-length : tie.Need-same-length
 same-length c = search needs
@@ -28,10 +31,13 @@ same-length-3 c = search needs
 
 returns : tie.Need-returns
 returns c =
-    opens-broken _ _ _ _ _ _ _ (c .closed .ensures) (c .before .before .before .before .before .before .before .before .before .check .ensures .refuses (not-true _ (c .before .if1 .taken)))
+    opens-not _ _ _ _ _ _ _ (c .if1 .taken) (c .before .before .before .before .before .before .before .before .open-cells .ensures .number-is)
 
-closed-requires-2 : tie.Need-closed-requires-2
-closed-requires-2 c κs = search needs
+own-masks-requires : tie.Need-own-masks-requires
+own-masks-requires c κs = search needs
+
+closed-requires : tie.Need-closed-requires
+closed-requires c κs = search needs
 
 same-length-4 : tie.Need-same-length-4
 same-length-4 c = search needs
@@ -45,11 +51,19 @@ same-length-6 c = search needs
 returns-2 : tie.Need-returns-2
 unfolding ownMasks
 returns-2 c =
-    let a = c .before .before .before .before .before .before .before .before .before .before .before .check .ensures .accepts (not-false _ (c .before .before .before .if1 .left)) in
-    opens-few-masks _ _ _ _ _ _ _ (a .0) (a .1) (c .closed2 .ensures) (omega (arith, a .2 .sets-are, c .before .if2 .taken))
+    let a = c .before .before .before .before .before .before .before .before .before .before .before .open-cells .ensures .opens (c .before .before .before .if1 .left) in
+    opens-few-masks _ _ _ _ _ _ _ (a .plan) (a .decodes) (c .closed .ensures) (omega (arith, a .sets-are, c .before .before .own-masks .ensures, c .before .if2 .taken))
 
-closed-requires-3 : tie.Need-closed-requires-3
-closed-requires-3 c κs = search needs
+own-masks-requires-2 : tie.Need-own-masks-requires-2
+own-masks-requires-2 c κs = search needs
+
+masks-ok-requires : tie.Need-masks-ok-requires
+masks-ok-requires c κs =
+    let a = c .before .before .before .before .before .before .before .before .before .before .before .open-cells .ensures .opens (c .before .before .before .if1 .left) in
+    (omega (arith, c .before .before .own-masks .ensures, c .own-masks2 .ensures, c .before .if2 .left), omega (arith, a .ports-are, plan-facts (a .plan) (decode-sound _ (a .plan) (a .decodes) .rules) .ports64))
+
+closed-requires-2 : tie.Need-closed-requires-2
+closed-requires-2 c κs = search needs
 
 same-length-7 : tie.Need-same-length-7
 same-length-7 c = search needs
@@ -63,16 +77,9 @@ same-length-9 c = search needs
 returns-3 : tie.Need-returns-3
 unfolding ownMasks
 returns-3 c =
-    let a = c .before .before .before .before .before .before .before .before .before .before .before .before .before .check .ensures .accepts (not-false _ (c .before .before .before .before .before .if1 .left)) in
-    opens-few-cells _ _ _ _ _ _ _ (a .0) (a .1) (c .closed3 .ensures) (omega (arith, a .2 .sets-are, c .before .before .before .if2 .left)) (omega (arith, a .2 .cells-are, c .before .if3 .taken))
-
-masks-ok-requires : tie.Need-masks-ok-requires
-masks-ok-requires c κs =
-    let a = c .before .before .before .before .before .before .before .before .before .before .before .before .check .ensures .accepts (not-false _ (c .before .before .before .before .if1 .left)) in
-    (c .before .before .if2 .left, omega (arith, a .2 .ports-are, plan-facts (a .0) (decode-sound _ (a .0) (a .1) .rules) .ports64))
-
-closed-requires-4 : tie.Need-closed-requires-4
-closed-requires-4 c κs = search needs
+    let a = c .before .before .before .before .before .before .before .before .before .before .before .before .before .before .open-cells .ensures .opens (c .before .before .before .before .before .before .if1 .left) in
+    opens-not-within _ _ _ _ _ _ _ (a .plan) (a .decodes) (omega (arith, a .sets-are, c .before .before .before .before .before .own-masks .ensures, c .before .before .before .before .if2 .left)) (a .own-cells) (c .closed2 .ensures)
+    (ap₂ (λ (u n : ℕ). allWithin u (take n (c .before .before .before .before .before .before .before .before .before .before .before .before .before .before .before .before .before .before .before .before .before .before .before .args .masks .now))) (sym (a .ports-are)) (sym (c .before .before .before .own-masks2 .ensures ∙ a .sets-are)) ∙ sym (c .before .before .masks-ok .ensures) ∙ not-true _ (c .before .if3 .taken))
 
 same-length-10 : tie.Need-same-length-10
 same-length-10 c = search needs
@@ -86,54 +93,33 @@ same-length-12 c = search needs
 returns-4 : tie.Need-returns-4
 unfolding ownMasks
 returns-4 c =
-    let a = c .before .before .before .before .before .before .before .before .before .before .before .before .before .before .before .check .ensures .accepts (not-false _ (c .before .before .before .before .before .before .before .if1 .left)) in
-    opens-not-within _ _ _ _ _ _ _ (a .0) (a .1) (omega (arith, a .2 .sets-are, c .before .before .before .before .before .if2 .left)) (omega (arith, a .2 .cells-are, c .before .before .before .if3 .left)) (c .closed4 .ensures)
-    (ap₂ (λ (u n : ℕ). allWithin u (take n (c .before .before .before .before .before .before .before .before .before .before .before .before .before .before .before .before .before .before .before .before .before .before .before .before .args .masks .now))) (sym (a .2 .ports-are)) (sym (a .2 .sets-are)) ∙ sym (c .before .before .masks-ok .ensures) ∙ not-true _ (c .before .if4 .taken))
-
-same-length-13 : tie.Need-same-length-13
-same-length-13 c = search needs
-
-same-length-14 : tie.Need-same-length-14
-same-length-14 c = search needs
-
-same-length-15 : tie.Need-same-length-15
-same-length-15 c = search needs
-
-returns-5 : tie.Need-returns-5
-unfolding ownMasks
-returns-5 c =
-    let a = c .before .before .before .before .before .before .before .before .before .before .before .before .before .before .check .ensures .accepts (not-false _ (c .before .before .before .before .before .before .if1 .left)) in
-    opens-all _ _ _ _ _ _ _ (a .0) (a .1) (omega (arith, a .2 .sets-are, c .before .before .before .before .if2 .left)) (omega (arith, a .2 .cells-are, c .before .before .if3 .left)) refl (a .2 .ports-are) (a .2 .sets-are) (a .2 .nodes-are) (a .2 .cells-are)
-    record { firsts₀ = _; ends₀ = _; uses₀ = _; firsts-are = a .2 .firsts-are; ends-are = a .2 .ends-are; uses-are = a .2 .uses-are }
-    (ap₂ (λ (u n : ℕ). allWithin u (take n (c .before .before .before .before .before .before .before .before .before .before .before .before .before .before .before .before .before .before .before .before .before .before .before .args .masks .now))) (sym (a .2 .ports-are)) (sym (a .2 .sets-are)) ∙ sym (c .before .masks-ok .ensures) ∙ not-false _ (c .if4 .left))
+    let a = c .before .before .before .before .before .before .before .before .before .before .before .before .before .open-cells .ensures .opens (c .before .before .before .before .before .if1 .left) in
+    opens-all _ _ _ _ _ _ _ (a .plan) (a .decodes) (omega (arith, a .sets-are, c .before .before .before .before .own-masks .ensures, c .before .before .before .if2 .left)) (a .own-cells) (c .before .before .before .before .before .if1 .left) (a .ports-are) (a .sets-are) (a .nodes-are) (a .cells-are) (a .indexed)
+    (ap₂ (λ (u n : ℕ). allWithin u (take n (c .before .before .before .before .before .before .before .before .before .before .before .before .before .before .before .before .before .before .before .before .before .before .args .masks .now))) (sym (a .ports-are)) (sym (c .before .before .own-masks2 .ensures ∙ a .sets-are)) ∙ sym (c .before .masks-ok .ensures) ∙ not-false _ (c .if3 .left))
 
 pub open-tables-spec : {M : Type 1} → statement M
 open-tables-spec =
     tie.close
     (tie.spec
-    check-requires
-    closed-requires
+    open-cells-requires
     same-length
     same-length-2
     same-length-3
     returns
-    closed-requires-2
+    own-masks-requires
+    closed-requires
     same-length-4
     same-length-5
     same-length-6
     returns-2
-    closed-requires-3
+    own-masks-requires-2
+    masks-ok-requires
+    closed-requires-2
     same-length-7
     same-length-8
     same-length-9
     returns-3
-    masks-ok-requires
-    closed-requires-4
     same-length-10
     same-length-11
     same-length-12
-    returns-4
-    same-length-13
-    same-length-14
-    same-length-15
-    returns-5)
+    returns-4)

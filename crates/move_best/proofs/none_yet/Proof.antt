@@ -1,14 +1,15 @@
-use mathlib.Core.Path.{refl}
+use borrow.Author.Needs.{needs}
 use Rattle.move_order.specs.inner.Stepping.{outset}
-use Rattle.move_order.specs.Candidates.{fieldsAre}
 use Rattle.move_best.specs.inner.Choosing.{choiceOf, noNumbers}
 use Rattle.move_best.proofs.none_yet.Statement.{statement}
 use Rattle.move_best.proofs.none_yet.Tie as tie
 
+no-move-requires : tie.Need-no-move-requires
+no-move-requires c κs = search needs
+
 returns : tie.Need-returns
-unfolding choiceOf noNumbers outset fieldsAre
-returns c =
-    refl
+unfolding choiceOf noNumbers outset
+returns c = rw (c .no-move .ensures)
 
 pub none-yet-spec : {M : Type 1} → statement M
-none-yet-spec = tie.close (tie.spec returns)
+none-yet-spec = tie.close (tie.spec no-move-requires returns)

@@ -1,12 +1,21 @@
+use borrow.Author.Needs.{needs}
 use mathlib.Core.Path.{sym, _∙_}
 use native.Mathlib.Omega.{arith}
-use borrow.Author.Needs.{needs}
 use Rattle.move_order.specs.inner.Stepping.{place}
+use Rattle.move_try.proofs.OpenMove.{ports-fit, sets-fit}
 use Rattle.move_best.proofs.Choosing.{left}
-use Rattle.move_best.proofs.Trying.{ports-fit, sets-fit, sized-over}
+use Rattle.move_best.proofs.Candidates.{sized-over}
 use Rattle.move_best.proofs.Searching.{Searching, search-starts, search-tries, search-begins, search-goes-on, search-less, search-ends}
 use Rattle.move_best.proofs.search.Statement.{statement}
 use Rattle.move_best.proofs.search.Tie as tie
+use Rattle.move_best.proofs.search.Reads as reads
+use Rattle.move_best.proofs.search.Lts as lts
+use Rattle.move_best.proofs.better.Reads as better-reads
+use Rattle.move_best.proofs.none_yet.Reads as none-yet-reads
+use Rattle.move_legal.proofs.narrow.Reads as narrow-reads
+use Rattle.move_order.proofs.first_candidate.Reads as first-candidate-reads
+use Rattle.move_order.proofs.next_candidate.Reads as next-candidate-reads
+use Rattle.move_try.proofs.try_move.Reads as try-move-reads
 
 abbrev Inv-loop : tie.InvT-loop
 Inv-loop table firsts ends uses masks cells ports sets kinds work₀ u n best₀ at₀ work best at = Searching table masks cells kinds sets work best at
@@ -16,11 +25,11 @@ abbrev μ-loop : tie.MeasureT-loop
 
 narrow-requires : tie.Need-narrow-requires Inv-loop μ-loop
 narrow-requires c κs =
-    ports-fit _ _ _ _ _ _ _ _ (c .before .before .before .before .before .before .before .pre .ready)
+    ports-fit (c .before .before .before .before .before .before .before .pre .ready .opened)
 
 narrow-requires-2 : tie.Need-narrow-requires-2 Inv-loop μ-loop
 narrow-requires-2 c κs =
-    let h = sets-fit _ _ _ _ _ _ _ _ (c .before .before .before .before .before .before .before .before .pre .ready) in omega (arith, h)
+    let h = sets-fit (c .before .before .before .before .before .before .before .before .pre .ready .opened) in omega (arith, h)
 
 none-yet-requires : tie.Need-none-yet-requires Inv-loop μ-loop
 none-yet-requires c κs =
@@ -28,14 +37,14 @@ none-yet-requires c κs =
 
 first-candidate-requires : tie.Need-first-candidate-requires Inv-loop μ-loop
 first-candidate-requires c κs =
-    sized-over _ _ _ _ _ _ _ _ (c .before .before .before .before .before .before .before .before .before .before .pre .ready) _ _ (c .before .before .narrow .ensures) (c .before .narrow2 .ensures)
+    sized-over (c .before .before .before .before .before .before .before .before .before .before .pre .ready .opened) _ _ (c .before .before .narrow .ensures) (c .before .narrow2 .ensures)
 
 loop-holds : tie.Need-loop-holds Inv-loop μ-loop
 loop-holds c =
     search-starts _ _ _ _ _ _ _ _ (c .before .before .before .before .before .before .before .before .before .before .before .pre .ready) _ _ _ (c .before .before .before .narrow .ensures) (c .before .before .narrow2 .ensures) _ _ _ (c .before .before .before .before .before .before .before .before .before .before .before .pre .work-long) (c .before .none-yet .ensures) (c .first-candidate .ensures)
 
-numbers-of-requires : tie.Need-numbers-of-requires Inv-loop μ-loop
-numbers-of-requires c κs =
+try-move-requires : tie.Need-try-move-requires Inv-loop μ-loop
+try-move-requires c κs =
     search-tries _ _ _ _ _ _ _ _ (c .before .before .before .before .before .before .before .before .before .before .before .before .before .before .pre .ready) _ _ _ (c .before .before .before .before .before .before .narrow .ensures) (c .before .before .before .before .before .narrow2 .ensures) _ _ _ (c .before .before .loop .inv) (c .before .loop-test .taken)
 
 better-requires : tie.Need-better-requires Inv-loop μ-loop
@@ -53,7 +62,7 @@ loop-less c =
 loop-again : tie.Need-loop-again Inv-loop μ-loop
 loop-again c =
     search-goes-on _ _ _ _ _ _ _ _ (c .before .before .before .before .before .before .before .before .before .before .before .before .before .before .before .before .before .before .before .pre .ready) _ _ _ (c .before .before .before .before .before .before .before .before .before .before .before .narrow .ensures) (c .before .before .before .before .before .before .before .before .before .before .narrow2 .ensures) _ _ _ (c .before .before .before .before .before .before .before .loop .inv) (c .before .before .before .before .before .before .loop-test .taken) _ _ _ _
-    (c .before .before .before .before .numbers-of .kept .1 .1 .1 .1 .1 .1 .1 .1 .1 .0) (c .before .before .before .before .numbers-of .ensures) (c .before .better .ensures) (c .next-candidate .ensures)
+    (c .before .before .before .before .try-move .kept .1 .1 .1 .1 .1 .1 .1 .1 .1 .0) (c .before .before .before .before .try-move .ensures) (c .before .better .ensures) (c .next-candidate .ensures)
 
 same-length : tie.Need-same-length Inv-loop μ-loop
 same-length c =
@@ -74,7 +83,7 @@ search-spec =
     none-yet-requires
     first-candidate-requires
     loop-holds
-    numbers-of-requires
+    try-move-requires
     better-requires
     next-candidate-requires
     loop-less

@@ -6,44 +6,21 @@ use Prim.Native.Nat.{ℕ, _<_}
 use lib.ListN.{length, take}
 use Rattle.logic.specs.declared.Move.{Move}
 use Rattle.logic.specs.Formula.{Plan}
-use Rattle.logic.specs.Configuration.{inMasks, ownMasks}
+use Rattle.logic.specs.Configuration.{inMasks, maskCount, ownMasks}
 use Rattle.logic.specs.Cells.{ownCells}
-use Rattle.logic.specs.Moves.{legal}
-use Rattle.logic.specs.Change.{differing}
 use Rattle.table_format.specs.Decode.{sound, decode}
-use Rattle.cells_walk.specs.inner.Visit.{CellsFit, TablesLong}
-use Rattle.call_open.specs.inner.Opening.{OpenPlan}
+use Rattle.call_open.specs.inner.Opening.{OpenTables}
 use Rattle.cells_sum.specs.declared.After.{After}
 use Rattle.contracts.specs.Least.{NoneBelow}
-use Rattle.contracts.specs.MoveCall.{cellsAfter}
-use Rattle.contracts.specs.ImproveCall.{rootNow, rootAfter, Candidate}
+use Rattle.contracts.specs.ImproveCall.{rootAfter, Candidate}
+use Rattle.move_try.specs.inner.Trying.{NumbersAre}
 use Rattle.move_order.specs.inner.Stepping.{place}
 use Rattle.move_best.specs.declared.Choice.{Choice}
 
--- Tables that are open, index tables that are long enough and cells of 32 bits: what a walk over them asks.
-pub record SearchReady (ports sets : ℕ) (bytes firsts ends uses masks cells : List ℕ) : Type 0 where
-  pub opened : OpenPlan ports sets bytes masks (length cells) firsts ends uses
-  pub long : TablesLong firsts ends uses
-  pub cells-fit : CellsFit cells
-
--- The same with room for the masks after a move.
+-- Open tables, and room for the masks after a move.
 pub record SearchRoom (ports sets : ℕ) (bytes firsts ends uses masks cells work : List ℕ) : Type 0 where
-  pub ready : SearchReady ports sets bytes firsts ends uses masks cells
-  pub work-long : length work ≡ sets
-
--- And a legal move to try.
-pub record TryReady (ports sets : ℕ) (bytes firsts ends uses masks cells : List ℕ) (m : Move) (work : List ℕ) : Type 0 where
-  pub room : SearchRoom ports sets bytes firsts ends uses masks cells work
-  pub is-legal : legal (room .ready .opened .plan) (inMasks (take (ownMasks (room .ready .opened .plan)) masks)) m ≡ true
-
--- "root before, root after, and how many cells differ from before": the three numbers that the move call would answer.
-pub record NumbersAre (P : Plan) (own before : List ℕ) (m : Move) (a : After) : Type 0 where
-  pub before-is : a .old ≡ rootNow before
-  pub after-is : a .value ≡ rootAfter P m own before
-  pub changed-is : a .changed ≡ differing before (cellsAfter P m own before)
-
-unfoldable pub GivesNumbers : List ℕ → List ℕ → List ℕ → Move → After → Type 0
-GivesNumbers bytes masks cells m a = (P : Plan) → decode bytes ≡ sound P → NumbersAre P (take (ownMasks P) masks) (take (ownCells P) cells) m a
+  pub ready : OpenTables ports sets bytes firsts ends uses masks cells
+  pub work-long : length work ≡ maskCount sets
 
 -- The best of the moves of which something holds: it leaves the least root, with its three numbers.
 pub record BestFound (Is : Move → Type 0) (P : Plan) (own before : List ℕ) (r : Choice) : Type 0 where
@@ -62,7 +39,7 @@ FoundOr false Is P own before r = (m : Move) → Is m → ⊥
 unfoldable pub Chooses : List ℕ → List ℕ → List ℕ → ℕ → Choice → Type 0
 Chooses bytes masks cells kinds r =
     (P : Plan) → decode bytes ≡ sound P
-    → FoundOr (r .found) (Candidate P kinds (take (ownMasks P) masks)) P (take (ownMasks P) masks) (take (ownCells P) cells) r
+    → FoundOr (r .found) (Candidate P kinds (inMasks (take (ownMasks P) masks))) P (take (ownMasks P) masks) (take (ownCells P) cells) r
 
 -- A choice with its fields, and the numbers of none.
 unfoldable pub choiceOf : Bool → Move → After → Choice

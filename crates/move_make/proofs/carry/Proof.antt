@@ -1,20 +1,31 @@
-use mathlib.Core.Path.{ap}
+use mathlib.Core.Path.{ap, _∙_}
 use Prim.Native.Nat.{ℕ}
 use native.Mathlib.Nat.{sub-zero}
 use native.Mathlib.Omega.{arith}
 use lib.ListN.{take}
+use Rattle.move_try.proofs.OpenMove.{ports-fit, sets-fit, masks-long, legal-over, change-ready, root-ready}
+use Rattle.move_make.proofs.Carrying.{back-fits, lent-again, carried}
 use borrow.Author.Needs.{needs}
-use Rattle.move_make.proofs.Accepting.{root-ready, answer-is, cells-are, move-ready, free, legal-over, change-ready, back-fits, lent-again, back-is, past-is, carried}
 use Rattle.move_make.proofs.carry.Statement.{statement}
 use Rattle.move_make.proofs.carry.Tie as tie
+use Rattle.move_make.proofs.carry.Reads as reads
+use Rattle.move_make.proofs.carry.Lts as lts
+use Rattle.cells_touch.proofs.change_of.Reads as change-of-reads
+use Rattle.cells_write.proofs.root_written.Reads as root-written-reads
+use Rattle.logic.proofs.own_masks.Reads as own-masks-reads
+use Rattle.move_legal.proofs.narrow.Reads as narrow-reads
+use Rattle.move_masks.proofs.masks_after.Reads as masks-after-reads
+
+own-masks-requires : tie.Need-own-masks-requires
+own-masks-requires c κs = search needs
 
 narrow-requires : tie.Need-narrow-requires
 narrow-requires c κs =
-    move-ready (c .before .before .before .before .before .before .pre .opened) .ports64
+    ports-fit (c .before .before .before .before .before .before .before .pre .tables-open .opened)
 
 narrow-requires-2 : tie.Need-narrow-requires-2
 narrow-requires-2 c κs =
-    let r = move-ready (c .before .before .before .before .before .before .before .pre .opened) in omega (arith, r .sets16)
+    let h = sets-fit (c .before .before .before .before .before .before .before .before .pre .tables-open .opened) in omega (arith, h)
 
 sub-masks-after : tie.Need-sub-masks-after
 sub-masks-after c = search needs
@@ -24,11 +35,11 @@ part-masks-after-start c = search needs
 
 part-masks-after-end : tie.Need-part-masks-after-end
 part-masks-after-end c =
-    let r = move-ready (c .before .before .before .before .before .before .before .before .pre .opened) in omega (arith, r .own-masks)
+    let h = masks-long (c .before .before .before .before .before .before .before .before .before .pre .tables-open .opened) in omega (arith, h, c .before .before .own-masks .ensures)
 
 masks-after-requires : tie.Need-masks-after-requires
 masks-after-requires c κs =
-    legal-over (c .before .before .before .before .before .before .before .before .before .pre .opened) _ (c .before .before .before .before .before .before .before .before .before .pre .free) _ _ 0 (c .before .before .narrow .ensures) (c .before .narrow2 .ensures) _ (ap (λ (j : ℕ). take j (c .before .before .before .before .before .before .before .before .before .args .masks .now)) (sub-zero (c .before .before .before .before .before .before .before .before .before .args .sets)))
+    legal-over (c .before .before .before .before .before .before .before .before .before .before .pre) _ _ (c .before .before .narrow .ensures) (c .before .narrow2 .ensures) _ (ap (λ (j : ℕ). take j (c .before .before .before .before .before .before .before .before .before .before .args .masks .now)) (sub-zero (c .before .before .before .own-masks .result) ∙ c .before .before .before .own-masks .ensures))
 
 sub-root-written : tie.Need-sub-root-written
 sub-root-written c = search needs
@@ -38,15 +49,16 @@ part-root-written-start c = search needs
 
 part-root-written-end : tie.Need-part-root-written-end
 part-root-written-end c =
-    back-fits (c .before .before .before .before .before .before .before .before .before .before .before .before .before .pre .opened) _ (c .before .before .before .before .before .before .before .before .before .before .before .before .before .pre .free) (c .before .before .before .masks-after .last .1 .1 .1 .0) _ _ (sub-zero (c .before .before .before .before .before .before .before .before .before .before .before .before .before .args .sets)) (c .before .before .before .masks-after .ensures)
+    back-fits (c .before .before .before .before .before .before .before .before .before .before .before .before .before .before .pre) (c .before .before .before .masks-after .last .1 .1 .1 .0) _ (sub-zero (c .before .before .before .before .before .before .before .own-masks .result) ∙ c .before .before .before .before .before .before .before .own-masks .ensures) (c .before .before .before .masks-after .ensures) _ _ (omega arith)
 
 change-of-requires : tie.Need-change-of-requires
 change-of-requires c κs =
-    change-ready (c .before .before .before .before .before .before .before .before .before .before .before .before .before .before .before .pre .opened) _ (c .before .before .before .before .before .before .before .before .before .before .before .before .before .before .before .pre .free)
+    change-ready (c .before .before .before .before .before .before .before .before .before .before .before .before .before .before .before .before .pre)
 
 root-written-requires : tie.Need-root-written-requires
 root-written-requires c κs =
-    root-ready (c .before .before .before .before .before .before .before .before .before .before .before .before .before .before .before .before .pre .opened) _ (c .before .before .before .before .before .before .before .before .before .before .before .before .before .before .before .before .pre .free) _ (c .change-of .ensures) _ _ (lent-again (c .before .before .before .before .before .before .before .before .before .before .before .before .before .before .before .before .pre .opened) _ (c .before .before .before .before .before .before .before .before .before .before .before .before .before .before .before .before .pre .free) (c .before .before .before .before .before .before .masks-after .last .1 .1 .1 .0) _ _ (sub-zero (c .before .before .before .before .before .before .before .before .before .before .before .before .before .before .before .before .args .sets)) (c .before .before .before .before .before .before .masks-after .ensures)) (c .before .before .before .before .before .before .before .before .before .before .before .before .before .before .before .before .pre .fit) (c .before .before .before .before .before .before .before .before .before .before .before .before .before .before .before .before .pre .room) (c .before .before .before .before .before .before .before .before .before .before .before .before .before .before .before .before .pre .long)
+    root-ready (c .before .before .before .before .before .before .before .before .before .before .before .before .before .before .before .before .before .pre) _ (c .change-of .ensures) _
+    (lent-again (c .before .before .before .before .before .before .before .before .before .before .before .before .before .before .before .before .before .pre) (c .before .before .before .before .before .before .masks-after .last .1 .1 .1 .0) _ (sub-zero (c .before .before .before .before .before .before .before .before .before .before .own-masks .result) ∙ c .before .before .before .before .before .before .before .before .before .before .own-masks .ensures) (c .before .before .before .before .before .before .masks-after .ensures) _)
 
 same-length : tie.Need-same-length
 same-length c = search needs
@@ -56,15 +68,15 @@ same-length-2 c = search needs
 
 returns : tie.Need-returns
 returns c =
-    carried _ _ _ _ (c .before .before .before .before .before .before .before .before .before .before .before .before .before .before .before .before .before .before .before .pre .opened .decodes) _ _ _ (c .before .before .before .before .before .before .before .before .before .masks-after .last .1 .1 .1 .0) _
-    (answer-is (c .before .before .before .before .before .before .before .before .before .before .before .before .before .before .before .before .before .before .before .pre .opened) _ (c .before .before .before .before .before .before .before .before .before .before .before .before .before .before .before .before .before .before .before .pre .free) _ (c .before .before .before .change-of .ensures) _ _ (lent-again (c .before .before .before .before .before .before .before .before .before .before .before .before .before .before .before .before .before .before .before .pre .opened) _ (c .before .before .before .before .before .before .before .before .before .before .before .before .before .before .before .before .before .before .before .pre .free) (c .before .before .before .before .before .before .before .before .before .masks-after .last .1 .1 .1 .0) _ _ (sub-zero (c .before .before .before .before .before .before .before .before .before .before .before .before .before .before .before .before .before .before .before .args .sets)) (c .before .before .before .before .before .before .before .before .before .masks-after .ensures)) _ (c .before .before .root-written .ensures .0))
-    (cells-are (c .before .before .before .before .before .before .before .before .before .before .before .before .before .before .before .before .before .before .before .pre .opened) _ (c .before .before .before .before .before .before .before .before .before .before .before .before .before .before .before .before .before .before .before .pre .free) _ (c .before .before .before .change-of .ensures) _ _ (lent-again (c .before .before .before .before .before .before .before .before .before .before .before .before .before .before .before .before .before .before .before .pre .opened) _ (c .before .before .before .before .before .before .before .before .before .before .before .before .before .before .before .before .before .before .before .pre .free) (c .before .before .before .before .before .before .before .before .before .masks-after .last .1 .1 .1 .0) _ _ (sub-zero (c .before .before .before .before .before .before .before .before .before .before .before .before .before .before .before .before .before .before .before .args .sets)) (c .before .before .before .before .before .before .before .before .before .masks-after .ensures)) _ (c .before .before .root-written .ensures .1))
-    (back-is (c .before .before .before .before .before .before .before .before .before .before .before .before .before .before .before .before .before .before .before .pre .opened) _ (c .before .before .before .before .before .before .before .before .before .before .before .before .before .before .before .before .before .before .before .pre .free) (c .before .before .before .before .before .before .before .before .before .masks-after .last .1 .1 .1 .0) _ (sub-zero (c .before .before .before .before .before .before .before .before .before .before .before .before .before .before .before .before .before .before .before .args .sets)) (c .before .before .before .before .before .before .before .before .before .masks-after .ensures)) (past-is (c .before .before .before .before .before .before .before .before .before .before .before .before .before .before .before .before .before .before .before .pre .opened) _ (c .before .before .before .before .before .before .before .before .before .before .before .before .before .before .before .before .before .before .before .pre .free) _ (sub-zero (c .before .before .before .before .before .before .before .before .before .before .before .before .before .before .before .before .before .before .before .args .sets)))
+    carried (c .before .before .before .before .before .before .before .before .before .before .before .before .before .before .before .before .before .before .before .before .pre) (c .before .before .before .before .before .before .before .before .before .masks-after .last .1 .1 .1 .0) _ (sub-zero (c .before .before .before .before .before .before .before .before .before .before .before .before .before .own-masks .result) ∙ c .before .before .before .before .before .before .before .before .before .before .before .before .before .own-masks .ensures) (c .before .before .before .before .before .before .before .before .before .masks-after .ensures) _ (c .before .before .before .change-of .ensures) _
+    (lent-again (c .before .before .before .before .before .before .before .before .before .before .before .before .before .before .before .before .before .before .before .before .pre) (c .before .before .before .before .before .before .before .before .before .masks-after .last .1 .1 .1 .0) _ (sub-zero (c .before .before .before .before .before .before .before .before .before .before .before .before .before .own-masks .result) ∙ c .before .before .before .before .before .before .before .before .before .before .before .before .before .own-masks .ensures) (c .before .before .before .before .before .before .before .before .before .masks-after .ensures) _)
+    _ _ (c .before .before .root-written .ensures .0) (c .before .before .root-written .ensures .1)
 
 pub carry-spec : {M : Type 1} → statement M
 carry-spec =
     tie.close
     (tie.spec
+    own-masks-requires
     narrow-requires
     narrow-requires-2
     sub-masks-after

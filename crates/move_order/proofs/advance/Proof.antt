@@ -9,13 +9,13 @@ use Rattle.move_order.proofs.advance.Tie as tie
 of-kinds-requires : tie.Need-of-kinds-requires
 of-kinds-requires c κs = search needs
 
-step-requires : tie.Need-step-requires
-step-requires c κs = search needs
+next-place-requires : tie.Need-next-place-requires
+next-place-requires c κs = search needs
 
 returns : tie.Need-returns
 unfolding StepsAny
 returns c =
-    c .step .ensures (c .before .before .before .args .kinds)
+    c .next-place .ensures (c .before .before .before .args .kinds)
 
 add-at-fields : tie.Need-add-at-fields
 add-at-fields c = search needs
@@ -31,4 +31,4 @@ returns-2 c =
 pub advance-spec : {M : Type 1} → statement M
 advance-spec =
     tie.close
-    (tie.spec of-kinds-requires step-requires returns add-at-fields at-fields-requires returns-2)
+    (tie.spec of-kinds-requires next-place-requires returns add-at-fields at-fields-requires returns-2)

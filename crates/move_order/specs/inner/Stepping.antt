@@ -7,11 +7,10 @@ use lib.ListN.{length, take}
 use Rattle.logic.specs.declared.Move.{Move}
 use Rattle.logic.specs.Formula.{Plan}
 use Rattle.logic.specs.Configuration.{inMasks}
-use Rattle.logic.specs.Moves.{fits, ofKinds}
+use Rattle.logic.specs.Moves.{noMove, fits, ofKinds}
 use Rattle.contracts.specs.ImproveCall.{Candidate}
 use Rattle.move_order.specs.declared.Next.{Next}
 use Rattle.move_legal.specs.inner.Legal.{Fields, Sized}
-use Rattle.move_order.specs.Candidates.{fieldsAre}
 
 -- The same order as one number, for sets below 16 and ports below 64: proofs/Order shows that both order the plan's moves alike.
 unfoldable pub place : Move → ℕ
@@ -47,13 +46,13 @@ pub record SizedOver (ports sets : ℕ) (masks : List ℕ) : Type 0 where
 
 -- r is the first candidate after m.
 pub record Follows (P : Plan) (kinds : ℕ) (own : List ℕ) (m r : Move) : Type 0 where
-  pub candidate : Candidate P kinds own r
+  pub candidate : Candidate P kinds (inMasks own) r
   pub later : place m < place r
-  pub nearest : (m′ : Move) → Candidate P kinds own m′ → place m < place m′ → place r ≤ place m′
+  pub nearest : (m′ : Move) → Candidate P kinds (inMasks own) m′ → place m < place m′ → place r ≤ place m′
 
 -- There is none after m.
 pub record NoneLater (P : Plan) (kinds : ℕ) (own : List ℕ) (m : Move) : Type 0 where
-  pub all-passed : (m′ : Move) → Candidate P kinds own m′ → place m′ ≤ place m
+  pub all-passed : (m′ : Move) → Candidate P kinds (inMasks own) m′ → place m′ ≤ place m
 
 unfoldable pub NextOr : Bool → Plan → ℕ → List ℕ → Move → Move → Type 0
 NextOr true P kinds own m r = Follows P kinds own m r
@@ -75,7 +74,7 @@ StepsAny ports sets m r = (kinds : ℕ) → StepsOn ports sets kinds m r
 
 -- What stands before the first move.
 unfoldable pub outset : Move
-outset = fieldsAre 0 0 0 0 0
+outset = noMove
 
 -- A list got by steps to the next candidate until there is none.
 unfoldable pub Walked : Plan → ℕ → List ℕ → Move → List Move → Type 0

@@ -2,8 +2,8 @@ use native.Mathlib.Omega.{arith}
 use borrow.Author.Needs.{needs}
 use Rattle.move_order.specs.inner.Stepping.{StepsAny}
 use Rattle.move_order.proofs.Stepping.{step-q, step-p, step-t, step-s, step-kind}
-use Rattle.move_order.proofs.step.Statement.{statement}
-use Rattle.move_order.proofs.step.Tie as tie
+use Rattle.move_order.proofs.next_place.Statement.{statement}
+use Rattle.move_order.proofs.next_place.Tie as tie
 
 add-if1 : tie.Need-add-if1
 add-if1 c = search needs
@@ -78,8 +78,8 @@ unfolding StepsAny
 returns-5 c =
     λ kinds. rw (c .at-fields5 .ensures) (step-kind (c .before .before .before .before .before .before .before .before .before .before .before .before .args .ports) (c .before .before .before .before .before .before .before .before .before .before .before .before .args .sets) kinds (c .before .before .before .before .before .before .before .before .before .before .before .before .args .m) (c .before .before .before .before .before .before .before .before .before .before .before .before .pre) (omega (arith, c .before .before .before .before .before .before .before .before .before .if1 .left, c .before .before .before .before .before .before .before .before .before .before .q-end .ensures)) (omega (arith, c .before .before .before .before .before .before .before .if2 .left)) (omega (arith, c .before .before .before .before .if3 .left, c .before .before .before .before .before .t-end .ensures)) (omega (arith, c .before .before .if4 .left)))
 
-pub step-spec : {M : Type 1} → statement M
-step-spec =
+pub next-place-spec : {M : Type 1} → statement M
+next-place-spec =
     tie.close
     (tie.spec
     add-if1

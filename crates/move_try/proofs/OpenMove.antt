@@ -1,0 +1,179 @@
+-- A legal move over open tables: what its masks and the walk ask, and its three numbers. Assumes nothing.
+use mathlib.Core.Path.{_≡_, sym, ap, _∙_, subst}
+use mathlib.Core.Bool.{Bool, true, false, cond}
+use mathlib.Core.List.{List}
+use Prim.Native.Nat.{ℕ, _≤_, _<_}
+use native.Mathlib.Omega.{arith}
+use lib.Dec.{eqb}
+use lib.ListN.{length, getD, take}
+use lib.Seq.{length-take-le, take-all}
+use Rattle.logic.specs.declared.Move.{Move}
+use Rattle.logic.specs.Formula.{Plan}
+use Rattle.logic.specs.Configuration.{inMasks, maskCount, ownMasks, spelled, allWithin}
+use Rattle.logic.specs.Cells.{ownCells}
+use Rattle.logic.specs.Moves.{refusal, moveGrounds, namedMasks, moveMasks, movePairs, known, fits, legal}
+use Rattle.logic.specs.Change.{pairsChange, newCells, differing}
+use Rattle.logic.proofs.Lists.{and-left, and-right}
+use Rattle.logic.proofs.Within.{within-at}
+use Rattle.table_format.specs.Decode.{sound, decode}
+use Rattle.table_format.specs.inner.Facts.{PlanFacts}
+use Rattle.table_format.proofs.Encoding.{decode-sound, one-plan}
+use Rattle.table_format.proofs.Facts.{plan-facts}
+use Rattle.cells_touch.specs.declared.Changed.{Changed}
+use Rattle.cells_touch.specs.inner.Hits.{Describes, Tells}
+use Rattle.cells_sum.specs.declared.After.{After}
+use Rattle.cells_walk.specs.inner.Visit.{MasksSettled}
+use Rattle.cells_walk.specs.inner.Root.{RootReady, RootGives}
+use Rattle.call_open.specs.inner.Opening.{OpenPlan, OpenTables}
+use Rattle.move_legal.specs.inner.Legal.{tEnd, Fields, LegalOver, MoveReady, MoveNumber}
+use Rattle.move_legal.proofs.Known.{known-fields}
+use Rattle.contracts.specs.declared.Moved.the-variants.{Accepted}
+use Rattle.contracts.specs.MoveCall.{cellsAfter, moveAnswer}
+use Rattle.contracts.specs.ImproveCall.{rootNow, rootAfter}
+use Rattle.contracts.proofs.Within.{move-within, move-length}
+use Rattle.move_try.specs.inner.Trying.{LegalMove, NumbersAre, GivesNumbers}
+
+-- an open plan: its numbers, and a move's number of 14 and 15
+module _ {ports sets : ℕ} {bytes masks : List ℕ} {shortest : ℕ} {firsts ends uses : List ℕ} (opened : OpenPlan ports sets bytes masks shortest firsts ends uses) where
+  abbrev P : Plan
+  P = opened .plan
+
+  abbrev own : List ℕ
+  own = take (ownMasks P) masks
+
+  pub facts : PlanFacts P
+  facts = plan-facts P (decode-sound bytes P (opened .decodes) .rules)
+
+  pub own-length : length own ≡ ownMasks P
+  own-length = length-take-le (ownMasks P) masks (opened .own-masks)
+
+  pub same-plan : (Q : Plan) → decode bytes ≡ sound Q → P ≡ Q
+  same-plan Q d = one-plan bytes P Q (decode-sound bytes P (opened .decodes)) (decode-sound bytes Q d)
+
+  pub ports-fit : ports ≤ 64
+  ports-fit = omega (arith, opened .ports-are, facts .ports64)
+
+  pub sets-fit : sets ≤ 16
+  sets-fit = omega (arith, opened .sets-are, facts .sets16)
+
+  pub masks-long : maskCount sets ≤ length masks
+  unfolding ownMasks
+  masks-long = omega (arith, opened .sets-are, opened .own-masks)
+
+  pub own-is : take (maskCount sets) masks ≡ own
+  unfolding ownMasks
+  own-is = ap (λ (j : ℕ). take j masks) (opened .sets-are)
+
+  pub move-ready : MoveReady ports sets masks
+  move-ready = record { ports64 = ports-fit; sets16 = sets-fit; own-masks = masks-long }
+
+  pub number-is : (m : Move) (n : ℕ) → MoveNumber ports sets m masks n → n ≡ refusal (moveGrounds P (inMasks own) m)
+  unfolding MoveNumber
+  number-is m n number = number P (sym (opened .ports-are)) (sym (opened .sets-are)) ∙ ap (λ (xs : List ℕ). refusal (moveGrounds P (inMasks xs) m)) own-is
+
+-- a legal move over open tables
+module _ {ports sets : ℕ} {bytes firsts ends uses masks cells : List ℕ} {m : Move} (move : LegalMove ports sets bytes firsts ends uses masks cells m) where
+  abbrev opened : OpenPlan ports sets bytes masks (length cells) firsts ends uses
+  opened = move .tables-open .opened
+
+  abbrev Q : Plan
+  Q = opened .plan
+
+  abbrev mine : List ℕ
+  mine = take (ownMasks Q) masks
+
+  is-known : known Q m ≡ true
+  unfolding legal
+  is-known = and-left (known Q m) _ (move .is-legal)
+
+  abbrev fields : Fields (Q .ports) (Q .sets) m
+  fields = known-fields Q m is-known
+
+  -- the masks that the move changes
+  pub legal-over : (u n : ℕ) → u ≡ ports → n ≡ sets → (xs : List ℕ) → xs ≡ take (maskCount sets) masks → LegalOver u n m xs
+  unfolding legal
+  legal-over u n eu en xs h =
+      let l : length xs ≡ sets = ap length h ∙ length-take-le sets masks (masks-long opened) in
+      record {
+        known-over = record {
+          fields = rw (eu ∙ opened .ports-are, en ∙ opened .sets-are) fields;
+          ports-high = omega (arith, eu, ports-fit opened);
+          masks-enough = omega (arith, en, l);
+        };
+        fitting = ap (λ (ys : List ℕ). fits (inMasks ys) m) (take-all n xs (omega (arith, en, l)) ∙ h ∙ own-is opened) ∙ and-right (known Q m) _ (move .is-legal);
+      }
+
+  -- its sets, as the words of a change take them
+  pub change-ready : (m .s < 16) × (m .t < 16)
+  unfolding tEnd
+  change-ready = (omega (arith, fields .s-below, facts opened .sets16), below (eqb (m .kind) 3) (fields .t-below))
+    where
+      below : (b : Bool) → m .t < cond b (Q .sets) 1 → m .t < 16
+      below true h = omega (arith, facts opened .sets16)
+      below false h = omega arith
+
+  -- the masks after the move, as the walk is lent them
+  masks-ready : (after : List ℕ) → after ≡ moveMasks Q m mine → MasksSettled ports sets after
+  unfolding ownMasks
+  masks-ready after h =
+      let l : length after ≡ Q .sets = ap length h ∙ move-length Q m mine ∙ own-length opened in
+      let w : allWithin (Q .ports) after ≡ true =
+      ap (allWithin (Q .ports)) h ∙ move-within Q m mine (move .is-legal) (omega (arith, own-length opened)) (opened .within) in
+      record {
+        ports1 = omega (arith, opened .ports-are, facts opened .ports1);
+        ports64 = ports-fit opened;
+        sets16 = sets-fit opened;
+        masks-long = omega (arith, opened .sets-are, l);
+        within = λ S q. rw (opened .ports-are) (within-at (Q .ports) after w S (omega (arith, opened .sets-are, l)));
+      }
+
+  -- what the code tells of the move's change
+  pub told : (c : Changed) → Tells m c → Describes ports (pairsChange (movePairs Q (inMasks mine) m)) c
+  unfolding Tells
+  told c tells =
+      subst (λ (j : ℕ). Describes j (pairsChange (movePairs Q (inMasks mine) m)) c) (sym (opened .ports-are))
+      (tells Q (inMasks mine) (facts opened .sets16) is-known)
+
+  -- the masks that the code makes are those after the move
+  pub masks-made : (xs after : List ℕ) → xs ≡ take (maskCount sets) masks → after ≡ namedMasks m xs → after ≡ moveMasks Q m mine
+  unfolding moveMasks
+  masks-made xs after e h = h ∙ ap (namedMasks m) (e ∙ own-is opened)
+
+  module _ (c : Changed) (tells : Tells m c) (after : List ℕ) (h : after ≡ moveMasks Q m mine) where
+    pub root-ready : RootReady ports sets c bytes firsts ends uses after cells
+    root-ready = record {
+      plan = Q;
+      decodes = opened .decodes;
+      ports-are = opened .ports-are;
+      sets-are = opened .sets-are;
+      indexed = opened .indexed;
+      long = move .tables-open .long;
+      change = pairsChange (movePairs Q (inMasks mine) m);
+      says = told c tells;
+      masks-settled = masks-ready after h;
+      cells-fit = move .tables-open .cells-fit;
+      own-cells = opened .own-cells;
+    }
+
+    -- the walk's three numbers are those of the move
+    pub numbers-here : (r : After) → RootGives ports c bytes after cells r → NumbersAre Q mine (take (ownCells Q) cells) m r
+    unfolding RootGives rootNow rootAfter cellsAfter
+    numbers-here r gives =
+        let g = gives Q (pairsChange (movePairs Q (inMasks mine) m)) (opened .decodes) (told c tells) in
+        record {
+          before-is = g .old-is;
+          after-is = g .new-is ∙ ap (λ (ms : List ℕ). getD (newCells Q (spelled Q ms) (pairsChange (movePairs Q (inMasks mine) m)) (take (ownCells Q) cells)) 0 0) h;
+          changed-is = g .changed-is
+              ∙ ap (λ (ms : List ℕ). differing (take (ownCells Q) cells) (newCells Q (spelled Q ms) (pairsChange (movePairs Q (inMasks mine) m)) (take (ownCells Q) cells))) h;
+        }
+
+    pub numbers-are : (r : After) → RootGives ports c bytes after cells r → GivesNumbers bytes masks cells m r
+    unfolding GivesNumbers
+    numbers-are r gives = λ R d.
+        subst (λ (X : Plan). NumbersAre X (take (ownMasks X) masks) (take (ownCells X) cells) m r) (same-plan opened R d) (numbers-here r gives)
+
+-- the three numbers as the answer of a move
+pub answer-is : (P : Plan) (own before : List ℕ) (m : Move) (r : After) → NumbersAre P own before m r
+    → Accepted (r .old) (r .value) (r .changed) ≡ moveAnswer P m own before
+unfolding moveAnswer rootNow rootAfter
+answer-is P own before m r n = λ i. Accepted (n .before-is i) (n .after-is i) (n .changed-is i)
