@@ -7,7 +7,7 @@ use lib.Dec.{leb, ltb}
 use lib.ListN.{length, take}
 use borrow.Author.Tests.{lt-ltb, le-ltb}
 use Rattle.logic.specs.Moves.{Ground, refusal}
-use Rattle.text_tree.specs.Tree.{Tree, tooDeep}
+use Rattle.text_tree.specs.Tree.{Tree, Declared, lettersOf, tooDeep}
 use Rattle.text_tokens.specs.Tokens.{knownBytes}
 use Rattle.text_grammar.specs.declared.Syntax.{Syntax}
 use Rattle.text_grammar.specs.Parser.{Result, failed, read, parsed}
@@ -53,7 +53,7 @@ module _ (u : ℕ) (s B : List ℕ) where
         unfolding syntaxGrounds refusal
         read-3 e = refused-by 2 (opened ∙ ap (λ (r : Result). refusal (syntaxGrounds u (length B) r)) e)
 
-        module _ (sets : List ℕ) (a : Tree) (e : parsed s ≡ read sets a) where
+        module _ (sets : List Declared) (a : Tree) (e : parsed s ≡ read sets a) where
           in-grammar : refusal grounds
               ≡ cond (tooDeep 0 a) 4 (refusal (coreGrounds u sets a ++ ((12, ltb (length B) (tableLength (planOf u sets a))) ∷ [])))
           unfolding syntaxGrounds refusal
@@ -78,7 +78,7 @@ module _ (s t letters : List ℕ) (r : Syntax) (W : Whole s t letters r) (room :
   kept-text = record {
     stored = W .stored;
     lettered = parsed-lettered s (W .sets) (W .tree) (W .is);
-    letters-are = W .kept ∙ ap (λ (m : ℕ). take m (W .sets)) room;
+    letters-are = W .kept ∙ ap (λ (m : ℕ). take m (lettersOf (W .sets))) room;
   }
 
   pub some-text : (u : ℕ) → 1 ≤ u → u ≤ 64 → SomeText u t (r .end) letters (r .sets)

@@ -10,7 +10,8 @@ use borrow.Author.Tests.{lt-ltb, le-ltb, ltb-false}
 use Rattle.logic.specs.Formula.{nodeCount}
 use Rattle.logic.specs.Cells.{cellCount, ownCells}
 use Rattle.logic.specs.Moves.{Ground, refusal}
-use Rattle.text_tree.specs.Tree.{Tree}
+use Rattle.text_tree.specs.Tree.{Tree, Declared, lettersOf}
+use Rattle.text_tree.proofs.Sets.{letters-take, sets-length}
 use Rattle.text_grammar.specs.Parser.{read}
 use Rattle.text_grounds.specs.declared.CoreAnswer.{CoreAnswer}
 use Rattle.text_core.specs.Names.{ground7}
@@ -32,27 +33,27 @@ unfolding coreOf nodeCount
 some-nodes sets a = omega arith
 
 -- the core's answer where it does not refuse
-record Passing (u : ℕ) (sets : List ℕ) (a : Tree) (c : CoreAnswer) : Type 0 where
+record Passing (u : ℕ) (sets : List Declared) (a : Tree) (c : CoreAnswer) : Type 0 where
   pub passing : CorePasses u sets a
   pub few : length sets ≤ 16
-  pub nodes-are : c .nodes ≡ nodeCount (coreOf sets a)
-  pub cells-are : c .cells ≡ cellCount u (coreOf sets a) 0
+  pub nodes-are : c .nodes ≡ nodeCount (coreOf (lettersOf sets) a)
+  pub cells-are : c .cells ≡ cellCount u (coreOf (lettersOf sets) a) 0
 
-passing-of : (u : ℕ) (sets : List ℕ) (a : Tree) (c : CoreAnswer) → Answered u sets a c → c .refused ≡ 0 → Passing u sets a c
+passing-of : (u : ℕ) (sets : List Declared) (a : Tree) (c : CoreAnswer) → Answered u sets a c → c .refused ≡ 0 → Passing u sets a c
 passing-of u sets a c A e =
     let z : coreRefusal u sets a ≡ 0 = sym (A .refused-is) ∙ e in
     let p = core-passes u sets a z in
     record {
       passing = p;
       few = few-sets sets a (p .names);
-      nodes-are = A .nodes-is ∙ ap (λ (x : ℕ). cond (eqb x 0) (nodeCount (coreOf sets a)) 0) z;
-      cells-are = A .cells-is ∙ ap (λ (x : ℕ). cond (eqb x 0) (cellCount u (coreOf sets a) 0) 0) z;
+      nodes-are = A .nodes-is ∙ ap (λ (x : ℕ). cond (eqb x 0) (nodeCount (coreOf (lettersOf sets) a)) 0) z;
+      cells-are = A .cells-is ∙ ap (λ (x : ℕ). cond (eqb x 0) (cellCount u (coreOf (lettersOf sets) a) 0) 0) z;
     }
 
 module _ (u : ℕ) (t : List ℕ) (e : ℕ) (letters : List ℕ) (n : ℕ) (S : List ℕ) (own : S ≡ take n letters) (c : CoreAnswer) (A : Answers t e S u c) where
-  answered : (sets : List ℕ) (a : Tree) → TextKept t e letters n sets a → Answered u (take 17 sets) a c
+  answered : (sets : List Declared) (a : Tree) → TextKept t e letters n sets a → Answered u (take 17 sets) a c
   unfolding Answers
-  answered sets a K = subst (λ (x : List ℕ). Answered u x a c) (own ∙ K .letters-are) (A a (K .stored) (K .lettered))
+  answered sets a K = A (take 17 sets) a (letters-take 17 sets ∙ sym (own ∙ K .letters-are)) (K .stored) (K .lettered)
 
   pub finish-refused : (B : List ℕ) → (c .refused ≡ 0 → ⊥) → Finishes u t e letters n B B (Refused (c .refused))
   unfolding Finishes
@@ -70,10 +71,11 @@ module _ (u : ℕ) (t : List ℕ) (e : ℕ) (letters : List ℕ) (n : ℕ) (S : 
           sym (ap (λ (x : ℕ). readOr x u (read sets a) B) (refusal-first (coreGrounds u sets a) rest g (sym first ∙ q)))
 
   module _ (z : c .refused ≡ 0) where
-    passing-all : (sets : List ℕ) (a : Tree) → TextKept t e letters n sets a → (take 17 sets ≡ sets) × Passing u sets a c
+    passing-all : (sets : List Declared) (a : Tree) → TextKept t e letters n sets a → (lettersOf sets ≡ S) × Passing u sets a c
     passing-all sets a K =
         let p = passing-of u (take 17 sets) a c (answered sets a K) z in
-        let w = whole-list sets (p .few) in (w, subst (λ (x : List ℕ). Passing u x a c) w p)
+        let w = whole-list sets (p .few) in
+        (ap lettersOf (sym w) ∙ letters-take 17 sets ∙ sym (own ∙ K .letters-are), subst (λ (x : List Declared). Passing u x a c) w p)
 
     module _ (B : List ℕ) (nodes : ℕ) (same : nodes ≡ c .nodes) where
       pub finish-short : length B < tableBytes (length S) nodes → Finishes u t e letters n B B (Refused 12)
@@ -81,23 +83,23 @@ module _ (u : ℕ) (t : List ℕ) (e : ℕ) (letters : List ℕ) (n : ℕ) (S : 
       finish-short h sets a K =
           let w = passing-all sets a K in
           let P = w .1 in
-          let count : nodes ≡ nodeCount (coreOf sets a) = same ∙ P .nodes-are in
-          let list : S ≡ sets = own ∙ K .letters-are ∙ w .0 in
-          let short : ltb (length B) (tableBytes (length sets) (nodeCount (coreOf sets a))) ≡ true = lt-ltb (length B) _ (rw (list, count) at h) in
+          let count : nodes ≡ nodeCount (coreOf (lettersOf sets) a) = same ∙ P .nodes-are in
+          let list : length S ≡ length sets = sym (sets-length sets S (w .0)) in
+          let short : ltb (length B) (tableBytes (length sets) (nodeCount (coreOf (lettersOf sets) a))) ≡ true = lt-ltb (length B) _ (rw (list, count) at h) in
           sym (ap (λ (x : ℕ). readOr x u (read sets a) B)
           (core-then u sets a _ (P .passing) ∙ ap (λ (x : Bool). cond x 12 0) short))
 
-      pub finish-few : (sets : List ℕ) (a : Tree) → TextKept t e letters n sets a → nodes ≤ 512
+      pub finish-few : (sets : List Declared) (a : Tree) → TextKept t e letters n sets a → nodes ≤ 512
       finish-few sets a K = let P = passing-all sets a K .1 in rw (same ∙ P .nodes-are) (ltb-false 512 _ (P .passing .few-nodes))
 
-      pub finish-ready : (sets : List ℕ) (a : Tree) → TextKept t e letters n sets a → tableBytes (length S) nodes ≤ length B → PlanReady S nodes B
+      pub finish-ready : (sets : List Declared) (a : Tree) → TextKept t e letters n sets a → tableBytes (length S) nodes ≤ length B → PlanReady S nodes B
       finish-ready sets a K h =
           let w = passing-all sets a K in
           let P = w .1 in
-          let count : nodes ≡ nodeCount (coreOf sets a) = same ∙ P .nodes-are in
+          let count : nodes ≡ nodeCount (coreOf (lettersOf sets) a) = same ∙ P .nodes-are in
           record {
-            few-sets = rw (own, K .letters-are, w .0) (P .few);
-            some = rw count (some-nodes sets a);
+            few-sets = rw (← sets-length sets S (w .0)) (P .few);
+            some = rw count (some-nodes (lettersOf sets) a);
             few = finish-few sets a K;
             room = h;
           }
@@ -108,11 +110,11 @@ module _ (u : ℕ) (t : List ℕ) (e : ℕ) (letters : List ℕ) (n : ℕ) (S : 
       finish-accepted O h W sets a K =
           let w = passing-all sets a K in
           let P = w .1 in
-          let count : nodes ≡ nodeCount (coreOf sets a) = same ∙ P .nodes-are in
-          let list : S ≡ sets = own ∙ K .letters-are ∙ w .0 in
-          let fits : ltb (length B) (tableBytes (length sets) (nodeCount (coreOf sets a))) ≡ false = le-ltb (length B) _ (rw (list, count) at h) in
-          let bytes : O ≡ encoding (planOf u sets a) ++ drop (tableBytes (length sets) (nodeCount (coreOf sets a))) B =
-          rw (list, count) at (W a record { stored = K .stored; lettered = K .lettered; shallow = P .passing .quantifiers } (rw list count)) in
+          let count : nodes ≡ nodeCount (coreOf (lettersOf sets) a) = same ∙ P .nodes-are in
+          let list : length S ≡ length sets = sym (sets-length sets S (w .0)) in
+          let fits : ltb (length B) (tableBytes (length sets) (nodeCount (coreOf (lettersOf sets) a))) ≡ false = le-ltb (length B) _ (rw (list, count) at h) in
+          let bytes : O ≡ encoding (planOf u sets a) ++ drop (tableBytes (length sets) (nodeCount (coreOf (lettersOf sets) a))) B =
+          rw count at (W sets a (w .0) record { stored = K .stored; lettered = K .lettered; shallow = P .passing .quantifiers } (rw (← w .0) count)) in
           (λ i. (Accepted (P .nodes-are i) (P .cells-are i), bytes i))
           ∙ sym (ap (λ (x : ℕ). readOr x u (read sets a) B) (core-then u sets a _ (P .passing) ∙ ap (λ (x : Bool). cond x 12 0) fits))
 

@@ -13,7 +13,7 @@ use Rattle.logic.proofs.Lists.{and-true, or-left, or-right}
 use Rattle.logic.specs.Formula.{nodeCount}
 use Rattle.logic.specs.Cells.{cellCount}
 use Rattle.logic.specs.Moves.{Ground, refusal}
-use Rattle.text_tree.specs.Tree.{Tree}
+use Rattle.text_tree.specs.Tree.{Tree, Declared, lettersOf}
 use Rattle.text_core.specs.Names.{declaredTwice, misdeclared, ground5, ground6, ground7}
 use Rattle.text_core.specs.Core.{coreOf}
 use Rattle.text_core.specs.Grounds.{coreGrounds}
@@ -47,34 +47,34 @@ passes true n m e = absurd (omega arith)
 passes false n m e = (refl, e)
 
 -- none of grounds 5 to 9 applies
-pub record CorePasses (u : ℕ) (sets : List ℕ) (a : Tree) : Type 0 where
+pub record CorePasses (u : ℕ) (sets : List Declared) (a : Tree) : Type 0 where
   pub names : ground5 sets a ≡ false
   pub constants : ground6 a ≡ false
   pub quantifiers : ground7 a ≡ false
-  pub few-nodes : ltb 512 (nodeCount (coreOf sets a)) ≡ false
-  pub few-cells : ltb 1048576 (cellCount u (coreOf sets a) 0) ≡ false
+  pub few-nodes : ltb 512 (nodeCount (coreOf (lettersOf sets) a)) ≡ false
+  pub few-cells : ltb 1048576 (cellCount u (coreOf (lettersOf sets) a) 0) ≡ false
 
-module _ (u : ℕ) (sets : List ℕ) (a : Tree) where
+module _ (u : ℕ) (sets : List Declared) (a : Tree) where
   pub core-passes : coreRefusal u sets a ≡ 0 → CorePasses u sets a
   unfolding coreRefusal coreGrounds refusal
   core-passes e =
       let p5 = passes (ground5 sets a) 4 _ e in
       let p6 = passes (ground6 a) 5 _ (p5 .1) in
       let p7 = passes (ground7 a) 6 _ (p6 .1) in
-      let p8 = passes (ltb 512 (nodeCount (coreOf sets a))) 7 _ (p7 .1) in
-      let p9 = passes (ltb 1048576 (cellCount u (coreOf sets a) 0)) 8 _ (p8 .1) in
+      let p8 = passes (ltb 512 (nodeCount (coreOf (lettersOf sets) a))) 7 _ (p7 .1) in
+      let p9 = passes (ltb 1048576 (cellCount u (coreOf (lettersOf sets) a) 0)) 8 _ (p8 .1) in
       record { names = p5 .0; constants = p6 .0; quantifiers = p7 .0; few-nodes = p8 .0; few-cells = p9 .0 }
 
   pub core-then : (ys : List Ground) → CorePasses u sets a → refusal (coreGrounds u sets a ++ ys) ≡ refusal ys
   unfolding coreGrounds refusal
   core-then ys p = rw (p .names, p .constants, p .quantifiers, p .few-nodes, p .few-cells)
 
-pub few-sets : (sets : List ℕ) (a : Tree) → ground5 sets a ≡ false → length sets ≤ 16
+pub few-sets : (sets : List Declared) (a : Tree) → ground5 sets a ≡ false → length sets ≤ 16
 unfolding ground5 misdeclared
-few-sets sets a e = ltb-false 16 (length sets) (or-right (declaredTwice sets) _ (or-left (misdeclared sets) _ e))
+few-sets sets a e = ltb-false 16 (length sets) (or-right (declaredTwice (lettersOf sets)) _ (or-left (misdeclared sets) _ e))
 
 -- a list of which the first 17 are 16 has no more
-pub whole-list : (sets : List ℕ) → length (take 17 sets) ≤ 16 → take 17 sets ≡ sets
+pub whole-list : (sets : List Declared) → length (take 17 sets) ≤ 16 → take 17 sets ≡ sets
 whole-list sets h = go (decLe 17 (length sets))
   where
     go : Dec (17 ≤ length sets) → take 17 sets ≡ sets

@@ -11,7 +11,7 @@ use Rattle.logic.specs.Formula.{Forest, none, tree, kindNumber, nodeCount}
 use Rattle.logic.specs.Cells.{cellCount, ownCells}
 use Rattle.logic.specs.Moves.{refusal}
 use Rattle.logic.proofs.Lists.{and-left, and-right, and-true}
-use Rattle.text_tree.specs.Tree.{Tree, tooDeep}
+use Rattle.text_tree.specs.Tree.{Tree, lettersOf, tooDeep}
 use Rattle.text_tokens.specs.Tokens.{knownBytes}
 use Rattle.text_grammar.specs.Parser.{Result, failed, read, parsed}
 use Rattle.text_grammar.proofs.Theorems.{parsed-sound, parsed-complete}
@@ -62,8 +62,8 @@ module _ (u : ℕ) (s B : List ℕ) where
       let p5 = passes (ground5 sets a) 4 _ (p4 .1) in
       let p6 = passes (ground6 a) 5 _ (p5 .1) in
       let p7 = passes (ground7 a) 6 _ (p6 .1) in
-      let p8 = passes (ltb 512 (nodeCount (coreOf sets a))) 7 _ (p7 .1) in
-      let p9 = passes (ltb 1048576 (cellCount u (coreOf sets a) 0)) 8 _ (p8 .1) in
+      let p8 = passes (ltb 512 (nodeCount (coreOf (lettersOf sets) a))) 7 _ (p7 .1) in
+      let p9 = passes (ltb 1048576 (cellCount u (coreOf (lettersOf sets) a) 0)) 8 _ (p8 .1) in
       let p12 = passes (ltb (length B) (tableLength P)) 11 _ (p9 .1) in
       record {
         ports1 = leb-true 1 u (and-left (leb 1 u) _ ports);
@@ -106,8 +106,8 @@ module _ (u : ℕ) (s B : List ℕ) where
       A .names,
       A .constants,
       A .quantifiers,
-      le-ltb 512 (nodeCount (coreOf (A .sets) (A .tree))) (A .few-nodes),
-      le-ltb 1048576 (cellCount u (coreOf (A .sets) (A .tree)) 0) (A .few-cells),
+      le-ltb 512 (nodeCount (coreOf (lettersOf (A .sets)) (A .tree))) (A .few-nodes),
+      le-ltb 1048576 (cellCount u (coreOf (lettersOf (A .sets)) (A .tree)) 0) (A .few-cells),
       le-ltb (length B) (tableLength (planOf u (A .sets) (A .tree))) (A .fits),
     )
 
@@ -125,7 +125,7 @@ module _ (u : ℕ) (s B : List ℕ) where
     pub admitted-rules : planRule (admittedPlan A) ≡ true
     unfolding planRule admittedPlan planOf mostCells
     admitted-rules =
-        let two : 2 ≤ nodeCount (coreOf (A .sets) (A .tree)) = two-nodes (length (A .sets)) (A .sets) (A .tree) (core-rules (A .sets) (A .tree) (A .names) (A .constants) (A .quantifiers)) in
+        let two : 2 ≤ nodeCount (coreOf (lettersOf (A .sets)) (A .tree)) = two-nodes (length (A .sets)) (lettersOf (A .sets)) (A .tree) (core-rules (A .sets) (A .tree) (A .names) (A .constants) (A .quantifiers)) in
         and-true _ _ (and-true _ _ (and-true _ _ (and-true _ _ (and-true _ _ (and-true _ _ (and-true _ _
         (le-leb 1 u (A .ports1)) (le-leb u 64 (A .ports64))) (le-leb 1 _ (parsed-sets s (A .sets) (A .tree) admitted-parsed)))
         (le-leb _ 16 (few-sets (A .sets) (A .tree) (A .names)))) (le-leb 2 _ two)) (le-leb _ 512 (A .few-nodes)))

@@ -8,7 +8,7 @@ use lib.ListN.{length, take}
 use Rattle.logic.specs.Formula.{Plan, nodeCount}
 use Rattle.logic.specs.Configuration.{inMasks, configured}
 use Rattle.logic.specs.Cells.{ownCells}
-use Rattle.text_tree.specs.Tree.{Tree, tooDeep}
+use Rattle.text_tree.specs.Tree.{Tree, Declared, lettersOf, tooDeep}
 use Rattle.text_tokens.specs.Tokens.{knownBytes}
 use Rattle.text_grammar.specs.Grammar.{Text, symbols}
 use Rattle.text_core.specs.Names.{ground5, ground6, ground7}
@@ -25,7 +25,7 @@ pub record Admitted (u : ℕ) (s : List ℕ) (room : ℕ) : Type 0 where
   pub short : length s ≤ 4096
   pub known : knownBytes s ≡ true
   -- 3
-  pub sets : List ℕ
+  pub sets : List Declared
   pub tree : Tree
   pub derived : Text (symbols s) sets tree
   -- 4
@@ -46,7 +46,7 @@ admittedPlan {u} A = planOf u (A .sets) (A .tree)
 
 -- The text is true over u ports under the masks of its sets: the truth of its own tree, arrows and negations included.
 pub record TextTrue (u : ℕ) (masks s : List ℕ) : Type 0 where
-  pub sets : List ℕ
+  pub sets : List Declared
   pub tree : Tree
   pub derived : Text (symbols s) sets tree
-  pub holds : TreeTrue u (configured u (length sets) (inMasks (take (length sets) masks))) sets [] tree
+  pub holds : TreeTrue u (configured u (length sets) (inMasks (take (length sets) masks))) (lettersOf sets) [] tree

@@ -16,6 +16,7 @@ use Rattle.logic.specs.Cells.{ownCells}
 use Rattle.logic.specs.Moves.{refusal}
 use Rattle.logic.specs.Change.{someOf}
 use Rattle.logic.proofs.Theorems.{Nonempty}
+use Rattle.text_tree.specs.Tree.{lettersOf}
 use Rattle.text_grammar.proofs.Theorems.{unambiguous}
 use Rattle.text_core.specs.Core.{coreOf, planOf}
 use Rattle.text_core.specs.Meaning.{TreeTrue}
@@ -88,7 +89,7 @@ module _ (u : ℕ) (s before : List ℕ) (accepted : readNumber (answer u s befo
       )
     where
       one : (T : TextTrue u masks s) → (T .sets ≡ admitted .sets) × (T .tree ≡ admitted .tree)
-          → TreeTrue u (configured u (length (admitted .sets)) (inMasks (take (length (admitted .sets)) masks))) (admitted .sets) [] (admitted .tree)
+          → TreeTrue u (configured u (length (admitted .sets)) (inMasks (take (length (admitted .sets)) masks))) (lettersOf (admitted .sets)) [] (admitted .tree)
       one T e = rw (← e .0, ← e .1) (T .holds)
 
   nonempty : Nonempty (plan .formula)

@@ -11,7 +11,8 @@ use Rattle.logic.specs.Formula.{Literal, isin, notin, port, size, Node, root, a
 use Rattle.logic.specs.inner.Literals.{Every, OfLiteral, VariablesBelow, VariablesBound, ConstantLow, ConstantsLow}
 use Rattle.logic.specs.Change.{someOf}
 use Rattle.logic.proofs.Lists.{or-left, or-right, and-left, and-right, and-true}
-use Rattle.text_tree.specs.Tree.{Quantifier, forall, exists, Tree, leaf, neg, par, bind, join}
+use Rattle.text_tree.specs.Tree.{Quantifier, forall, exists, Tree, leaf, neg, par, bind, join, Declared, lettersOf}
+use Rattle.text_tree.proofs.Sets.{letters-length}
 use Rattle.text_core.specs.Names.{among, setNumber, variableNumber, misdeclared, misnamedLiteral, misnamed, ground5, highLiteral, ground6, fourth, ground7}
 use Rattle.text_core.specs.Core.{Above, alone, inside, jointNode, Part, joint, two, quantifierNode, memberAt, literalAt, place, coreOf}
 use Rattle.table_format.specs.Rules.{everyNode, treeCount, arityRule, mayNest, nestingRule, depthRule, literalRule, innerRule, nodeRule, formulaRule}
@@ -206,12 +207,17 @@ module _ (sets : List ℕ) where
       (λ i. place-fits vars i a low (or-left _ _ h) (or-left _ _ g) (or-left _ _ f))
       (λ i. place-fits vars i b low (or-right (misnamed sets vars a) _ h) (or-right (ground6 a) _ g) (or-right (fourth (length vars) a) _ f))
 
-  -- the rules of the plan's formula
-  pub core-rules : (a : Tree) → ground5 sets a ≡ false → ground6 a ≡ false → ground7 a ≡ false → formulaRule (length sets) (coreOf sets a) ≡ true
-  unfolding ground5 ground7 coreOf formulaRule kindNumber treeCount arityRule everyNode
-  core-rules a h g f =
-      let F = place-fits [] true a (omega arith) (or-right (misdeclared sets) _ h) g f in
+  named-rules : (a : Tree) → misnamed sets [] a ≡ false → ground6 a ≡ false → ground7 a ≡ false → formulaRule (length sets) (coreOf sets a) ≡ true
+  unfolding ground7 coreOf formulaRule kindNumber treeCount arityRule everyNode
+  named-rules a h g f =
+      let F = place-fits [] true a (omega arith) h g f in
       and4 _ _ _ _ refl refl (eq-eqb _ 1 (F .one none)) (F .every alone none refl)
+
+-- the rules of the plan's formula
+pub core-rules : (sets : List Declared) (a : Tree) → ground5 sets a ≡ false → ground6 a ≡ false → ground7 a ≡ false
+    → formulaRule (length sets) (coreOf (lettersOf sets) a) ≡ true
+unfolding ground5
+core-rules sets a h g f = rw (← letters-length sets) (named-rules (lettersOf sets) a (or-right (misdeclared sets) _ h) g f)
 
 -- and so what the laws of truth and penalty ask
 module _ (n : ℕ) where

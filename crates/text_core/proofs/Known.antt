@@ -7,7 +7,7 @@ use Prim.Native.Nat.{ℕ}
 use Rattle.logic.specs.Formula.{lt, le, eq, ne, ge, gt, isin, notin, port, size, root, all, any, and, or, none, tree}
 use Rattle.logic.specs.Change.{someOf}
 use Rattle.logic.specs.Known.{literal, over, plan, planA, planC}
-use Rattle.text_tree.specs.Tree.{forall, exists, conj, disj, imp, rev, iff, Tree, leaf, neg, par, bind, join}
+use Rattle.text_tree.specs.Tree.{forall, exists, conj, disj, imp, rev, iff, Tree, leaf, neg, par, bind, join, Declared, lettersOf}
 use Rattle.text_core.specs.Names.{among, setNumber, variableNumber, declaredTwice, misdeclared, misnamedLiteral, misnamed, ground5, highLiteral, ground6, fourth, ground7}
 use Rattle.text_core.specs.Core.{jointNode, joint, two, quantifierNode, opposite, relationAt, memberAt, literalAt, joinWith, place, coreOf}
 
@@ -26,6 +26,10 @@ x = 120
 
 abbrev y : ℕ
 y = 121
+
+-- a set by its letter
+abbrev named : ℕ → Declared
+named v = record { letter = v }
 
 abbrev xS : Tree
 xS = leaf (isin x S)
@@ -61,14 +65,14 @@ known-rev = refl
 
 -- `[S] @x x:S & x:S`, `[S] @x @x x:S`, `[S] @x x:T` and `[STS] @x x:S` are 5, `[S] @x x:S & @x x:S` is sound; a seventeenth
 -- letter is 5
-known-5 : (ground5 (S ∷ []) (join conj (bind forall x xS) xS) ≡ true)
-    × (ground5 (S ∷ []) (bind forall x (bind forall x xS)) ≡ true)
-    × (ground5 (S ∷ []) (join conj (bind forall x xS) (bind forall x xS)) ≡ false)
-    × (ground5 (S ∷ []) (bind forall x xT) ≡ true)
-    × (ground5 (S ∷ T ∷ S ∷ []) (bind forall x xS) ≡ true)
-    × (misdeclared (65 ∷ 66 ∷ 67 ∷ 68 ∷ 69 ∷ 70 ∷ 71 ∷ 72 ∷ 73 ∷ 74 ∷ 75 ∷ 76 ∷ 77 ∷ 78 ∷ 79 ∷ 80 ∷ []) ≡ false)
-    × (misdeclared (65 ∷ 66 ∷ 67 ∷ 68 ∷ 69 ∷ 70 ∷ 71 ∷ 72 ∷ 73 ∷ 74 ∷ 75 ∷ 76 ∷ 77 ∷ 78 ∷ 79 ∷ 80 ∷ 81 ∷ []) ≡ true)
-unfolding ground5 misdeclared declaredTwice misnamed misnamedLiteral among someOf
+known-5 : (ground5 (named S ∷ []) (join conj (bind forall x xS) xS) ≡ true)
+    × (ground5 (named S ∷ []) (bind forall x (bind forall x xS)) ≡ true)
+    × (ground5 (named S ∷ []) (join conj (bind forall x xS) (bind forall x xS)) ≡ false)
+    × (ground5 (named S ∷ []) (bind forall x xT) ≡ true)
+    × (ground5 (named S ∷ named T ∷ named S ∷ []) (bind forall x xS) ≡ true)
+    × (misdeclared (named 65 ∷ named 66 ∷ named 67 ∷ named 68 ∷ named 69 ∷ named 70 ∷ named 71 ∷ named 72 ∷ named 73 ∷ named 74 ∷ named 75 ∷ named 76 ∷ named 77 ∷ named 78 ∷ named 79 ∷ named 80 ∷ []) ≡ false)
+    × (misdeclared (named 65 ∷ named 66 ∷ named 67 ∷ named 68 ∷ named 69 ∷ named 70 ∷ named 71 ∷ named 72 ∷ named 73 ∷ named 74 ∷ named 75 ∷ named 76 ∷ named 77 ∷ named 78 ∷ named 79 ∷ named 80 ∷ named 81 ∷ []) ≡ true)
+unfolding ground5 lettersOf misdeclared declaredTwice misnamed misnamedLiteral among someOf
 known-5 = (refl, refl, refl, refl, refl, refl, refl)
 
 -- 64 is read and 65 is 6; three quantifiers are read and four are 7

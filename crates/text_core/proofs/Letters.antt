@@ -9,13 +9,13 @@ use lib.Dec.{eqb, leb, ltb}
 use lib.ListN.{length, getD}
 use borrow.Author.Tests.{eqb-true}
 use Rattle.logic.specs.Formula.{Literal, isin, notin, port, size}
-use Rattle.text_tree.specs.Tree.{Quantifier, Join, Tree, leaf, neg, par, bind, join}
+use Rattle.text_tree.specs.Tree.{Quantifier, Join, Tree, leaf, neg, par, bind, join, Declared}
 use Rattle.text_tokens.specs.declared.Token.{Token}
 use Rattle.text_tokens.specs.declared.Sign.{Sign}
 use Rattle.text_tokens.specs.Tokens.{pick, isVariable, isSet, isDigit, sign, oneOrTwo, singleKind, signOf, runAt, runToken, hereAt, afterBlanks, tokenAt}
 use Rattle.text_tokens.proofs.Laws.{between-range}
 use Rattle.text_grammar.specs.Grammar.{Level, unit, conjunction, disjunction, formula, kindAt, valueAt, nextAt}
-use Rattle.text_grammar.specs.Parser.{Part, missing, found, test, follow, nothing, mapPart, quantifierSign, relationSign, joinSign, joined, closed, bound, operand, variableLiteral, compared, sizeLiteral, parseAt, Result, failed, read, ended, declared, lettersAt, afterLetters, parsed}
+use Rattle.text_grammar.specs.Parser.{Part, missing, found, test, follow, nothing, mapPart, quantifierSign, relationSign, joinSign, joined, closed, bound, operand, variableLiteral, compared, sizeLiteral, parseAt, Result, failed, read, ended, declared, setsAt, afterSets, parsed}
 use Rattle.text_core.specs.Names.{Variable, SetLetter, LetteredLiteral, Lettered}
 
 pub when {ℓ} : {A : Type 0} (P : A → Type ℓ) (b : Bool) {x y : A} → (b ≡ true → P x) → (b ≡ false → P y) → P (pick b x y)
@@ -187,11 +187,11 @@ good-choice : (b : Bool) (F G : ℕ → Result) (i : ℕ) → (b ≡ true → Go
 good-choice true F G i f g = f refl
 good-choice false F G i f g = g refl
 
-good-ended : (s sets : List ℕ) (P : Part) → 1 ≤ length sets → Good P → GoodText (ended s sets P)
+good-ended : (s : List ℕ) (sets : List Declared) (P : Part) → 1 ≤ length sets → Good P → GoodText (ended s sets P)
 good-ended s sets missing l g = tt
 good-ended s sets (found a i) l g = when GoodText (eqb (kindAt s i) 0) (λ _. (g, l)) (λ _. tt)
 
-good-declared : (s sets : List ℕ) (i : ℕ) → GoodText (declared s sets i)
+good-declared : (s : List ℕ) (sets : List Declared) (i : ℕ) → GoodText (declared s sets i)
 good-declared s [] i = tt
 good-declared s (x ∷ xs) i =
     good-choice (eqb (kindAt s i) 2) (λ j. ended s (x ∷ xs) (parseAt (4 * length s + 4) formula s j)) (λ j. failed) (nextAt s i)
@@ -200,12 +200,12 @@ good-declared s (x ∷ xs) i =
 good-parsed : (s : List ℕ) → GoodText (parsed s)
 unfolding parsed
 good-parsed s =
-    good-choice (eqb (kindAt s 0) 1) (λ i. declared s (lettersAt (length s) s i) (afterLetters (length s) s i)) (λ i. failed) (nextAt s 0)
-    (λ _. good-declared s (lettersAt (length s) s (nextAt s 0)) (afterLetters (length s) s (nextAt s 0))) (λ _. tt)
+    good-choice (eqb (kindAt s 0) 1) (λ i. declared s (setsAt (length s) s i) (afterSets (length s) s i)) (λ i. failed) (nextAt s 0)
+    (λ _. good-declared s (setsAt (length s) s (nextAt s 0)) (afterSets (length s) s (nextAt s 0))) (λ _. tt)
 
 -- The trees that the parser finds are lettered, so that the table that keeps them tells them.
-pub parsed-lettered : (s sets : List ℕ) (a : Tree) → parsed s ≡ read sets a → Lettered a
+pub parsed-lettered : (s : List ℕ) (sets : List Declared) (a : Tree) → parsed s ≡ read sets a → Lettered a
 parsed-lettered s sets a e = (rw e at (good-parsed s)) .0
 
-pub parsed-sets : (s sets : List ℕ) (a : Tree) → parsed s ≡ read sets a → 1 ≤ length sets
+pub parsed-sets : (s : List ℕ) (sets : List Declared) (a : Tree) → parsed s ≡ read sets a → 1 ≤ length sets
 parsed-sets s sets a e = (rw e at (good-parsed s)) .1

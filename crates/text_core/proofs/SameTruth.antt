@@ -14,7 +14,7 @@ use Rattle.logic.specs.Configuration.{Configuration}
 use Rattle.logic.specs.Change.{someOf}
 use Rattle.logic.specs.Truth.{Tuple, portOf, Related, LiteralTrue, Asked, every, some, first, NodeTrue, ForestTrue, PlanTrue}
 use Rattle.logic.proofs.Lists.{or-left, or-right}
-use Rattle.text_tree.specs.Tree.{Quantifier, forall, exists, Tree, leaf, neg, par, bind, join}
+use Rattle.text_tree.specs.Tree.{Quantifier, forall, exists, Tree, leaf, neg, par, bind, join, Declared, lettersOf}
 use Rattle.text_core.specs.Names.{among, setNumber, variableNumber, misnamedLiteral, misdeclared, misnamed, ground5}
 use Rattle.text_core.specs.Meaning.{Binding, valueOf, LeafTrue, BindTrue, TreeTrue}
 use Rattle.text_core.specs.Core.{alone, inside, jointNode, Part, joint, two, quantifierNode, opposite, relationAt, memberAt, literalAt, place, coreOf, planOf}
@@ -198,6 +198,6 @@ module _ (u : ℕ) (k : Configuration) where
     core-true a h = place-means [] true a h .lone first
 
 -- "its stored core formula is true under the same configurations as the text": where ground 5 does not apply
-pub plan-true : (u : ℕ) (k : Configuration) (sets : List ℕ) (a : Tree) → ground5 sets a ≡ false → PlanTrue (planOf u sets a) k ↔ TreeTrue u k sets [] a
+pub plan-true : (u : ℕ) (k : Configuration) (sets : List Declared) (a : Tree) → ground5 sets a ≡ false → PlanTrue (planOf u sets a) k ↔ TreeTrue u k (lettersOf sets) [] a
 unfolding PlanTrue planOf ground5
-plan-true u k sets a h = core-true u k sets a (or-right (misdeclared sets) _ h)
+plan-true u k sets a h = core-true u k (lettersOf sets) a (or-right (misdeclared sets) _ h)

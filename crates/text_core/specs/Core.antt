@@ -4,7 +4,7 @@ use mathlib.Core.List.{List, [], _∷_}
 use Prim.Native.Nat.{ℕ}
 use lib.ListN.{length}
 use Rattle.logic.specs.Formula.{Relation, lt, le, eq, ne, ge, gt, Literal, isin, notin, port, size, Node, root, all, any, and, or, lit, Forest, none, tree, Plan}
-use Rattle.text_tree.specs.Tree.{Quantifier, forall, exists, Join, conj, disj, imp, rev, iff, Tree, leaf, neg, par, bind, join}
+use Rattle.text_tree.specs.Tree.{Quantifier, forall, exists, Join, conj, disj, imp, rev, iff, Tree, leaf, neg, par, bind, join, Declared, lettersOf}
 use Rattle.text_core.specs.Names.{setNumber, variableNumber}
 
 -- What stands directly above a part of the core: the root or a quantifier, which have one child, or a joint.
@@ -83,5 +83,5 @@ unfoldable pub coreOf : List ℕ → Tree → Forest
 coreOf sets a = tree root (place sets [] true a alone none) none
 
 -- The plan that a text says.
-unfoldable pub planOf : ℕ → List ℕ → Tree → Plan
-planOf u sets a = record { ports = u; sets = length sets; formula = coreOf sets a }
+unfoldable pub planOf : ℕ → List Declared → Tree → Plan
+planOf u sets a = record { ports = u; sets = length sets; formula = coreOf (lettersOf sets) a }

@@ -1,4 +1,5 @@
--- The names in a text and grounds 5 to 7: paper 01, sections Plan text and Grounds for refusal. Letters are bytes.
+-- The names in a text and grounds 5 to 7: paper 01, sections Plan text and Grounds for refusal. Letters are bytes; where a
+-- name is looked up, `sets` are the letters of the declaration.
 use mathlib.Core.Bool.{Bool, false, cond, not, _||_}
 use mathlib.Core.List.{List, [], _∷_}
 use Prim.Native.Nat.{ℕ, suc, _≤_}
@@ -6,7 +7,7 @@ use lib.Dec.{eqb, leb, ltb}
 use lib.ListN.{length}
 use Rattle.logic.specs.Formula.{Literal, isin, notin, port, size}
 use Rattle.logic.specs.Change.{someOf}
-use Rattle.text_tree.specs.Tree.{Tree, leaf, neg, par, bind, join}
+use Rattle.text_tree.specs.Tree.{Tree, leaf, neg, par, bind, join, Declared, lettersOf}
 
 unfoldable pub among : List ℕ → ℕ → Bool
 among letters x = someOf (eqb x) letters
@@ -22,13 +23,13 @@ unfoldable pub variableNumber : List ℕ → ℕ → ℕ
 variableNumber [] v = 0
 variableNumber (x ∷ xs) v = cond (eqb v x) (length xs) (variableNumber xs v)
 
--- Ground 5, of the declared list: "set [..] declared twice or a seventeenth".
+-- Ground 5, of the declaration: "set [..] declared twice or a seventeenth".
 unfoldable pub declaredTwice : List ℕ → Bool
 declaredTwice [] = false
 declaredTwice (x ∷ xs) = among xs x || declaredTwice xs
 
-unfoldable pub misdeclared : List ℕ → Bool
-misdeclared sets = declaredTwice sets || ltb 16 (length sets)
+unfoldable pub misdeclared : List Declared → Bool
+misdeclared sets = declaredTwice (lettersOf sets) || ltb 16 (length sets)
 
 -- Ground 5, of a literal: "set undeclared", "variable unbound".
 unfoldable pub misnamedLiteral : List ℕ → List ℕ → Literal → Bool
@@ -45,8 +46,8 @@ misnamed sets vars (par a) = misnamed sets vars a
 misnamed sets vars (bind q v a) = among vars v || misnamed sets (v ∷ vars) a
 misnamed sets vars (join j a b) = misnamed sets vars a || misnamed sets vars b
 
-unfoldable pub ground5 : List ℕ → Tree → Bool
-ground5 sets a = misdeclared sets || misnamed sets [] a
+unfoldable pub ground5 : List Declared → Tree → Bool
+ground5 sets a = misdeclared sets || misnamed (lettersOf sets) [] a
 
 -- Ground 6: "constant above 64".
 unfoldable pub highLiteral : Literal → Bool

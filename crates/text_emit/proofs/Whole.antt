@@ -8,6 +8,8 @@ use native.Mathlib.Omega.{arith}
 use lib.ListN.{length, take, drop, length-drop}
 use lib.Seq.{length-take-le, take-at, drop-at, drop-drop}
 use Rattle.logic.specs.Formula.{root, Forest, none, kindNumber, nodeCount}
+use Rattle.text_tree.specs.Tree.{Tree, Declared, lettersOf}
+use Rattle.text_tree.proofs.Sets.{sets-length}
 use Rattle.text_core.specs.Core.{alone, place, coreOf, planOf}
 use Rattle.table_format.specs.Bytes.{recordLength, recordsFrom, tableBytes, relationByte, aByte, bByte, records, header, encoding}
 use Rattle.table_format.proofs.Bytes.{length-header}
@@ -15,7 +17,7 @@ use Rattle.table_format.proofs.Encoding.{length-records}
 use Rattle.table_format.specs.declared.Fields.{Fields}
 use Rattle.text_emit.specs.inner.Fields.{letters, boundLetters}
 use Rattle.table_format.specs.inner.Written.{fieldBytes, Written, Records}
-use Rattle.text_emit.specs.inner.Emits.{aboveOf, EmitReady, Emits, PutsCore, PlanReady, WritesPlan}
+use Rattle.text_emit.specs.inner.Emits.{aboveOf, EmitReady, Emittable, Emits, PutsCore, PlanReady, WritesPlan}
 use Rattle.text_emit.proofs.Forests.{records-tree}
 use Rattle.text_emit.proofs.Emitting.{recorded, PlainFields, plain-shows}
 use Rattle.table_format.proofs.Writing.{written-start}
@@ -40,12 +42,13 @@ puts-core t e r sets B M O F E P W a S long =
     (recorded F root _ 65535 r M O (plain-shows 0 F root P refl (refl, refl, refl)) W)) long
 
 -- The header, and behind it a part lent for the records.
-pub writes-plan : (u nodes e from last : ℕ) (sets t B M Y : List ℕ) → Written 0 (header u (length sets) nodes) B M
+plan-bytes : (u nodes e from last : ℕ) (sets t B M Y : List ℕ) → Written 0 (header u (length sets) nodes) B M
     → from ≡ recordsFrom (length sets) → last ≡ tableBytes (length sets) nodes → last ≤ length B
-    → PutsCore t e sets (take (last - from) (drop from M)) Y
-    → WritesPlan u sets t e nodes B (take from M ++ (Y ++ drop (last - from) (drop from M)))
-unfolding WritesPlan PutsCore encoding planOf
-writes-plan u nodes e from last sets t B M Y H first is room C a S count =
+    → PutsCore t e sets (take (last - from) (drop from M)) Y → (a : Tree) → Emittable t e 0 a → nodes ≡ nodeCount (coreOf sets a)
+    → take from M ++ (Y ++ drop (last - from) (drop from M))
+    ≡ (header u (length sets) (nodeCount (coreOf sets a)) ++ records (coreOf sets a) 0 65535) ++ drop (tableBytes (length sets) nodes) B
+unfolding PutsCore
+plan-bytes u nodes e from last sets t B M Y H first is room C a S count =
     let h = header u (length sets) nodes in
     let lh : length h ≡ from = length-header u (length sets) nodes ∙ sym first in
     let rest : List ℕ = drop from B in
@@ -62,6 +65,14 @@ writes-plan u nodes e from last sets t B M Y H first is room C a S count =
     ap₂ (λ (x y : List ℕ). x ++ y) front (ap₂ (λ (x y : List ℕ). x ++ y) own tail)
     ∙ sym (append-assoc h (records (coreOf sets a) 0 65535) _)
     ∙ ap (λ (x : ℕ). (header u (length sets) x ++ records (coreOf sets a) 0 65535) ++ drop (tableBytes (length sets) nodes) B) count
+
+pub writes-plan : (u nodes e from last : ℕ) (letters t B M Y : List ℕ) → Written 0 (header u (length letters) nodes) B M
+    → from ≡ recordsFrom (length letters) → last ≡ tableBytes (length letters) nodes → last ≤ length B
+    → PutsCore t e letters (take (last - from) (drop from M)) Y
+    → WritesPlan u letters t e nodes B (take from M ++ (Y ++ drop (last - from) (drop from M)))
+unfolding WritesPlan encoding planOf
+writes-plan u nodes e from last letters t B M Y H first is room C sets a own S count =
+    rw (sets-length sets letters own, own) (plan-bytes u nodes e from last letters t B M Y H first is room C a S count)
 
 pub part-ready : (sets B M : List ℕ) (nodes from last : ℕ) → PlanReady sets nodes B → length M ≡ length B
     → from ≡ recordsFrom (length sets) → last ≡ tableBytes (length sets) nodes → EmitReady sets 1 (take (last - from) (drop from M))

@@ -9,12 +9,12 @@ use lib.Dec.{eqb}
 use lib.ListN.{length}
 use borrow.Author.Tests.{eq-eqb, ne-eqb}
 use Rattle.logic.specs.Formula.{Relation, Literal, isin, notin, port, size, relationNumber}
-use Rattle.text_tree.specs.Tree.{Quantifier, forall, exists, Join, conj, disj, Tree, leaf, neg, par, bind, join}
+use Rattle.text_tree.specs.Tree.{Quantifier, forall, exists, Join, conj, disj, Tree, leaf, neg, par, bind, join, Declared}
 use Rattle.text_grammar.specs.Grammar.{Symbol, Level, unit, conjunction, disjunction, formula, quantifierKind, relationKind, Arrow, to-right, to-left, both-ways, Derives, one-disjunction, arrow, one-conjunction, or, one-unit, and, negation, quantified, bracketed, member, no-member, ports, sizes, Sets, one, more, kindAt, nextAt, valueAt}
-use Rattle.text_grammar.specs.Parser.{Part, found, mapPart, joinSign, quantifierSign, closed, bound, operand, variableLiteral, compared, sizeLiteral, rank, parseAt, lettersAt, afterLetters}
+use Rattle.text_grammar.specs.Parser.{Part, found, mapPart, joinSign, quantifierSign, closed, bound, operand, variableLiteral, compared, sizeLiteral, rank, parseAt, setAt, setsAt, afterSets}
 use Rattle.text_grammar.proofs.Signs.{arrow-sign, quantifier-sign, relation-sign}
 use Rattle.text_grammar.proofs.Readers.{Joins, joins-conjunction, joins-disjunction, joins-formula, step-one, step-more, unit-bracket, unit-tilde, unit-quantifier, unit-variable, unit-hash}
-use Rattle.text_grammar.proofs.Declaration.{letters-step, after-step, letters-stop, after-stop, end-kind}
+use Rattle.text_grammar.proofs.Declaration.{sets-step, after-step, sets-stop, after-stop, end-kind}
 use Rattle.text_grammar.proofs.Positions.{Tokens, first, nothing-left, token-span, span, split}
 
 -- what must not follow, so that the parser stops there
@@ -167,12 +167,16 @@ complete (sizes x m t c r y n z e) s i j h T F =
     (at-once s i _ j (λ g. unit-hash g s i (u .kind ∙ y) ∙ size-found s (nextAt s i) (u′ .kind ∙ n) ∙ compared-found s (valueAt s (nextAt s i)) (nextAt s (nextAt s i)) r (u″ .kind ∙ z)
     ∙ operand-found s 24 (size r (valueAt s (nextAt s i))) c (nextAt s (nextAt s (nextAt s i))) j e (v″ .1) (u″ .rest)))
 
--- set letters
-pub record FoundSets (s : List ℕ) (i : ℕ) (sets : List ℕ) (j f : ℕ) : Type 0 where
-  pub letters : lettersAt f s i ≡ sets
-  pub after : afterLetters f s i ≡ j
+-- declared sets
+pub record FoundSets (s : List ℕ) (i : ℕ) (sets : List Declared) (j f : ℕ) : Type 0 where
+  pub are : setsAt f s i ≡ sets
+  pub after : afterSets f s i ≡ j
 
-pub sets-complete : {xs : List Symbol} {sets : List ℕ} → Sets xs sets → (s : List ℕ) (i j f : ℕ) → i ≤ length s → Tokens s i xs j → (kindAt s j ≡ 23 → ⊥) → length s ≤ f + i → FoundSets s i sets j f
+-- a set by its letter
+abbrev named : ℕ → Declared
+named v = record { letter = v }
+
+pub sets-complete : {xs : List Symbol} {sets : List Declared} → Sets xs sets → (s : List ℕ) (i j f : ℕ) → i ≤ length s → Tokens s i xs j → (kindAt s j ≡ 23 → ⊥) → length s ≤ f + i → FoundSets s i sets j f
 sets-complete (one t y) s i j zero h T z p = absurd (omega (arith, first s i t [] j T .token, end-kind s i h (omega arith)))
 sets-complete (more t {xs = xs} y d) s i j zero h T z p = absurd (omega (arith, first s i t xs j T .token, end-kind s i h (omega arith)))
 sets-complete (one t y) s i j (suc f) h T z p =
@@ -181,7 +185,7 @@ sets-complete (one t y) s i j (suc f) h T z p =
     let k = u .kind ∙ y in
     let q : kindAt s (nextAt s i) ≡ 23 → ⊥ = λ e. z (ap (kindAt s) (sym n) ∙ e) in
     record {
-      letters = letters-step s i f k ∙ ap (λ (l : List ℕ). valueAt s i ∷ l) (letters-stop s (nextAt s i) f q) ∙ ap (λ (v : ℕ). v ∷ []) (u .value);
+      are = sets-step s i f k ∙ ap (λ (l : List Declared). setAt s i ∷ l) (sets-stop s (nextAt s i) f q) ∙ ap (λ (v : ℕ). named v ∷ []) (u .value);
       after = after-step s i f k ∙ after-stop s (nextAt s i) f q ∙ n;
     }
 sets-complete (more t {xs = xs} {sets = sets} y d) s i j (suc f) h T z p =
@@ -190,6 +194,6 @@ sets-complete (more t {xs = xs} {sets = sets} y d) s i j (suc f) h T z p =
     let k = u .kind ∙ y in
     let w = sets-complete d s (nextAt s i) j f (v .1) (u .rest) z (omega (arith, v .0)) in
     record {
-      letters = letters-step s i f k ∙ ap (λ (l : List ℕ). valueAt s i ∷ l) (w .letters) ∙ ap (λ (v : ℕ). v ∷ sets) (u .value);
+      are = sets-step s i f k ∙ ap (λ (l : List Declared). setAt s i ∷ l) (w .are) ∙ ap (λ (v : ℕ). named v ∷ sets) (u .value);
       after = after-step s i f k ∙ w .after;
     }

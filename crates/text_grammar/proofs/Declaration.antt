@@ -1,4 +1,4 @@
--- The set letters of a declaration, and the reader's steps over a whole text. Assumes nothing.
+-- The sets of a declaration, and the reader's steps over a whole text. Assumes nothing.
 use mathlib.Core.Path.{_≡_, refl, sym, ap, ap₂, _∙_}
 use mathlib.Core.List.{List, [], _∷_, _++_, append-assoc, append-nil}
 use mathlib.Core.Bool.{Bool, true, false}
@@ -10,7 +10,8 @@ use lib.ListN.{length, take, set, length-set, length-take}
 use lib.Seq.{length-take-le, take-suc-set, take-all, take-at}
 use lib.Dec.{eqb, ltb}
 use borrow.Author.Tests.{eqb-true, eqb-false, ne-eqb, ltb-true, ltb-false}
-use Rattle.text_tree.specs.Tree.{Tree}
+use Rattle.text_tree.specs.Tree.{Tree, Declared, lettersOf}
+use Rattle.text_tree.proofs.Sets.{letters-length}
 use Rattle.text_tokens.specs.declared.Token.{Token}
 use Rattle.text_tokens.specs.Tokens.{tokenAt}
 use Rattle.text_tokens.proofs.Laws.{token-moves}
@@ -18,7 +19,7 @@ use Rattle.text_grammar.specs.declared.Reading.{Reading}
 use Rattle.text_grammar.specs.declared.Letters.{Letters}
 use Rattle.text_grammar.specs.declared.Syntax.{Syntax}
 use Rattle.text_grammar.specs.Grammar.{formula, kindAt, nextAt, valueAt}
-use Rattle.text_grammar.specs.Parser.{found, test, parseAt, lettersAt, afterLetters, failed, read, ended, declared, parsed}
+use Rattle.text_grammar.specs.Parser.{found, test, parseAt, setAt, setsAt, afterSets, failed, read, ended, declared, parsed}
 use Rattle.text_grammar.specs.inner.Contract.{ReaderRoom, Reads, Keeps, LettersRead, Lent, Parsed}
 use Rattle.text_grammar.proofs.Readers.{clash, kind-of, next-of, not-kind, moves}
 
@@ -27,31 +28,31 @@ pub end-kind : (s : List ℕ) (i : ℕ) → i ≤ length s → length s ≤ i �
 end-kind s i h e = let M = token-moves s i h in omega (arith, M .on, M .within)
 
 module _ (s : List ℕ) (i : ℕ) where
-  pub letters-step : (f : ℕ) → kindAt s i ≡ 23 → lettersAt (suc f) s i ≡ valueAt s i ∷ lettersAt f s (nextAt s i)
-  unfolding lettersAt
-  letters-step f e = rw e
+  pub sets-step : (f : ℕ) → kindAt s i ≡ 23 → setsAt (suc f) s i ≡ setAt s i ∷ setsAt f s (nextAt s i)
+  unfolding setsAt
+  sets-step f e = rw e
 
-  pub after-step : (f : ℕ) → kindAt s i ≡ 23 → afterLetters (suc f) s i ≡ afterLetters f s (nextAt s i)
-  unfolding afterLetters
+  pub after-step : (f : ℕ) → kindAt s i ≡ 23 → afterSets (suc f) s i ≡ afterSets f s (nextAt s i)
+  unfolding afterSets
   after-step f e = rw e
 
-  pub letters-stop : (f : ℕ) → (kindAt s i ≡ 23 → ⊥) → lettersAt f s i ≡ []
-  unfolding lettersAt
-  letters-stop zero z = refl
-  letters-stop (suc f) z = rw (ne-eqb _ _ z)
+  pub sets-stop : (f : ℕ) → (kindAt s i ≡ 23 → ⊥) → setsAt f s i ≡ []
+  unfolding setsAt
+  sets-stop zero z = refl
+  sets-stop (suc f) z = rw (ne-eqb _ _ z)
 
-  pub after-stop : (f : ℕ) → (kindAt s i ≡ 23 → ⊥) → afterLetters f s i ≡ i
-  unfolding afterLetters
+  pub after-stop : (f : ℕ) → (kindAt s i ≡ 23 → ⊥) → afterSets f s i ≡ i
+  unfolding afterSets
   after-stop zero z = refl
   after-stop (suc f) z = rw (ne-eqb _ _ z)
 
 -- every bound that suffices gives the same
 pub record Same (s : List ℕ) (f g i : ℕ) : Type 0 where
-  pub letters : lettersAt f s i ≡ lettersAt g s i
-  pub after : afterLetters f s i ≡ afterLetters g s i
+  pub sets : setsAt f s i ≡ setsAt g s i
+  pub after : afterSets f s i ≡ afterSets g s i
 
 same-stop : (f g : ℕ) (s : List ℕ) (i : ℕ) → (kindAt s i ≡ 23 → ⊥) → Same s f g i
-same-stop f g s i z = record { letters = letters-stop s i f z ∙ sym (letters-stop s i g z); after = after-stop s i f z ∙ sym (after-stop s i g z) }
+same-stop f g s i z = record { sets = sets-stop s i f z ∙ sym (sets-stop s i g z); after = after-stop s i f z ∙ sym (after-stop s i g z) }
 
 no-letter : (s : List ℕ) (i : ℕ) → i ≤ length s → length s ≤ i → kindAt s i ≡ 23 → ⊥
 no-letter s i h p e = omega (arith, end-kind s i h p)
@@ -64,18 +65,18 @@ record Passes (s : List ℕ) (i : ℕ) : Type 0 where
 letter-passes : (s : List ℕ) (i : ℕ) → i ≤ length s → kindAt s i ≡ 23 → Passes s i
 letter-passes s i h e = let M = token-moves s i h in record { on = omega (arith, M .on); within = M .within }
 
-pub same-letters : (f g : ℕ) (s : List ℕ) (i : ℕ) → i ≤ length s → length s ≤ f + i → length s ≤ g + i → Same s f g i
-same-letters zero g s i h p q = same-stop zero g s i (no-letter s i h (omega arith))
-same-letters (suc f) zero s i h p q = same-stop (suc f) zero s i (no-letter s i h (omega arith))
-same-letters (suc f) (suc g) s i h p q =
-    go (eqb (kindAt s i) 23) refl (λ e. let w = letter-passes s i h e in same-letters f g s (nextAt s i) (w .within) (omega (arith, w .on)) (omega (arith, w .on)))
+pub same-sets : (f g : ℕ) (s : List ℕ) (i : ℕ) → i ≤ length s → length s ≤ f + i → length s ≤ g + i → Same s f g i
+same-sets zero g s i h p q = same-stop zero g s i (no-letter s i h (omega arith))
+same-sets (suc f) zero s i h p q = same-stop (suc f) zero s i (no-letter s i h (omega arith))
+same-sets (suc f) (suc g) s i h p q =
+    go (eqb (kindAt s i) 23) refl (λ e. let w = letter-passes s i h e in same-sets f g s (nextAt s i) (w .within) (omega (arith, w .on)) (omega (arith, w .on)))
   where
     go : (b : Bool) → eqb (kindAt s i) 23 ≡ b → (kindAt s i ≡ 23 → Same s f g (nextAt s i)) → Same s (suc f) (suc g) i
     go true e r =
         let k = eqb-true _ _ e in
         let w = r k in
         record {
-          letters = letters-step s i f k ∙ ap (λ (l : List ℕ). valueAt s i ∷ l) (w .letters) ∙ sym (letters-step s i g k);
+          sets = sets-step s i f k ∙ ap (λ (l : List Declared). setAt s i ∷ l) (w .sets) ∙ sym (sets-step s i g k);
           after = after-step s i f k ∙ w .after ∙ sym (after-step s i g k);
         }
     go false e r = same-stop (suc f) (suc g) s i (eqb-false _ _ e)
@@ -119,8 +120,13 @@ pub record Passed (s : List ℕ) (at i : ℕ) (L : List ℕ) (n : ℕ) : Type 0 
   pub within : i ≤ length s
   pub onward : at ≤ i
   pub few : n ≤ length L
-  pub kept : (f g : ℕ) → length s ≤ f + at → length s ≤ g + i → take (length L) (take n L ++ lettersAt g s i) ≡ take (length L) (lettersAt f s at)
-  pub ends : (f g : ℕ) → length s ≤ f + at → length s ≤ g + i → afterLetters g s i ≡ afterLetters f s at
+  pub kept : (f g : ℕ) → length s ≤ f + at → length s ≤ g + i → take (length L) (take n L ++ lettersOf (setsAt g s i)) ≡ take (length L) (lettersOf (setsAt f s at))
+  pub ends : (f g : ℕ) → length s ≤ f + at → length s ≤ g + i → afterSets g s i ≡ afterSets f s at
+
+-- one letter in front of the others
+letters-step : (s : List ℕ) (i f : ℕ) → kindAt s i ≡ 23 → lettersOf (setsAt (suc f) s i) ≡ valueAt s i ∷ lettersOf (setsAt f s (nextAt s i))
+unfolding lettersOf
+letters-step s i f k = ap lettersOf (sets-step s i f k)
 
 pub passed-none : (s : List ℕ) (at : ℕ) (L : List ℕ) → at ≤ length s → Passed s at at L 0
 passed-none s at L h =
@@ -128,8 +134,8 @@ passed-none s at L h =
       within = h;
       onward = le-refl at;
       few = omega arith;
-      kept = λ f g p q. ap (take (length L)) (same-letters g f s at h q p .letters);
-      ends = λ f g p q. same-letters g f s at h q p .after;
+      kept = λ f g p q. ap (λ (l : List Declared). take (length L) (lettersOf l)) (same-sets g f s at h q p .sets);
+      ends = λ f g p q. same-sets g f s at h q p .after;
     }
 
 pub passed-one : (s : List ℕ) (at i : ℕ) (L M : List ℕ) (n r : ℕ) (t : Token) → Passed s at i L n → t ≡ tokenAt s i → t .kind ≡ 23
@@ -146,22 +152,23 @@ passed-one s at i L M n r t P T y K =
       onward = omega (arith, P .onward, w .on);
       few = keeps-few n (t .value) L M r K (P .few);
       kept = λ f g p q.
-          keeps-step n (t .value) L M r K (P .few) (lettersAt g s (t .next))
+          keeps-step n (t .value) L M r K (P .few) (lettersOf (setsAt g s (t .next)))
           ∙ ap (λ (l : List ℕ). take (length L) (take n L ++ l))
-          (ap₂ _∷_ value (same-letters g F s (t .next) m q (omega arith) .letters ∙ ap (lettersAt F s) (sym next)) ∙ sym (letters-step s i F k))
+          (ap₂ _∷_ value (ap lettersOf (same-sets g F s (t .next) m q (omega arith) .sets ∙ ap (setsAt F s) (sym next))) ∙ sym (letters-step s i F k))
           ∙ P .kept f (suc F) p (omega arith)
-          ∙ ap (λ (x : ℕ). take x (lettersAt f s at)) (sym (keeps-length n (t .value) L M r K));
+          ∙ ap (λ (x : ℕ). take x (lettersOf (setsAt f s at))) (sym (keeps-length n (t .value) L M r K));
       ends = λ f g p q.
-          same-letters g F s (t .next) m q (omega arith) .after ∙ ap (afterLetters F s) (sym next) ∙ sym (after-step s i F k) ∙ P .ends f (suc F) p (omega arith);
+          same-sets g F s (t .next) m q (omega arith) .after ∙ ap (afterSets F s) (sym next) ∙ sym (after-step s i F k) ∙ P .ends f (suc F) p (omega arith);
     }
 
 pub passed-all : (s : List ℕ) (at i : ℕ) (L : List ℕ) (n : ℕ) → Passed s at i L n → (kindAt s i ≡ 23 → ⊥) → LettersRead s at L (record { count = n; next = i })
+unfolding lettersOf
 passed-all s at i L n P z =
     record {
       few = P .few;
       kept = λ f p.
           sym (take-all (length L) (take n L) (omega (arith, length-take-le n L (P .few), P .few)))
-          ∙ ap (take (length L)) (sym (append-nil (take n L)) ∙ ap (λ (l : List ℕ). take n L ++ l) (sym (letters-stop s i (length s) z)))
+          ∙ ap (take (length L)) (sym (append-nil (take n L)) ∙ ap (λ (l : List ℕ). take n L ++ l) (sym (ap lettersOf (sets-stop s i (length s) z))))
           ∙ P .kept f (length s) p (omega arith);
       ends = λ f p. sym (after-stop s i (length s) z) ∙ P .ends f (length s) p (omega arith);
       within = P .within;
@@ -176,18 +183,18 @@ passed-end s at i L n P h = passed-all s at i L n P (no-letter s i (P .within) h
 no-syntax : (s after letters : List ℕ) (r : Syntax) → parsed s ≡ failed → r .ok ≡ false → Parsed s after letters r
 no-syntax s after letters r e q = record { accepts = λ y. clash (r .ok) y q; refuses = λ _. e }
 
-empty : (xs : List ℕ) → length xs ≡ 0 → xs ≡ []
+empty : (xs : List Declared) → length xs ≡ 0 → xs ≡ []
 empty [] e = refl
 empty (x ∷ xs) e = absurd (omega arith)
 
-pub declared-some : (s xs : List ℕ) (i : ℕ) → (length xs ≡ 0 → ⊥) → declared s xs i ≡ test (eqb (kindAt s i) 2) (λ j. ended s xs (parseAt (4 * length s + 4) formula s j)) (λ j. failed) (nextAt s i)
+pub declared-some : (s : List ℕ) (xs : List Declared) (i : ℕ) → (length xs ≡ 0 → ⊥) → declared s xs i ≡ test (eqb (kindAt s i) 2) (λ j. ended s xs (parseAt (4 * length s + 4) formula s j)) (λ j. failed) (nextAt s i)
 declared-some s [] i z = absurd (z refl)
 declared-some s (x ∷ xs) i z = refl
 
-ended-more : (s xs : List ℕ) (a : Tree) (i : ℕ) → eqb (kindAt s i) 0 ≡ false → ended s xs (found a i) ≡ failed
+ended-more : (s : List ℕ) (xs : List Declared) (a : Tree) (i : ℕ) → eqb (kindAt s i) 0 ≡ false → ended s xs (found a i) ≡ failed
 ended-more s xs a i e = rw e
 
-ended-here : (s xs : List ℕ) (a : Tree) (i : ℕ) → kindAt s i ≡ 0 → ended s xs (found a i) ≡ read xs a
+ended-here : (s : List ℕ) (xs : List Declared) (a : Tree) (i : ℕ) → kindAt s i ≡ 0 → ended s xs (found a i) ≡ read xs a
 ended-here s xs a i e = rw e
 
 module _ (s out before letters : List ℕ) (lent : Lent s out before) (same : length letters ≡ length before) (opening : Token) (O : opening ≡ tokenAt s 0) where
@@ -199,28 +206,29 @@ module _ (s out before letters : List ℕ) (lent : Lent s out before) (same : le
   whole-unopened z o r q = no-syntax s o letters r (rw (not-kind s 0 opening O 1 z)) q
 
   module _ (y : opening .kind ≡ 1) (sets : Letters) (S : LettersRead s (opening .next) letters sets) where
-    opened : parsed s ≡ declared s (lettersAt (length s) s (opening .next)) (sets .next)
+    opened : parsed s ≡ declared s (setsAt (length s) s (opening .next)) (sets .next)
     unfolding parsed
     opened = rw (kind-of s 0 opening O 1 y, next-of s 0 opening O, ← S .ends (length s) (omega arith))
 
     -- one letter at least is kept
-    count-is : sets .count ≡ min (length letters) (length (lettersAt (length s) s (opening .next)))
+    count-is : sets .count ≡ min (length letters) (length (setsAt (length s) s (opening .next)))
     count-is =
         sym (length-take-le (sets .count) letters (S .few)) ∙ ap length (S .kept (length s) (omega arith))
-        ∙ length-take (length letters) (lettersAt (length s) s (opening .next))
+        ∙ length-take (length letters) (lettersOf (setsAt (length s) s (opening .next)))
+        ∙ ap (min (length letters)) (letters-length (setsAt (length s) s (opening .next)))
 
     pub whole-unnamed : sets .count ≡ 0 → (o : List ℕ) (r : Syntax) → r .ok ≡ false → Parsed s o letters r
-    whole-unnamed e o r q = no-syntax s o letters r (opened ∙ ap (λ (xs : List ℕ). declared s xs (sets .next)) (empty (lettersAt (length s) s (opening .next)) (omega (arith, count-is, lent .some)))) q
+    whole-unnamed e o r q = no-syntax s o letters r (opened ∙ ap (λ (xs : List Declared). declared s xs (sets .next)) (empty (setsAt (length s) s (opening .next)) (omega (arith, count-is, lent .some)))) q
 
     module _ (z : sets .count ≡ 0 → ⊥) (closing : Token) (C : closing ≡ tokenAt s (sets .next)) where
-      close-step : declared s (lettersAt (length s) s (opening .next)) (sets .next) ≡ test (eqb (kindAt s (sets .next)) 2) (λ j. ended s (lettersAt (length s) s (opening .next)) (parseAt (4 * length s + 4) formula s j)) (λ j. failed) (nextAt s (sets .next))
-      close-step = declared-some s (lettersAt (length s) s (opening .next)) (sets .next) (λ e. z (omega (arith, count-is)))
+      close-step : declared s (setsAt (length s) s (opening .next)) (sets .next) ≡ test (eqb (kindAt s (sets .next)) 2) (λ j. ended s (setsAt (length s) s (opening .next)) (parseAt (4 * length s + 4) formula s j)) (λ j. failed) (nextAt s (sets .next))
+      close-step = declared-some s (setsAt (length s) s (opening .next)) (sets .next) (λ e. z (omega (arith, count-is)))
 
       pub whole-unclosed : (closing .kind ≡ 2 → ⊥) → (o : List ℕ) (r : Syntax) → r .ok ≡ false → Parsed s o letters r
       whole-unclosed w o r q = no-syntax s o letters r (opened ∙ close-step ∙ rw (not-kind s (sets .next) closing C 2 w)) q
 
       module _ (c : closing .kind ≡ 2) where
-        closed-step : parsed s ≡ ended s (lettersAt (length s) s (opening .next)) (parseAt (4 * length s + 4) formula s (closing .next))
+        closed-step : parsed s ≡ ended s (setsAt (length s) s (opening .next)) (parseAt (4 * length s + 4) formula s (closing .next))
         closed-step = opened ∙ close-step ∙ rw (kind-of s (sets .next) closing C 2 c, next-of s (sets .next) closing C)
 
         close-within : closing .next ≤ length s
@@ -231,22 +239,22 @@ module _ (s out before letters : List ℕ) (lent : Lent s out before) (same : le
 
         module _ (o : List ℕ) (body : Reading) (B : Reads formula s out o (closing .next) 0 0 body) where
           pub whole-none : body .ok ≡ false → (r : Syntax) → r .ok ≡ false → Parsed s o letters r
-          whole-none e r q = no-syntax s o letters r (closed-step ∙ ap (ended s (lettersAt (length s) s (opening .next))) (B (4 * length s + 4) (omega arith) .refuses e)) q
+          whole-none e r q = no-syntax s o letters r (closed-step ∙ ap (ended s (setsAt (length s) s (opening .next))) (B (4 * length s + 4) (omega arith) .refuses e)) q
 
           module _ (e : body .ok ≡ true) (last : Token) (L : last ≡ tokenAt s (body .next)) where
             pub whole-longer : (last .kind ≡ 0 → ⊥) → (r : Syntax) → r .ok ≡ false → Parsed s o letters r
             whole-longer w r q =
                 let R = B (4 * length s + 4) (omega arith) .accepts e in
-                no-syntax s o letters r (closed-step ∙ ap (ended s (lettersAt (length s) s (opening .next))) (R .is) ∙ ended-more s _ (R .tree) (body .next) (not-kind s (body .next) last L 0 w)) q
+                no-syntax s o letters r (closed-step ∙ ap (ended s (setsAt (length s) s (opening .next))) (R .is) ∙ ended-more s _ (R .tree) (body .next) (not-kind s (body .next) last L 0 w)) q
 
             pub whole-read : last .kind ≡ 0 → Parsed s o letters (record { ok = true; deep = body .deep; sets = sets .count; end = body .count })
             whole-read w =
                 let R = B (4 * length s + 4) (omega arith) .accepts e in
                 record {
                   accepts = λ _. record {
-                    sets = lettersAt (length s) s (opening .next);
+                    sets = setsAt (length s) s (opening .next);
                     tree = R .tree;
-                    is = closed-step ∙ ap (ended s (lettersAt (length s) s (opening .next))) (R .is) ∙ ended-here s _ (R .tree) (body .next) (kind-of s (body .next) last L 0 w);
+                    is = closed-step ∙ ap (ended s (setsAt (length s) s (opening .next))) (R .is) ∙ ended-here s _ (R .tree) (body .next) (kind-of s (body .next) last L 0 w);
                     stored = R .stored;
                     deeper = R .deeper;
                     few = S .few;

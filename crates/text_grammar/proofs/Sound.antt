@@ -8,12 +8,12 @@ use native.Mathlib.Omega.{arith}
 use lib.Dec.{eqb}
 use borrow.Author.Tests.{eqb-true, eqb-false}
 use Rattle.logic.specs.Formula.{Relation, Literal, isin, notin, port, size, relationOf}
-use Rattle.text_tree.specs.Tree.{Quantifier, Join, conj, disj, Tree, leaf, neg, par, bind, join}
+use Rattle.text_tree.specs.Tree.{Quantifier, Join, conj, disj, Tree, leaf, neg, par, bind, join, Declared}
 use Rattle.text_grammar.specs.Grammar.{Symbol, Level, unit, conjunction, disjunction, formula, Derives, one-disjunction, arrow, one-conjunction, or, one-unit, and, negation, quantified, bracketed, member, no-member, ports, sizes, Sets, one, more, kindAt, nextAt, valueAt, symbolAt}
-use Rattle.text_grammar.specs.Parser.{Part, missing, found, test, follow, nothing, mapPart, quantifierOf, joinSign, quantifierSign, relationSign, joined, closed, bound, operand, variableLiteral, compared, sizeLiteral, parseAt, lettersAt, afterLetters}
+use Rattle.text_grammar.specs.Parser.{Part, missing, found, test, follow, nothing, mapPart, quantifierOf, joinSign, quantifierSign, relationSign, joined, closed, bound, operand, variableLiteral, compared, sizeLiteral, parseAt, setAt, setsAt, afterSets}
 use Rattle.text_grammar.proofs.Signs.{of-stands, join-sign-some, sign-arrow, quantifier-kind, relation-kind}
 use Rattle.text_grammar.proofs.Positions.{Tokens, nil, cons, append}
-use Rattle.text_grammar.proofs.Declaration.{letters-step, after-step, letters-stop}
+use Rattle.text_grammar.proofs.Declaration.{sets-step, after-step, sets-stop}
 
 -- where what a `test`, `follow`, `mapPart`, `joined` or `operand` gives came from
 pub on-test : {A X : Type 0} (b : Bool) (f g : ℕ → A) (i : ℕ) (r : A) → test b f g i ≡ r → (b ≡ true → f i ≡ r → X) → (b ≡ false → g i ≡ r → X) → X
@@ -227,40 +227,40 @@ sound (suc f) s conjunction i a j e = joined-sound f s (sound f s) i a j conjunc
 sound (suc f) s disjunction i a j e = joined-sound f s (sound f s) i a j disjunction conjunction disjunction rule-disjunction (of-joined _ _ _ _ _ _ e)
 sound (suc f) s formula i a j e = joined-sound f s (sound f s) i a j formula disjunction disjunction rule-formula (of-joined _ _ _ _ _ _ e)
 
--- set letters
+-- declared sets
 
-pub record SpeltSets (s : List ℕ) (i : ℕ) (sets : List ℕ) (j : ℕ) : Type 0 where
+pub record SpeltSets (s : List ℕ) (i : ℕ) (sets : List Declared) (j : ℕ) : Type 0 where
   pub symbols : List Symbol
   pub are : Tokens s i symbols j
   pub spell : Sets symbols sets
 
-after-none : (f : ℕ) (s : List ℕ) (i : ℕ) → lettersAt f s i ≡ [] → afterLetters f s i ≡ i
-unfolding lettersAt afterLetters
+after-none : (f : ℕ) (s : List ℕ) (i : ℕ) → setsAt f s i ≡ [] → afterSets f s i ≡ i
+unfolding setsAt afterSets
 after-none zero s i e = refl
 after-none (suc f) s i e = go (eqb (kindAt s i) 23) e
   where
-    go : (b : Bool) → test b (λ j. valueAt s i ∷ lettersAt f s j) (λ j. []) (nextAt s i) ≡ [] → test b (afterLetters f s) (λ j. i) (nextAt s i) ≡ i
+    go : (b : Bool) → test b (λ j. setAt s i ∷ setsAt f s j) (λ j. []) (nextAt s i) ≡ [] → test b (afterSets f s) (λ j. i) (nextAt s i) ≡ i
     go true q = let z : _≡_ {A = ℕ} 0 1 = cc in absurd (omega arith)
     go false q = refl
 
-no-letters : {A : Type 0} {x : ℕ} {xs : List ℕ} → [] ≡ x ∷ xs → A
-no-letters e = let z : _≡_ {A = ℕ} 0 1 = cc in absurd (omega arith)
+no-sets : {A : Type 0} {x : Declared} {xs : List Declared} → [] ≡ x ∷ xs → A
+no-sets e = let z : _≡_ {A = ℕ} 0 1 = cc in absurd (omega arith)
 
-pub sets-sound : (f : ℕ) (s : List ℕ) (i x : ℕ) (xs : List ℕ) → lettersAt f s i ≡ x ∷ xs → SpeltSets s i (x ∷ xs) (afterLetters f s i)
-unfolding lettersAt
-sets-sound zero s i x xs e = no-letters e
-sets-sound (suc f) s i x xs e = go (eqb (kindAt s i) 23) refl (lettersAt f s (nextAt s i)) refl (λ y ys r. sets-sound f s (nextAt s i) y ys r)
+pub sets-sound : (f : ℕ) (s : List ℕ) (i : ℕ) (x : Declared) (xs : List Declared) → setsAt f s i ≡ x ∷ xs → SpeltSets s i (x ∷ xs) (afterSets f s i)
+unfolding setsAt
+sets-sound zero s i x xs e = no-sets e
+sets-sound (suc f) s i x xs e = go (eqb (kindAt s i) 23) refl (setsAt f s (nextAt s i)) refl (λ y ys r. sets-sound f s (nextAt s i) y ys r)
   where
-    go : (b : Bool) → eqb (kindAt s i) 23 ≡ b → (l : List ℕ) → lettersAt f s (nextAt s i) ≡ l
-        → ((y : ℕ) (ys : List ℕ) → lettersAt f s (nextAt s i) ≡ y ∷ ys → SpeltSets s (nextAt s i) (y ∷ ys) (afterLetters f s (nextAt s i)))
-        → SpeltSets s i (x ∷ xs) (afterLetters (suc f) s i)
-    go false p l q r = no-letters (sym (letters-stop s i (suc f) (eqb-false _ _ p)) ∙ e)
+    go : (b : Bool) → eqb (kindAt s i) 23 ≡ b → (l : List Declared) → setsAt f s (nextAt s i) ≡ l
+        → ((y : Declared) (ys : List Declared) → setsAt f s (nextAt s i) ≡ y ∷ ys → SpeltSets s (nextAt s i) (y ∷ ys) (afterSets f s (nextAt s i)))
+        → SpeltSets s i (x ∷ xs) (afterSets (suc f) s i)
+    go false p l q r = no-sets (sym (sets-stop s i (suc f) (eqb-false _ _ p)) ∙ e)
     go true p [] q r =
         let k = eqb-true (kindAt s i) 23 p in
-        let m : x ∷ xs ≡ valueAt s i ∷ [] = sym e ∙ letters-step s i f k ∙ ap (λ (l : List ℕ). valueAt s i ∷ l) q in
+        let m : x ∷ xs ≡ setAt s i ∷ [] = sym e ∙ sets-step s i f k ∙ ap (λ (l : List Declared). setAt s i ∷ l) q in
         rw (m, after-step s i f k, after-none f s (nextAt s i) q) (record { symbols = symbolAt s i ∷ []; are = last-token s i (omega arith); spell = one (symbolAt s i) k })
     go true p (y ∷ ys) q r =
         let k = eqb-true (kindAt s i) 23 p in
-        let m : x ∷ xs ≡ valueAt s i ∷ (y ∷ ys) = sym e ∙ letters-step s i f k ∙ ap (λ (l : List ℕ). valueAt s i ∷ l) q in
+        let m : x ∷ xs ≡ setAt s i ∷ (y ∷ ys) = sym e ∙ sets-step s i f k ∙ ap (λ (l : List Declared). setAt s i ∷ l) q in
         let w = r y ys q in
         rw (m, after-step s i f k) (record { symbols = symbolAt s i ∷ w .symbols; are = cons s i (w .symbols) _ (omega arith) (w .are); spell = more (symbolAt s i) k (w .spell) })

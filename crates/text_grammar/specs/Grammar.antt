@@ -5,7 +5,7 @@ use Prim.Native.Nat.{ℕ, zero, suc, _+_}
 use lib.Dec.{eqb}
 use lib.ListN.{length}
 use Rattle.logic.specs.Formula.{Relation, relationNumber, isin, notin, port, size}
-use Rattle.text_tree.specs.Tree.{Quantifier, forall, exists, Join, conj, disj, imp, rev, iff, Tree, leaf, neg, par, bind, join}
+use Rattle.text_tree.specs.Tree.{Quantifier, forall, exists, Join, conj, disj, imp, rev, iff, Tree, leaf, neg, par, bind, join, Declared}
 use Rattle.text_tokens.specs.Tokens.{endOfText, leftSquare, rightSquare, leftBracket, rightBracket, atSign, questionMark, tilde, ampersand, bar, rightArrow, leftArrow, doubleArrow, colon, slash, hash, less, variable, setLetter, number, pick, tokenAt}
 
 -- A token without its place.
@@ -61,13 +61,13 @@ pub data Derives : Level → List Symbol → Tree → Type 0 where
       → Derives unit (h ∷ m ∷ t ∷ c ∷ []) (leaf (size r (m .value) (c .value)))
 
 -- "one or more upper-case set letters"
-pub data Sets : List Symbol → List ℕ → Type 0 where
-  one : (t : Symbol) → t .kind ≡ setLetter → Sets (t ∷ []) (t .value ∷ [])
-  more : (t : Symbol) {xs : List Symbol} {sets : List ℕ} → t .kind ≡ setLetter → Sets xs sets → Sets (t ∷ xs) (t .value ∷ sets)
+pub data Sets : List Symbol → List Declared → Type 0 where
+  one : (t : Symbol) → t .kind ≡ setLetter → Sets (t ∷ []) (record { letter = t .value } ∷ [])
+  more : (t : Symbol) {xs : List Symbol} {sets : List Declared} → t .kind ≡ setLetter → Sets xs sets → Sets (t ∷ xs) (record { letter = t .value } ∷ sets)
 
 -- "Text: `[`, one or more upper-case set letters, `]`, formula."
-pub data Text : List Symbol → List ℕ → Tree → Type 0 where
-  text : (t u : Symbol) {xs ys : List Symbol} {sets : List ℕ} {a : Tree} → t .kind ≡ leftSquare → Sets xs sets → u .kind ≡ rightSquare → Derives formula ys a
+pub data Text : List Symbol → List Declared → Tree → Type 0 where
+  text : (t u : Symbol) {xs ys : List Symbol} {sets : List Declared} {a : Tree} → t .kind ≡ leftSquare → Sets xs sets → u .kind ≡ rightSquare → Derives formula ys a
       → Text (t ∷ (xs ++ (u ∷ ys))) sets a
 
 abbrev pub kindAt : List ℕ → ℕ → ℕ

@@ -7,7 +7,7 @@ use Prim.Native.Nat.{ℕ, zero, suc, _+_, _*_, _-_}
 use lib.Dec.{eqb}
 use lib.ListN.{length}
 use Rattle.logic.specs.Formula.{Relation, relationOf, Literal, isin, notin, port, size}
-use Rattle.text_tree.specs.Tree.{Quantifier, forall, exists, Join, conj, disj, imp, rev, iff, Tree, leaf, neg, par, bind, join}
+use Rattle.text_tree.specs.Tree.{Quantifier, forall, exists, Join, conj, disj, imp, rev, iff, Tree, leaf, neg, par, bind, join, Declared}
 use Rattle.text_tokens.specs.Tokens.{endOfText, leftSquare, rightSquare, leftBracket, rightBracket, atSign, questionMark, tilde, ampersand, bar, rightArrow, doubleArrow, colon, slash, hash, less, greater, variable, setLetter, number, pick, between}
 use Rattle.text_grammar.specs.Grammar.{Level, unit, conjunction, disjunction, formula, kindAt, valueAt, nextAt}
 
@@ -109,28 +109,32 @@ parseAt (suc f) conjunction s i = joined s (joinSign conjunction) (parseAt f con
 parseAt (suc f) disjunction s i = joined s (joinSign disjunction) (parseAt f disjunction s) (parseAt f conjunction s i)
 parseAt (suc f) formula s i = joined s (joinSign formula) (parseAt f disjunction s) (parseAt f disjunction s i)
 
--- The set letters at position i, at most f of them, and the position after them.
-unfoldable pub lettersAt : ℕ → List ℕ → ℕ → List ℕ
-lettersAt zero s i = []
-lettersAt (suc f) s i = test (eqb (kindAt s i) setLetter) (λ j. valueAt s i ∷ lettersAt f s j) (λ j. []) (nextAt s i)
+-- A set as it is declared at position i.
+abbrev pub setAt : List ℕ → ℕ → Declared
+setAt s i = record { letter = valueAt s i }
 
-unfoldable pub afterLetters : ℕ → List ℕ → ℕ → ℕ
-afterLetters zero s i = i
-afterLetters (suc f) s i = test (eqb (kindAt s i) setLetter) (afterLetters f s) (λ j. i) (nextAt s i)
+-- The sets declared at position i, at most f of them, and the position after them.
+unfoldable pub setsAt : ℕ → List ℕ → ℕ → List Declared
+setsAt zero s i = []
+setsAt (suc f) s i = test (eqb (kindAt s i) setLetter) (λ j. setAt s i ∷ setsAt f s j) (λ j. []) (nextAt s i)
 
--- A whole text: its set letters and its tree, or ground 3.
+unfoldable pub afterSets : ℕ → List ℕ → ℕ → ℕ
+afterSets zero s i = i
+afterSets (suc f) s i = test (eqb (kindAt s i) setLetter) (afterSets f s) (λ j. i) (nextAt s i)
+
+-- A whole text: its declared sets and its tree, or ground 3.
 pub data Result : Type 0 where
   failed : Result
-  read : List ℕ → Tree → Result
+  read : List Declared → Tree → Result
 
 -- Nothing stands behind the formula.
-abbrev pub ended : List ℕ → List ℕ → Part → Result
+abbrev pub ended : List ℕ → List Declared → Part → Result
 ended s sets missing = failed
 ended s sets (found a i) = pick (eqb (kindAt s i) endOfText) (read sets a) failed
 
-abbrev pub declared : List ℕ → List ℕ → ℕ → Result
+abbrev pub declared : List ℕ → List Declared → ℕ → Result
 declared s [] i = failed
 declared s (x ∷ xs) i = test (eqb (kindAt s i) rightSquare) (λ j. ended s (x ∷ xs) (parseAt (4 * length s + 4) formula s j)) (λ j. failed) (nextAt s i)
 
 unfoldable pub parsed : List ℕ → Result
-parsed s = test (eqb (kindAt s 0) leftSquare) (λ i. declared s (lettersAt (length s) s i) (afterLetters (length s) s i)) (λ i. failed) (nextAt s 0)
+parsed s = test (eqb (kindAt s 0) leftSquare) (λ i. declared s (setsAt (length s) s i) (afterSets (length s) s i)) (λ i. failed) (nextAt s 0)

@@ -10,11 +10,12 @@ use lib.ListN.{length, getD, take, drop}
 use lib.Seq.{take-all}
 use borrow.Author.Tests.{leb-false, lt-ltb, le-ltb, not-true, not-false}
 use Rattle.logic.proofs.Lists.{or-true-left, or-true-right}
-use Rattle.text_tree.specs.Tree.{Tree, par}
+use Rattle.text_tree.specs.Tree.{Tree, par, Declared, lettersOf}
+use Rattle.text_tree.proofs.Sets.{sets-length}
 use Rattle.text_names.specs.declared.Faults.{Faults}
 use Rattle.text_tree.specs.inner.Stored.{literalCode}
 use Rattle.text_core.specs.Names.{among, declaredTwice, misdeclared, misnamed, ground6, fourth, ground7, Variable, Lettered}
-use Rattle.text_names.specs.inner.Faults.{IsBound, Binds, NamesLiteral, HighLiteral, LiteralFaults, Found, Finds, FindsFaults}
+use Rattle.text_names.specs.inner.Faults.{Misdeclares, IsBound, Binds, NamesLiteral, HighLiteral, LiteralFaults, Found, Finds, FindsFaults}
 use Rattle.text_tree.proofs.Table.{stored-after, stored-within, on-leaf, on-neg, on-bind, on-join}
 use Rattle.text_names.proofs.Naming.{no-bits}
 
@@ -115,14 +116,22 @@ module _ (sets : List ℕ) (some : length sets ≡ 0 → ⊥) (x : ℕ) (x-is : 
   twice-on h q e =
       e ∙ sym (twice-step sets some ∙ ap (λ (b : Bool). b || declaredTwice (rest sets)) (ap (among (rest sets)) (sym x-is) ∙ not-true _ (sym r-is ∙ not-false r h)))
 
-pub long-list : (sets : List ℕ) → 16 < length sets → true ≡ misdeclared sets
+pub long-list : (sets : List Declared) → 16 < length sets → true ≡ misdeclared sets
 unfolding misdeclared
-long-list sets h = sym (or-true-right (declaredTwice sets) _ (lt-ltb 16 (length sets) h))
+long-list sets h = sym (or-true-right (declaredTwice (lettersOf sets)) _ (lt-ltb 16 (length sets) h))
 
-pub short-list : (sets : List ℕ) (r : Bool) → length sets ≤ 16 → r ≡ declaredTwice sets → r ≡ misdeclared sets
+short-list : (sets : List Declared) (r : Bool) → length sets ≤ 16 → r ≡ declaredTwice (lettersOf sets) → r ≡ misdeclared sets
 unfolding misdeclared
-short-list sets r h e = e ∙ sym (ap (λ (b : Bool). declaredTwice sets || b) (le-ltb 16 (length sets) h) ∙ or-none (declaredTwice sets))
+short-list sets r h e = e ∙ sym (ap (λ (b : Bool). declaredTwice (lettersOf sets) || b) (le-ltb 16 (length sets) h) ∙ or-none (declaredTwice (lettersOf sets)))
   where
     or-none : (b : Bool) → (b || false) ≡ b
     or-none true = refl
     or-none false = refl
+
+pub long-letters : (letters : List ℕ) → 16 < length letters → Misdeclares letters true
+unfolding Misdeclares
+long-letters letters h sets e = long-list sets (omega (arith, sets-length sets letters e))
+
+pub short-letters : (letters : List ℕ) (r : Bool) → length letters ≤ 16 → r ≡ declaredTwice letters → Misdeclares letters r
+unfolding Misdeclares
+short-letters letters r h q sets e = short-list sets r (omega (arith, sets-length sets letters e)) (q ∙ ap declaredTwice (sym e))

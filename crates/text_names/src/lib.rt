@@ -10,8 +10,8 @@ ghost use mathlib.Core.Bool.{not, _||_};
 ghost use Prim.Native.Nat.{_+_, _≤_, _<_};
 ghost use lib.Dec.{leb};
 ghost use lib.ListN.{length, getD};
-ghost use Rattle.text_core.specs.Names.{among, setNumber, declaredTwice, misdeclared};
-ghost use Rattle.text_names.specs.inner.Faults.{IsBound, Binds, NamesLiteral, HighLiteral, LiteralFaults, Finds, FindsFaults};
+ghost use Rattle.text_core.specs.Names.{among, setNumber, declaredTwice};
+ghost use Rattle.text_names.specs.inner.Faults.{Misdeclares, IsBound, Binds, NamesLiteral, HighLiteral, LiteralFaults, Finds, FindsFaults};
 
 // Which of grounds 5 (of the formula), 6 and 7 apply.
 pub struct Faults {
@@ -231,9 +231,9 @@ fn declared_twice(sets: &[u8]) -> bool
     declared_twice(rest)
 }
 
-// Ground 5 of the declared list.
+// Ground 5 of a declaration, by its letters.
 pub fn misdeclared(sets: &[u8]) -> bool
-    ensures { λ r. ⌜ r ≡ misdeclared (now (sets .entry)) ⌝ }
+    ensures { λ r. ⌜ Misdeclares (now (sets .entry)) r ⌝ }
 {
     if 16 < sets.len() {
         return true;

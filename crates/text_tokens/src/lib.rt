@@ -265,13 +265,37 @@ fn token_here(text: &[u8], i: usize) -> Token
     }
 }
 
-// The next token at or after `at`.
-pub fn token_at(text: &[u8], at: usize) -> Token
+// The next token at or after `at`, by value.
+fn token_from(text: &[u8], at: usize) -> Token
     requires { ⌜ at ≤ length (now text) ⌝ }
     ensures { λ r. ⌜ r ≡ tokenAt (now (text .entry)) at ⌝ }
 {
     let i = after_blanks(text, at);
     token_here(text, i)
+}
+
+// The reading position, which moves over the text.
+pub struct Position {
+    pub at: usize,
+}
+
+// The next token; the position moves past it.
+pub fn next_token<'t, 'p>(text: &'t [u8], position: &'p mut Position) -> Token
+    requires { ⌜ now position .at ≤ length (now text) ⌝ }
+    ensures { λ r. ⌜ (r ≡ tokenAt (now (text .entry)) (now (position .entry) .at)) × (now (position .exit) .at ≡ tokenAt (now (text .entry)) (now (position .entry) .at) .next) ⌝ }
+{
+    let t = token_from(text, position.at);
+    position.at = t.next;
+    t
+}
+
+// The next token at or after `at`: a position is set there and moved past one token. Every reader of a text calls this.
+pub fn token_at(text: &[u8], at: usize) -> Token
+    requires { ⌜ at ≤ length (now text) ⌝ }
+    ensures { λ r. ⌜ r ≡ tokenAt (now (text .entry)) at ⌝ }
+{
+    let mut position = Position { at: at };
+    next_token(text, &mut position)
 }
 
 // Whether b is one of the bytes.
@@ -316,19 +340,4 @@ pub fn known_bytes(text: &[u8]) -> bool
         i += 1;
     }
     true
-}
-
-// The reading position, which moves over the text.
-pub struct Position {
-    pub at: usize,
-}
-
-// The next token; the position moves past it.
-pub fn next_token<'t, 'p>(text: &'t [u8], position: &'p mut Position) -> Token
-    requires { ⌜ now position .at ≤ length (now text) ⌝ }
-    ensures { λ r. ⌜ (r ≡ tokenAt (now (text .entry)) (now (position .entry) .at)) × (now (position .exit) .at ≡ tokenAt (now (text .entry)) (now (position .entry) .at) .next) ⌝ }
-{
-    let t = token_at(text, position.at);
-    position.at = t.next;
-    t
 }

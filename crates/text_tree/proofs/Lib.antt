@@ -1,3 +1,4 @@
 -- Laws.
 pub mod Records
+pub mod Sets
 pub mod Table

@@ -1,5 +1,6 @@
 -- The tree of a plan's text, before it becomes a core formula: paper 01, section Plan text.
 use mathlib.Core.Bool.{Bool, _||_}
+use mathlib.Core.List.{List, map}
 use Prim.Native.Nat.{ℕ, suc}
 use lib.Dec.{ltb}
 use Rattle.logic.specs.Formula.{Literal}
@@ -19,6 +20,14 @@ pub data Tree : Type 0 where
   neg par : Tree → Tree
   bind : Quantifier → ℕ → Tree → Tree
   join : Join → Tree → Tree → Tree
+
+-- "one or more upper-case set letters": a set as it is declared, by its letter.
+pub record Declared : Type 0 where
+  pub letter : ℕ
+
+-- The letters of a declaration, in order.
+unfoldable pub lettersOf : List Declared → List ℕ
+lettersOf sets = map (λ (d : Declared). d .letter) sets
 
 -- Ground 4: "more than 64 of `(`, `~` and quantifiers around one token", with d of them around the whole.
 unfoldable pub tooDeep : ℕ → Tree → Bool

@@ -5,7 +5,7 @@ use Prim.Native.Nat.{ℕ, _≤_}
 use lib.Dec.{ltb}
 use lib.ListN.{length, take}
 use Rattle.logic.specs.Moves.{refusal}
-use Rattle.text_tree.specs.Tree.{Tree}
+use Rattle.text_tree.specs.Tree.{Tree, Declared, lettersOf}
 use Rattle.text_tree.specs.inner.Stored.{Stored}
 use Rattle.text_grammar.specs.Parser.{read}
 use Rattle.text_core.specs.Names.{Lettered}
@@ -15,21 +15,21 @@ use Rattle.contracts.specs.declared.Answer.{Answer}
 use Rattle.contracts.specs.Read.{tableLength, readOr}
 
 -- A text in the grammar: its tree in the table t, the first of its set letters in another. Ground 5 is decided by the first 17.
-pub record TextKept (t : List ℕ) (e : ℕ) (letters : List ℕ) (n : ℕ) (sets : List ℕ) (a : Tree) : Type 0 where
+pub record TextKept (t : List ℕ) (e : ℕ) (letters : List ℕ) (n : ℕ) (sets : List Declared) (a : Tree) : Type 0 where
   pub stored : Stored t e a
   pub lettered : Lettered a
-  pub letters-are : take n letters ≡ take 17 sets
+  pub letters-are : take n letters ≡ take 17 (lettersOf sets)
 
 pub record SomeText (u : ℕ) (t : List ℕ) (e : ℕ) (letters : List ℕ) (n : ℕ) : Type 0 where
   pub ports1 : 1 ≤ u
   pub ports64 : u ≤ 64
   pub within : n ≤ length letters
-  pub sets : List ℕ
+  pub sets : List Declared
   pub tree : Tree
   pub kept : TextKept t e letters n sets tree
 
 -- Grounds 5 to 9 and 12, and the table.
 unfoldable pub Finishes : ℕ → List ℕ → ℕ → List ℕ → ℕ → List ℕ → List ℕ → Answer → Type 0
-Finishes u t e letters n before after r = (sets : List ℕ) (a : Tree) → TextKept t e letters n sets a
+Finishes u t e letters n before after r = (sets : List Declared) (a : Tree) → TextKept t e letters n sets a
     → _≡_ {A = Answer × List ℕ} (r, after)
     (readOr (refusal (coreGrounds u sets a ++ ((12, ltb (length before) (tableLength (planOf u sets a))) ∷ []))) u (read sets a) before)

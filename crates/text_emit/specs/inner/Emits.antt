@@ -5,7 +5,7 @@ use mathlib.Core.List.{List, _++_}
 use Prim.Native.Nat.{ℕ, zero, suc, _*_, _≤_}
 use lib.ListN.{length, drop}
 use Rattle.logic.specs.Formula.{Literal, lit, Forest, none, tree, kindNumber, nodeCount}
-use Rattle.text_tree.specs.Tree.{Join, conj, disj, imp, rev, iff, Tree}
+use Rattle.text_tree.specs.Tree.{Join, conj, disj, imp, rev, iff, Tree, Declared, lettersOf}
 use Rattle.text_tree.specs.inner.Stored.{joinOperator, Stored}
 use Rattle.text_core.specs.Names.{fourth, Lettered}
 use Rattle.text_names.specs.inner.Faults.{ReadAs}
@@ -115,5 +115,6 @@ pub record PlanReady (sets : List ℕ) (nodes : ℕ) (table : List ℕ) : Type 0
 
 -- "Reading [..] writes the plan table": the bytes of the plan, and behind them what stood there.
 unfoldable pub WritesPlan : ℕ → List ℕ → List ℕ → ℕ → ℕ → List ℕ → List ℕ → Type 0
-WritesPlan u sets t e nodes before after =
-    (a : Tree) → Emittable t e 0 a → nodes ≡ nodeCount (coreOf sets a) → after ≡ encoding (planOf u sets a) ++ drop (tableBytes (length sets) nodes) before
+WritesPlan u letters t e nodes before after =
+    (sets : List Declared) (a : Tree) → lettersOf sets ≡ letters → Emittable t e 0 a → nodes ≡ nodeCount (coreOf letters a)
+    → after ≡ encoding (planOf u sets a) ++ drop (tableBytes (length sets) nodes) before

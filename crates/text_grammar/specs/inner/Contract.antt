@@ -5,13 +5,13 @@ use mathlib.Core.Bool.{true, false}
 use Prim.Native.Nat.{ℕ, suc, _+_, _*_, _-_, _≤_, _<_}
 use lib.ListN.{length, getD, set, take}
 use Rattle.logic.specs.Formula.{Literal}
-use Rattle.text_tree.specs.Tree.{Tree, tooDeep}
+use Rattle.text_tree.specs.Tree.{Tree, Declared, lettersOf, tooDeep}
 use Rattle.text_tree.specs.inner.Stored.{literalOperator, literalPayload, Record, Stored}
 use Rattle.text_grammar.specs.declared.Reading.{Reading}
 use Rattle.text_grammar.specs.declared.Letters.{Letters}
 use Rattle.text_grammar.specs.declared.Syntax.{Syntax}
 use Rattle.text_grammar.specs.Grammar.{Level, unit}
-use Rattle.text_grammar.specs.Parser.{Part, missing, found, mapPart, operand, rank, parseAt, lettersAt, afterLetters, failed, read, parsed}
+use Rattle.text_grammar.specs.Parser.{Part, missing, found, mapPart, operand, rank, parseAt, setsAt, afterSets, failed, read, parsed}
 
 -- A reader at position `at` of the text s, with n numbers in the table and d of `(`, `~` and quantifiers around it. Each
 -- byte gives at most one record, so a text of 4,096 bytes fits 8,192 numbers.
@@ -67,11 +67,11 @@ pub record Keeps (n v : ℕ) (before after : List ℕ) (r : ℕ) : Type 0 where
   pub holds : n < length before → (after ≡ set before n v) × (r ≡ n + 1)
   pub full : length before ≤ n → (after ≡ before) × (r ≡ n)
 
--- The set letters at `at`, for every bound that suffices: the first of them, as many as there is room for, stand in the table.
+-- The sets declared at `at`, for every bound that suffices: the letters of the first, as many as there is room for, stand in the table.
 pub record LettersRead (s : List ℕ) (at : ℕ) (letters : List ℕ) (r : Letters) : Type 0 where
   pub few : r .count ≤ length letters
-  pub kept : (f : ℕ) → length s ≤ f + at → take (r .count) letters ≡ take (length letters) (lettersAt f s at)
-  pub ends : (f : ℕ) → length s ≤ f + at → r .next ≡ afterLetters f s at
+  pub kept : (f : ℕ) → length s ≤ f + at → take (r .count) letters ≡ take (length letters) (lettersOf (setsAt f s at))
+  pub ends : (f : ℕ) → length s ≤ f + at → r .next ≡ afterSets f s at
   pub within : r .next ≤ length s
   pub onward : at ≤ r .next
 
@@ -81,15 +81,15 @@ pub record Lent (s out letters : List ℕ) : Type 0 where
   pub wide : 8192 ≤ length out
   pub some : 1 ≤ length letters
 
--- What it ensures: the text's set letters and tree, the tree's records and the first letters in the tables, and ground 4.
+-- What it ensures: the text's declared sets and tree, the tree's records and the first letters in the tables, and ground 4.
 pub record Whole (s after letters : List ℕ) (r : Syntax) : Type 0 where
-  pub sets : List ℕ
+  pub sets : List Declared
   pub tree : Tree
   pub is : parsed s ≡ read sets tree
   pub stored : Stored after (r .end) tree
   pub deeper : r .deep ≡ tooDeep 0 tree
   pub few : r .sets ≤ length letters
-  pub kept : take (r .sets) letters ≡ take (length letters) sets
+  pub kept : take (r .sets) letters ≡ take (length letters) (lettersOf sets)
   pub fits : r .end ≤ 8192
 
 pub record Parsed (s after letters : List ℕ) (r : Syntax) : Type 0 where

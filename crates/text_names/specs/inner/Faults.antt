@@ -5,10 +5,14 @@ use mathlib.Core.List.{List, [], _∷_}
 use Prim.Native.Nat.{ℕ, _-_}
 use Rattle.logic.specs.Formula.{Literal}
 use Rattle.logic.specs.Configuration.{inMask}
-use Rattle.text_tree.specs.Tree.{Tree}
+use Rattle.text_tree.specs.Tree.{Tree, Declared, lettersOf}
 use Rattle.text_tree.specs.inner.Stored.{literalOperator, literalPayload, Stored}
 use Rattle.text_names.specs.declared.Faults.{Faults}
-use Rattle.text_core.specs.Names.{among, misnamedLiteral, misnamed, highLiteral, ground6, fourth, ground7, Variable, LetteredLiteral, Lettered}
+use Rattle.text_core.specs.Names.{among, misdeclared, misnamedLiteral, misnamed, highLiteral, ground6, fourth, ground7, Variable, LetteredLiteral, Lettered}
+
+-- Ground 5 of every declaration that has these letters.
+unfoldable pub Misdeclares : List ℕ → Bool → Type 0
+Misdeclares letters r = (sets : List Declared) → lettersOf sets ≡ letters → r ≡ misdeclared sets
 
 -- A mask of the bound letters, `a` being bit 0.
 unfoldable pub Marks : ℕ → List ℕ → Type 0
@@ -47,7 +51,7 @@ pub record Found (sets : List ℕ) (bound d : ℕ) (a : Tree) (r : Faults) : Typ
 unfoldable pub Finds : List ℕ → ℕ → List ℕ → ℕ → ℕ → Faults → Type 0
 Finds t e sets bound d r = (a : Tree) → Stored t e a → Lettered a → Found sets bound d a r
 
--- The faults of the formula: ground 5 but for the declared list, grounds 6 and 7.
+-- The faults of the formula: ground 5 but for the declaration, grounds 6 and 7.
 pub record FormulaFaults (sets : List ℕ) (a : Tree) (r : Faults) : Type 0 where
   pub names-is : r .names ≡ misnamed sets [] a
   pub constants-is : r .constants ≡ ground6 a

@@ -1,5 +1,5 @@
--- `tokens::next_token` meets its contract: a walk of its MIR, by hand. The position's borrow is opened, its number is read, `token_at` is called on the slice and the number, the number is written, and the borrow is closed.
--- All that the proof knows of `token_at` is that it meets its contract. The slice is Copy: one copy goes to the callee, one is kept for the exit.
+-- `text_tokens::next_token` meets its contract: a walk of its MIR, by hand. The position's borrow is opened, its number is read, `token_from` is called on the slice and the number, the number is written, and the borrow is closed.
+-- All that the proof knows of `token_from` is that it meets its contract. The slice is Copy: one copy goes to the callee, one is kept for the exit.
 -- Assumes nothing.
 use mathlib.Core.Path.{_≡_, refl, ap}
 use mathlib.Core.List.{[], _∷_, List}
@@ -43,15 +43,15 @@ use types.SemTy.{Body}
 use sound.WpLaws.{FmC, fmOf, WpFn-mono}
 use Rattle.text_tokens.specs.Tokens.{tokenAt}
 use Rattle.text_tokens.specs.declared.Token.{Token}
-use Rattle.text_tokens.proofs.token_at.Symbol.{name as #text-tokens·token-at}
+use Rattle.text_tokens.proofs.token_from.Symbol.{name as #text-tokens·token-from}
 use Rattle.text_tokens.specs.declared.Position.{Position}
 use Rattle.text_tokens.proofs.next_token.Key.{name as #text-tokens·next-token}
 use denote.Struct.Laws as LL
 use Rattle.text_tokens.proofs.Token as S
 use Rattle.text_tokens.proofs.Token.Laws as S′
-use Rattle.text_tokens.proofs.token_at as token
-use Rattle.text_tokens.proofs.token_at.Symbol as token-def
-use Rattle.text_tokens.proofs.token_at.Met as token-thm
+use Rattle.text_tokens.proofs.token_from as token
+use Rattle.text_tokens.proofs.token_from.Symbol as token-def
+use Rattle.text_tokens.proofs.token_from.Met as token-thm
 use Rattle.text_tokens.proofs.Position as T
 use Rattle.text_tokens.proofs.Position.Laws as T′
 use Rattle.text_tokens.proofs.next_token as next
@@ -65,8 +65,8 @@ abbrev stayed : Stays (next.ended .signature .params) (next.ended .kept)
 stayed = (stay-none-slice (0 ∷ []) tt (plain (λ _. u8)) yes, (stay-ref (1 ∷ []) tt (plain (λ _. T.the-row)), tt))
 
 -- the contract that the proof cites
-abbrev TokenAt : {M : Type 1} (𝓤 : URA M) (H : Heap 𝓤) (A : Atoms 𝓤) (at-mem : Memory → SProp 𝓤) (run : Routine → Fun 𝓤) → Contract 𝓤
-TokenAt 𝓤 H A at-mem run = tripleOf 𝓤 H A token.signature (token.spec 𝓤 H A at-mem run)
+abbrev TokenFrom : {M : Type 1} (𝓤 : URA M) (H : Heap 𝓤) (A : Atoms 𝓤) (at-mem : Memory → SProp 𝓤) (run : Routine → Fun 𝓤) → Contract 𝓤
+TokenFrom 𝓤 H A at-mem run = tripleOf 𝓤 H A token.signature (token.spec 𝓤 H A at-mem run)
 
 module _ {M : Type 1} (𝓤 : URA M) (H : Heap 𝓤) (A : Atoms 𝓤) (W : Given 𝓤 H A) (at-mem : Memory → SProp 𝓤) (run : Routine → Fun 𝓤) (κ κ′ : Lft) (bounds : AllOutlive 2 (next.signature .outlives) (κ, (κ′, tt))) (q q′ : Share) (s : RefT (List ℕ)) (b o : ℕ) (γ : GName) (h : Position) where
   abbrev x : Arg
@@ -99,10 +99,10 @@ module _ {M : Type 1} (𝓤 : URA M) (H : Heap 𝓤) (A : Atoms 𝓤) (W : Given
   made n fits = LL.owes T.the-type T′.the-laws (record { at = n }) ((refl, fits), tt)
 
   -- the call
-  abbrev to : TokenAt 𝓤 H A at-mem run .Ghost
+  abbrev to : TokenFrom 𝓤 H A at-mem run .Ghost
   to = (((κ, tt), (q, tt), tt, (s, (h .at, tt)), (v ∷ [], (vint w64 (h .at) ∷ [], tt))), tt)
 
-  asked : h .at < 2 ^ 64 → h .at ≤ length (s .now) → ent 𝓤 (sep 𝓤 (A .lft κ q) (sem 𝓤 H A Own)) (TokenAt 𝓤 H A at-mem run .pre to)
+  asked : h .at < 2 ^ 64 → h .at ≤ length (s .now) → ent 𝓤 (sep 𝓤 (A .lft κ q) (sem 𝓤 H A Own)) (TokenFrom 𝓤 H A at-mem run .pre to)
   asked fits within =
       qed W (‵ (flft κ q) ∷ ‵ Own ∷ []) ∵ says ! within $ nothing ! $ move ! (1 ∷ 0 ∷ []) $ join ! $ frame ! $
       nothing ! $ owned ! usize (Is usize) (uint-makes 𝓤 H A W w64) (h .at) _ (refl, fits) $ fjoin ! $ move ! (1 ∷ 0 ∷ []) $ fjoin ! $ done !
@@ -117,7 +117,7 @@ module _ {M : Type 1} (𝓤 : URA M) (H : Heap 𝓤) (A : Atoms 𝓤) (W : Given
       move ! (4 ∷ []) $ split ! $ move ! (4 ∷ 1 ∷ []) $ join ! $ move ! (1 ∷ 0 ∷ []) $ join ! $ frame ! $
       feqI ! (List Val) (vptr b o ∷ []) (vptr b o ∷ []) refl $ fjoin3 ! $ nothing ! $ move ! (1 ∷ 0 ∷ []) $ fjoin ! $ move ! (2 ∷ 0 ∷ []) $ fjoin ! $ done !
 
-  module _ (C : Calls 𝓤 H) (Λ : Loops 𝓤 H) (fm : FmC 𝓤 H (W .laws) C) (known : Triple 𝓤 (C #text-tokens·token-at) (TokenAt 𝓤 H A at-mem run)) where
+  module _ (C : Calls 𝓤 H) (Λ : Loops 𝓤 H) (fm : FmC 𝓤 H (W .laws) C) (known : Triple 𝓤 (C #text-tokens·token-from) (TokenFrom 𝓤 H A at-mem run)) where
     walk : Is (ShrSlice (named 0) κ u8) s (v ∷ []) → h .at ≤ length (s .now) → ent 𝓤 (onEntry 𝓤 H A next.signature (κ, (κ′, tt)) (q, (q′, tt)) x at) (WpFn 𝓤 H C Λ code.function (v ∷ vptr b o ∷ []) Post)
     walk p within =
         qed W ((‵ (flft κ q) ⊛ ‵ (flft κ′ q′) ⊛ ‵ ftrue) ∷ ‵ (owns (ShrSlice (named 0) κ u8 ∷ MutRef (named 1) κ′ T.the-row ∷ []) x at) ∷ []) ∵ enter ! C Λ code.function (v ∷ vptr b o ∷ []) _ $
@@ -131,8 +131,8 @@ module _ {M : Type 1} (𝓤 : URA M) (H : Heap 𝓤) (A : Atoms 𝓤) (W : Given
         assigns ! (of-opd ! (load ! (from ! (hop ! (look ! 13 refl) (fld ! refl (stop !)))) (look-in ! 0 (sub ! 0 refl (whole !))))) (from ! (stop !)) (init ! 9 refl (tt, record { fits = LL.owed T.the-type T′.the-laws h _ was .0 .1 })) $
         -- the call, on a copy of the slice
         move ! (8 ∷ []) $ use1 W (‵ Own ⊛ ‵ Own) (shr-slice-copy 𝓤 H A W (named 0) κ u8 .twice s (v ∷ [])) $ split ! $ move ! (8 ∷ 0 ∷ []) $
-        use2 W (raw (TokenAt 𝓤 H A at-mem run .pre to)) (asked (LL.owed T.the-type T′.the-laws h _ was .0 .1) within) $
-        calls-at ! fm (TokenAt 𝓤 H A at-mem run) known to (and-then ! (load ! (from ! (stop !)) (look ! 15 refl)) (and-then ! (load ! (from ! (stop !)) (look ! 9 refl)) (no-more !))) (λ u.
+        use2 W (raw (TokenFrom 𝓤 H A at-mem run .pre to)) (asked (LL.owed T.the-type T′.the-laws h _ was .0 .1) within) $
+        calls-at ! fm (TokenFrom 𝓤 H A at-mem run) known to (and-then ! (load ! (from ! (stop !)) (look ! 15 refl)) (and-then ! (load ! (from ! (stop !)) (look ! 9 refl)) (no-more !))) (λ u.
         use1 W (later (some (λ (r : Token). ((‵ (flft κ q) ⊛ ‵ ftrue) ⊛ ‵ (S.the-row .own r (u ∷ []))) ⊛ raw (ensured 𝓤 H A token.ended (token.clauses 𝓤 H A at-mem run) (κ, tt) (s, (h .at, tt)) tt r)))) (id⊢ 𝓤 _) $ await ! tt $ pick ! (λ r.
         split ! $ move ! (1 ∷ []) $ use1 W (raw (fact 𝓤 (r ≡ found))) (said r) $ heard ! (r ≡ found) (λ e. split ! $ move ! (1 ∷ []) $
         -- [the result; the slice's token; what the slice owns; the cell; what a Position owns; the open borrow; obs; auth; true; true; _4; …; room for _3; …; _2; …; _1; …; room for _0; …]
@@ -150,7 +150,7 @@ module _ {M : Type 1} (𝓤 : URA M) (H : Heap 𝓤) (A : Atoms 𝓤) (W : Given
         keep ! (0 ∷ 1 ∷ 2 ∷ 3 ∷ 4 ∷ 5 ∷ []) $ by ! (exits r _ e))))))))))))
 
 module _ {M : Type 1} (𝓤 : URA M) (H : Heap 𝓤) (A : Atoms 𝓤) (W : Given 𝓤 H A) (at-mem : Memory → SProp 𝓤) (run : Routine → Fun 𝓤) where
-  next-walks : (C : Calls 𝓤 H) (Λ : Loops 𝓤 H) → FmC 𝓤 H (W .laws) C → Triple 𝓤 (C #text-tokens·token-at) (TokenAt 𝓤 H A at-mem run) → Walks 𝓤 H A next.ended stayed (WpFn 𝓤 H C Λ code.function) (next.clauses 𝓤 H A at-mem run)
+  next-walks : (C : Calls 𝓤 H) (Λ : Loops 𝓤 H) → FmC 𝓤 H (W .laws) C → Triple 𝓤 (C #text-tokens·token-from) (TokenFrom 𝓤 H A at-mem run) → Walks 𝓤 H A next.ended stayed (WpFn 𝓤 H C Λ code.function) (next.clauses 𝓤 H A at-mem run)
   next-walks C Λ fm known = walked 𝓤 H A next.ended stayed (next.clauses 𝓤 H A at-mem run) (WpFn 𝓤 H C Λ code.function) (λ κs. (slice-vals, (ptr-vals, tt))) (λ κs. (shr-slice-tells (named 0) (κs .0) u8, (mut-tells (named 1) (κs .1 .0) T.the-row, tt)))
       (λ κs qs bounds a g are. needs 𝓤 (a .1 .0 .now .at ≤ length (a .0 .now)) _
       (walk 𝓤 H A W at-mem run (κs .0) (κs .1 .0) bounds (qs .0) (qs .1 .0) (a .0) (a .1 .0 .ptr .0) (a .1 .0 .ptr .1) (a .1 .0 .name) (a .1 .0 .now) C Λ fm known (are .0)))
@@ -158,7 +158,7 @@ module _ {M : Type 1} (𝓤 : URA M) (H : Heap 𝓤) (A : Atoms 𝓤) (W : Given
   goes : AllGo 𝓤 H A W 2 (next.signature .params) (next.ended .kept) stayed
   goes = (goes-none-slice 𝓤 H A W 2 (0 ∷ []) tt (plain (λ _. u8)) yes, (goes-ref 𝓤 H A W 2 1 tt (plain (λ _. T.the-row)), tt))
 
-next-meets : {M : Type 1} (𝓤 : URA M) (H : Heap 𝓤) (A : Atoms 𝓤) → Given 𝓤 H A → (at-mem : Memory → SProp 𝓤) (run : Routine → Fun 𝓤) (𝓣 : Tables 𝓤 H) → Triple 𝓤 (𝓣 .C #text-tokens·token-at) (TokenAt 𝓤 H A at-mem run)
+next-meets : {M : Type 1} (𝓤 : URA M) (H : Heap 𝓤) (A : Atoms 𝓤) → Given 𝓤 H A → (at-mem : Memory → SProp 𝓤) (run : Routine → Fun 𝓤) (𝓣 : Tables 𝓤 H) → Triple 𝓤 (𝓣 .C #text-tokens·token-from) (TokenFrom 𝓤 H A at-mem run)
     → Meets 𝓤 H A next.signature (WpFn 𝓤 H (𝓣 .C) (𝓣 .Λ) code.function) (next.spec 𝓤 H A at-mem run)
 next-meets 𝓤 H A W at-mem run 𝓣 known = walk-meets 𝓤 H A next.ended stayed W (goes 𝓤 H A W at-mem run) (next.clauses 𝓤 H A at-mem run) (WpFn 𝓤 H (𝓣 .C) (𝓣 .Λ) code.function) (WpFn-mono 𝓤 H (W .laws) 𝓣 code.function) (next-walks 𝓤 H A W at-mem run (𝓣 .C) (𝓣 .Λ) (fmOf 𝓤 H (W .laws) 𝓣) known)
 
@@ -168,4 +168,4 @@ next-token-spec 𝓤 H 𝓜 𝓖 𝓡 =
     entered 𝓤 H (tripleOf 𝓤 H (𝓖 .A) next.signature (next.spec 𝓤 H (𝓖 .A) (𝓜 .mem) (𝓡 .run)))
     (tables 𝓤 H 𝓜 𝓡 code.env .C) (tables 𝓤 H 𝓜 𝓡 code.env .Λ) #text-tokens·next-token code.function (code.unfolded 𝓤 H 𝓜 𝓡)
     (next-meets 𝓤 H (𝓖 .A) (givenOf 𝓤 H 𝓜 𝓖) (𝓜 .mem) (𝓡 .run) (tablesOf 𝓤 H 𝓜 (tables 𝓤 H 𝓜 𝓡 code.env))
-    (cited 𝓤 H (TokenAt 𝓤 H (𝓖 .A) (𝓜 .mem) (𝓡 .run)) 𝓜 𝓡 code.env #text-tokens·token-at token-def.routine code.calls-text-tokens·token-at (token-thm.met 𝓤 H 𝓜 𝓖 𝓡)))
+    (cited 𝓤 H (TokenFrom 𝓤 H (𝓖 .A) (𝓜 .mem) (𝓡 .run)) 𝓜 𝓡 code.env #text-tokens·token-from token-def.routine code.calls-text-tokens·token-from (token-thm.met 𝓤 H 𝓜 𝓖 𝓡)))
