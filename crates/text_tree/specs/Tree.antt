@@ -2,7 +2,7 @@
 use mathlib.Core.Bool.{Bool, _||_}
 use Prim.Native.Nat.{ℕ, suc}
 use lib.Dec.{ltb}
-use Rattle.logic.specs.Formula.{Literal}
+use Rattle.logic.specs.Formula.{Test, Literal, literalOf}
 
 -- "`@v` unit (for all), `?v` unit (exists)"
 pub data Quantifier : Type 0 where
@@ -19,6 +19,10 @@ pub data Tree : Type 0 where
   neg par : Tree → Tree
   bind : Quantifier → ℕ → Tree → Tree
   join : Join → Tree → Tree → Tree
+
+-- The literal of a test, as a tree.
+abbrev pub leafOf : Test → Tree
+leafOf t = leaf (literalOf t)
 
 -- Ground 4: "more than 64 of `(`, `~` and quantifiers around one token", with d of them around the whole.
 unfoldable pub tooDeep : ℕ → Tree → Bool
