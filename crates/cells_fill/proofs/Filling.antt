@@ -6,34 +6,33 @@ use Prim.Native.Nat.{ℕ, suc, _+_, _-_, _*_, _^_, _≤_, _<_}
 use native.Mathlib.Nat.{le-trans, add-zero, suc-add, mul-le-mul-right, mul-left-comm, pow-suc}
 use native.Mathlib.Numerals.{add-one}
 use native.Mathlib.Omega.{arith}
-use lib.Dec.{ltb}
 use lib.ListN.{length, getD, take, drop, length-append, length-drop, take-append-drop, List·getD-append}
 use lib.Seq.{drop-at, length-take-le, ext-getD, drop-append-add}
 use borrow.Author.Tests.{leb-true}
-use Rattle.logic.specs.Formula.{isin, notin, port, size, Node, root, all, any, and, or, lit, Forest, none, tree, kindNumber, nodeCount, childDepth}
-use Rattle.logic.specs.inner.Literals.{Every, OfLiteral, ConstantLow, ConstantsLow}
+use Rattle.logic.specs.Formula.{Node, root, all, any, and, or, lit, Forest, none, tree, kindNumber, nodeCount, childDepth}
+use Rattle.logic.specs.inner.Literals.{ConstantLow, ConstantsLow}
 use Rattle.logic.specs.Configuration.{Configuration, configured, inMasks}
 use Rattle.logic.specs.Truth.{Tuple}
 use Rattle.logic.specs.Penalty.{sum, below, penalties, penalty}
 use Rattle.logic.specs.Cells.{cellCount, tupleAt, tabulate, layout}
 use Rattle.logic.proofs.Tables.{length-tabulate, getD-tabulate, tabulate-cong, length-layout}
-use Rattle.logic.proofs.Lists.{and-right}
 use Rattle.logic.proofs.Bound.{spread, spread-pos, subtreeCells, subtree-count, below-penalties-le, literals-low, ports-in-le}
 use Rattle.logic.proofs.Lent.{lent, back, lent-is, back-is, back-length}
 use Rattle.table_format.specs.Bytes.{recordLength, kindField, relationField, aField, bField, endField, relationByte, aByte, bByte, nodeOf, records}
-use Rattle.table_format.specs.Rules.{everyNode, nodeRule, innerRule, literalRule, depthRule, treeCount, arityRule}
+use Rattle.table_format.specs.Rules.{everyNode, nodeRule, depthRule, treeCount, arityRule}
 use Rattle.table_format.specs.inner.Tests.{fieldRule, kindDepth, kindWidth}
 use Rattle.table_format.specs.Decode.{forestOf}
 use Rattle.table_format.proofs.Parts.{siblingsOf, rest-all, length-rest-all, one-fits, some-record, length-children, end-below, children-below, siblings-below, span-within}
 use Rattle.table_format.proofs.Bytes.{record-pos, kind-of-record, relation-of-record, a-of-record, b-of-record, end-of-record}
 use Rattle.table_format.proofs.Encoding.{forest-of-records, length-records, node-of-record, children-part, siblings-part}
 use Rattle.table_format.proofs.FieldRules.{node-fields, kind-depth, kind-depth-le, kind-width}
+use Rattle.table_format.proofs.Facts.{every-inner, constant-low}
 use Rattle.table_format.proofs.Laid.{kidsOf, restOf, width-low}
 use Rattle.table_format.proofs.Rooted.{every-node}
 use Rattle.cells_join.specs.inner.Joined.{joinAll, merged, joinOf, spreadOf}
 use Rattle.cells_fill.specs.inner.Fill.{startCell, treewise, config, table, StartPlaced, started, FillPlaced, Filled, Fills}
 use Rattle.cells_join.proofs.Prefix.{join-append}
-use Rattle.cells_fill.proofs.Values.{own-cell, cells-below, table-tree}
+use Rattle.cells_fill.proofs.Values.{literal-spread, own-cell, cells-below, table-tree}
 
 length-table : (u : ℕ) (k : Configuration) (f : Forest) (d : ℕ) → length (table u k f d) ≡ cellCount u f d
 unfolding table
@@ -110,24 +109,9 @@ fill-opened l i up depth sets e m c s is rules en =
     }
 
 -- the constants of nodes that keep the rules are low
-of-node : (sets d : ℕ) (n : Node) → innerRule sets n d ≡ true → OfLiteral ConstantLow n
-unfolding innerRule literalRule OfLiteral ConstantLow
-of-node sets d root h = tt
-of-node sets d all h = tt
-of-node sets d any h = tt
-of-node sets d and h = tt
-of-node sets d or h = tt
-of-node sets d (lit (isin v S)) h = tt
-of-node sets d (lit (notin v S)) h = tt
-of-node sets d (lit (port r v w)) h = tt
-of-node sets d (lit (size r S c)) h = leb-true c 64 (and-right (ltb S sets) _ h)
-
 pub constants-low : (sets : ℕ) (f : Forest) (d : ℕ) → everyNode (nodeRule sets) f d ≡ true → ConstantsLow f d
-unfolding ConstantsLow Every
-constants-low sets none d h = tt
-constants-low sets (tree n c s) d h =
-    let r = every-node sets n c s d h in
-    (of-node sets d n (r .0), constants-low sets c (childDepth n d) (r .4), constants-low sets s d (r .5))
+unfolding ConstantsLow
+constants-low sets f d h = every-inner sets (λ i t. ConstantLow t) (constant-low sets) f d h
 
 -- the cells for one tuple, of a tree and of its parts
 pub few-parts : (u : ℕ) (m : Node) (c s : Forest) → 1 ≤ u → cellCount u (tree m c s) 0 ≤ 1048576
@@ -373,10 +357,7 @@ spread-width all ports outer = sym (pow-suc ports outer)
 spread-width any ports outer = sym (pow-suc ports outer)
 spread-width and ports outer = omega arith
 spread-width or ports outer = omega arith
-spread-width (lit (isin v S)) ports outer = omega arith
-spread-width (lit (notin v S)) ports outer = omega arith
-spread-width (lit (port r v w)) ports outer = omega arith
-spread-width (lit (size r S c)) ports outer = omega arith
+spread-width (lit l) ports outer = rw (literal-spread (l .test) ports) (omega arith)
 
 pub fill-facts : (l : List ℕ) (i above ports sets depth width over at : ℕ) (masks xs : List ℕ) → FillPlaced l i above ports sets depth width over at masks xs
     → recordLength ≤ length l → (e : ℕ) → e ≡ endField l

@@ -1,21 +1,25 @@
 -- What a node's cells come to when all below them is joined: Definition 5's penalty. Assumes nothing.
 use mathlib.Core.Path.{_≡_, refl, sym, ap, ap₂, _∙_}
-use mathlib.Core.Bool.{true}
+use mathlib.Core.Bool.{Bool, true, cond}
 use mathlib.Core.List.{List, [], _∷_, _++_, append-nil}
 use Prim.Native.Nat.{ℕ, zero, suc, _+_, _-_, _*_, _%_, _^_, _≤_, _<_, min}
 use native.Mathlib.Nat.{mod-eq-of-lt, pow-suc, mul-one, min-le-left, add-zero}
 use native.Mathlib.Omega.{arith}
+use lib.Dec.{leb}
 use lib.Arith.{digits-div, digits-mod, digits-lt}
 use lib.ListN.{length, getD, take, drop, length-drop, length-append, List·getD-append}
 use lib.Seq.{take-suc, getD-drop}
-use borrow.Author.Tests.{eqb-true, leb-true}
-use Rattle.logic.specs.Formula.{isin, notin, port, size, Node, root, all, any, and, or, lit, Forest, none, tree, kindNumber, childDepth}
+use borrow.Author.Tests.{eqb-true, leb-true, lt-leb}
+use Rattle.logic.specs.Formula.{Test, Node, root, all, any, and, or, lit, Forest, none, tree, testKind, kindNumber, childDepth}
 use Rattle.logic.specs.Configuration.{Configuration}
 use Rattle.logic.specs.Truth.{Tuple}
 use Rattle.logic.specs.Penalty.{sum, least, copy, combine, literalPenalty, eachPort, below, penalties, penalty}
 use Rattle.logic.specs.Cells.{tupleAt, tabulate, siblingFirst, layout}
+use Rattle.logic.proofs.Lists.{and-false}
+use Rattle.logic.proofs.Relations.{test-kind-range}
 use Rattle.logic.proofs.Tables.{length-tabulate, getD-tabulate}
 use Rattle.table_format.specs.Rules.{treeCount, arityRule}
+use Rattle.table_format.proofs.FieldRules.{literal-children}
 use Rattle.cells_join.specs.inner.Joined.{meet, unitOf, joinAll, joinOf, spreadOf}
 use Rattle.cells_fill.specs.inner.Fill.{startCell, treewise, table}
 
@@ -103,6 +107,12 @@ one-long u k none e h = absurd (omega arith)
 one-long u k (tree m c none) e h = refl
 one-long u k (tree m c (tree x y z)) e h = absurd (omega arith)
 
+-- a literal has one cell below each of its own
+pub literal-spread : (t : Test) (u : ℕ) → spreadOf (testKind t) u ≡ 1
+unfolding spreadOf
+literal-spread t u =
+    ap (λ (b : Bool). cond b u 1) (and-false (leb 1 (testKind t)) _ (λ _. lt-leb (testKind t) 2 (omega (arith, test-kind-range t))))
+
 -- The joined cell is the penalty.
 pub own-cell : (u : ℕ) (k : Configuration) (n : Node) (c : Forest) (e : Tuple) → 1 ≤ u → arityRule (kindNumber n) (treeCount c) ≡ true
     → sum (below u n e (penalties u k c)) < 4294967296 → joinAll (joinOf (kindNumber n)) (startCell k n e) (treewise u k n c e) ≡ penalty u k n c e
@@ -118,10 +128,8 @@ own-cell u k and c e h a s = let b = below-trees u k and c e a in join-sum 0 (tr
 own-cell u k or c e h a s =
     let b = below-trees u k or c e a in
     join-minimum (treewise u k or c e) (trees-pos u k or c e h (omega (arith, leb-true 2 (treeCount c) a))) (rw (← b) s) ∙ ap least (sym b)
-own-cell u k (lit (isin v S)) c e h a s = ap (λ (f : Forest). joinAll (1 - 5 % 2) (literalPenalty k (isin v S) e) (treewise u k (lit (isin v S)) f e)) (no-tree c (eqb-true (treeCount c) 0 a))
-own-cell u k (lit (notin v S)) c e h a s = ap (λ (f : Forest). joinAll (1 - 6 % 2) (literalPenalty k (notin v S) e) (treewise u k (lit (notin v S)) f e)) (no-tree c (eqb-true (treeCount c) 0 a))
-own-cell u k (lit (port r v w)) c e h a s = ap (λ (f : Forest). joinAll (1 - 7 % 2) (literalPenalty k (port r v w) e) (treewise u k (lit (port r v w)) f e)) (no-tree c (eqb-true (treeCount c) 0 a))
-own-cell u k (lit (size r S x)) c e h a s = ap (λ (f : Forest). joinAll (1 - 8 % 2) (literalPenalty k (size r S x) e) (treewise u k (lit (size r S x)) f e)) (no-tree c (eqb-true (treeCount c) 0 a))
+own-cell u k (lit l) c e h a s =
+    ap (λ (f : Forest). joinAll (1 - testKind (l .test) % 2) (literalPenalty k l e) (treewise u k (lit l) f e)) (no-tree c (literal-children (l .test) (treeCount c) a))
 
 -- the cells of a row that stand below one cell
 module _ (u : ℕ) (g : Tuple → ℕ) (rest : List ℕ) where
@@ -161,10 +169,7 @@ module _ (u : ℕ) (g : Tuple → ℕ) (rest : List ℕ) where
   cells-below any d t h = ports-below d t h u (omega arith)
   cells-below and d t h = one-below d t h
   cells-below or d t h = one-below d t h
-  cells-below (lit (isin v S)) d t h = one-below d t h
-  cells-below (lit (notin v S)) d t h = one-below d t h
-  cells-below (lit (port r v w)) d t h = one-below d t h
-  cells-below (lit (size r S c)) d t h = one-below d t h
+  cells-below (lit l) d t h = rw (literal-spread (l .test) u) (one-below d t h)
 
 -- a rule that does not look at first cells lays out the same table anywhere
 layout-anywhere : (u : ℕ) (k : Configuration) (f : Forest) (b b′ d : ℕ)

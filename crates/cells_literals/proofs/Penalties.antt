@@ -2,42 +2,27 @@
 use mathlib.Core.Path.{_≡_, refl}
 use mathlib.Core.Bool.{Bool, true, false, _&&_}
 use mathlib.Core.List.{List, _++_}
-use Prim.Native.Nat.{ℕ, zero, suc, _≤_, _<_}
+use Prim.Native.Nat.{ℕ, _≤_, _<_}
 use native.Mathlib.Omega.{arith}
 use native.Mathlib.Decide.{decLe}
 use lib.Dec.{eqb, leb, ltb}
 use lib.ListN.{getD, drop}
 use borrow.Author.Tests.{eq-eqb, ne-eqb, le-leb, lt-leb, leb-true, ltb-true}
-use Rattle.logic.specs.Formula.{isin, notin, port, size, lit, relationOf}
+use Rattle.logic.specs.Formula.{isin, notin, port, size, literalOf, relationOf}
 use Rattle.logic.specs.Configuration.{portsIn, inMask, configured, inMasks}
 use Rattle.logic.specs.Truth.{portOf}
 use Rattle.logic.specs.Penalty.{literalPenalty}
 use Rattle.logic.specs.Cells.{tupleAt, tabulate}
 use Rattle.logic.proofs.Lists.{and-left, and-right}
 use Rattle.logic.proofs.Masks.{ports-within}
-use Rattle.table_format.specs.Bytes.{nodeOf}
+use Rattle.table_format.specs.Bytes.{testOf}
 use Rattle.table_format.specs.inner.Tests.{fieldRule}
-use Rattle.cells_literals.specs.inner.Literal.{literalOf, LiteralPlaced}
+use Rattle.cells_literals.specs.inner.Literal.{LiteralPlaced}
 use Rattle.cells_rule.specs.inner.Rule.{rulePenalty, Operands}
 use Rattle.cells_rule.proofs.Rules.{rule-is}
 use Rattle.cells_runs.specs.inner.Ports.{blockOf, digitAt, RunsPlaced, NestedPlaced, BlocksPlaced}
 use Rattle.cells_runs.proofs.Runs.{same-cells}
 use Rattle.cells_runs.proofs.Digits.{port-digit, block-pos, block-whole, block-nested, block-once}
-
--- The literal of a literal's record is what the plan table decodes it to.
-pub literal-node : (kind r a b : ℕ) → 5 ≤ kind → nodeOf kind r a b ≡ lit (literalOf kind r a b)
-unfolding nodeOf literalOf
-literal-node zero r a b h = absurd (omega arith)
-literal-node (suc zero) r a b h = absurd (omega arith)
-literal-node (suc (suc zero)) r a b h = absurd (omega arith)
-literal-node (suc (suc (suc zero))) r a b h = absurd (omega arith)
-literal-node (suc (suc (suc (suc zero)))) r a b h = absurd (omega arith)
-literal-node (suc (suc (suc (suc (suc zero))))) r a b h = refl
-literal-node (suc (suc (suc (suc (suc (suc zero)))))) r a b h = refl
-literal-node (suc (suc (suc (suc (suc (suc (suc zero))))))) r a b h = refl
-literal-node (suc (suc (suc (suc (suc (suc (suc (suc k)))))))) r a b h =
-    let n = suc (suc (suc (suc (suc (suc (suc (suc k))))))) in
-    rw (ne-eqb n 5 (λ e. omega arith), ne-eqb n 6 (λ e. omega arith), ne-eqb n 7 (λ e. omega arith))
 
 last-two : (x y z : Bool) → (x && y && z) ≡ true → (y ≡ true) × (z ≡ true)
 last-two x y z h = (and-right x y (and-left (x && y) z h), and-right (x && y) z h)
@@ -45,7 +30,7 @@ last-two x y z h = (and-right x y (and-left (x && y) z h), and-right (x && y) z 
 module _ {sets kind r a b ports depth width : ℕ} {masks cells : List ℕ} (p : LiteralPlaced sets kind r a b ports depth width masks cells) where
   -- The literal's penalty at the t-th tuple.
   abbrev penaltyAt : ℕ → ℕ
-  penaltyAt t = literalPenalty (configured ports sets (inMasks masks)) (literalOf kind r a b) (tupleAt ports depth t)
+  penaltyAt t = literalPenalty (configured ports sets (inMasks masks)) (literalOf (testOf kind r a b)) (tupleAt ports depth t)
 
   -- what a record's fields are, by its kind
   pub member-fields : kind ≤ 6 → (a < depth) × (b < sets)
@@ -97,7 +82,7 @@ module _ {sets kind r a b ports depth width : ℕ} {masks cells : List ℕ} (p :
   member-at : kind ≤ 6 → (t : ℕ)
       → rulePenalty kind 0 (inMask (getD masks b 0) (digitAt ports (blockOf ports depth a) t)) 0 0
       ≡ penaltyAt t
-  unfolding Operands literalOf configured inMasks
+  unfolding Operands literalPenalty literalOf testOf configured inMasks
   member-at h t = rw (← port-digit ports depth a t (member-fields h .0)) (go (decLe kind 5))
     where
       go : Dec (kind ≤ 5)
@@ -113,7 +98,7 @@ module _ {sets kind r a b ports depth width : ℕ} {masks cells : List ℕ} (p :
   port-at : kind ≡ 7 → (t : ℕ)
       → rulePenalty 7 r false (digitAt ports (blockOf ports depth a) t) (digitAt ports (blockOf ports depth b) t)
       ≡ penaltyAt t
-  unfolding Operands literalOf
+  unfolding Operands literalPenalty literalOf testOf
   port-at h t =
       rw (← port-digit ports depth a t (port-fields h .0), ← port-digit ports depth b t (port-fields h .1), ne-eqb kind 5 (λ e. omega arith), ne-eqb kind 6 (λ e. omega arith), eq-eqb kind 7 h)
       (rule-is (configured ports sets (inMasks masks)) (port (relationOf r) a b) (tupleAt ports depth t) 7 r false _ _ (refl, refl, refl, refl))
@@ -121,7 +106,7 @@ module _ {sets kind r a b ports depth width : ℕ} {masks cells : List ℕ} (p :
   size-at : kind ≡ 8 → (t : ℕ)
       → rulePenalty 8 r false (portsIn 64 (inMask (getD masks a 0))) b
       ≡ penaltyAt t
-  unfolding Operands literalOf configured inMasks
+  unfolding Operands literalPenalty literalOf testOf configured inMasks
   size-at h t =
       rw (ne-eqb kind 5 (λ e. omega arith), ne-eqb kind 6 (λ e. omega arith), ne-eqb kind 7 (λ e. omega arith))
       (rule-is (configured ports sets (inMasks masks)) (size (relationOf r) a b) (tupleAt ports depth t) 8 r false _ b

@@ -11,11 +11,13 @@ ghost use mathlib.Core.Bool.{false};
 ghost use mathlib.Core.List.{_++_};
 ghost use Prim.Native.Nat.{_≤_, _<_};
 ghost use lib.ListN.{length, getD, drop};
+ghost use Rattle.logic.specs.Formula.{literalOf};
 ghost use Rattle.logic.specs.Configuration.{portsIn, inMask, configured, inMasks};
 ghost use Rattle.logic.specs.Penalty.{literalPenalty};
 ghost use Rattle.logic.specs.Cells.{tupleAt, tabulate};
+ghost use Rattle.table_format.specs.Bytes.{testOf};
 ghost use Rattle.cells_rule.specs.inner.Rule.{rulePenalty};
-ghost use Rattle.cells_literals.specs.inner.Literal.{literalOf, LiteralPlaced};
+ghost use Rattle.cells_literals.specs.inner.Literal.{LiteralPlaced};
 
 // The mask of a set.
 fn mask_at(masks: &[u64], set: usize) -> u64
@@ -48,7 +50,7 @@ pub fn put_literal(
     cells: &mut [u32],
 )
     requires { ⌜ LiteralPlaced sets kind relation a b ports depth width (now masks) (now cells) ⌝ }
-    ensures { λ _. ⌜ now (cells .exit) ≡ tabulate width (λ t. literalPenalty (configured ports sets (inMasks (now (masks .entry)))) (literalOf kind relation a b) (tupleAt ports depth t)) ++ drop width (now (cells .entry)) ⌝ }
+    ensures { λ _. ⌜ now (cells .exit) ≡ tabulate width (λ t. literalPenalty (configured ports sets (inMasks (now (masks .entry)))) (literalOf (testOf kind relation a b)) (tupleAt ports depth t)) ++ drop width (now (cells .entry)) ⌝ }
 {
     let count = ports as u32;
     if kind <= 6 {

@@ -10,8 +10,8 @@ use lib.Bits.{bitAnd, bitOr, and-zero-l, or-zero-r}
 use lib.Dec.{eqb, leb}
 use lib.ListN.{length}
 use borrow.Author.Tests.{eq-eqb, ne-eqb, le-leb, lt-leb}
-use Rattle.logic.specs.Formula.{Literal, isin, notin, port, size, Node, root, all, any, and, or, lit, Forest, none, tree, childDepth}
-use Rattle.logic.specs.inner.Literals.{Every, OfLiteral}
+use Rattle.logic.specs.Formula.{Test, isin, notin, port, size, Node, root, all, any, and, or, lit, Forest, none, tree, childDepth}
+use Rattle.logic.specs.inner.Literals.{Every, OfLiteral, OfTest}
 use Rattle.logic.specs.Configuration.{inMask}
 use Rattle.logic.specs.Truth.{Tuple, portOf}
 use Rattle.logic.specs.Moves.{Pair}
@@ -19,37 +19,37 @@ use Rattle.logic.specs.Change.{Change, someOf, memberHit, hit, nodeHit, forestH
 use Rattle.logic.specs.inner.Agreement.{listed}
 use Rattle.logic.proofs.Lists.{or-left, or-right, or-true-left, or-true-right, and-left, and-right, and-true}
 use Rattle.logic.proofs.Untouched.{port-out}
-use Rattle.table_format.specs.inner.Index.{nodeUses, forestUses}
+use Rattle.table_format.specs.inner.Index.{testUses, nodeUses, forestUses}
 use Rattle.cells_touch.specs.declared.Changed.{Changed}
 use Rattle.cells_touch.specs.inner.Hits.{meets, HitWord, Describes, level, otherLevels, atPort, firstWord, restWord, portWord, Marked}
 use Rattle.cells_touch.proofs.Bits.{in-and, in-or, in-zero, meets-zero, meets-power, meets-or}
 
 -- a node is hit where its own uses meet the word
 module _ (ch : Change) (e : Tuple) (w : ℕ) (word : HitWord ch e w) where
-  literal-meets : (l : Literal) → Marked l → hit ch l e ≡ meets (nodeUses (lit l)) w
-  unfolding hit nodeUses Marked
-  literal-meets (isin v S) m = sym (meets-power (4 * S + v) w ∙ word .members S v (m .1) (m .0))
-  literal-meets (notin v S) m = sym (meets-power (4 * S + v) w ∙ word .members S v (m .1) (m .0))
-  literal-meets (port r v w′) m = sym (meets-zero w)
-  literal-meets (size r S c) m = sym (meets-power (4 * S + 3) w ∙ word .sizes S m)
+  test-meets : (t : Test) → Marked t → hit ch t e ≡ meets (testUses t) w
+  unfolding hit testUses Marked
+  test-meets (isin v S) m = sym (meets-power (4 * S + v) w ∙ word .members S v (m .1) (m .0))
+  test-meets (notin v S) m = sym (meets-power (4 * S + v) w ∙ word .members S v (m .1) (m .0))
+  test-meets (port r v w′) m = sym (meets-zero w)
+  test-meets (size r S c) m = sym (meets-power (4 * S + 3) w ∙ word .sizes S m)
 
-  node-meets : (n : Node) → OfLiteral Marked n → nodeHit ch n e ≡ meets (nodeUses n) w
+  node-meets : (n : Node) → OfTest Marked n → nodeHit ch n e ≡ meets (nodeUses n) w
   unfolding nodeHit nodeUses OfLiteral
   node-meets root m = sym (meets-zero w)
   node-meets all m = sym (meets-zero w)
   node-meets any m = sym (meets-zero w)
   node-meets and m = sym (meets-zero w)
   node-meets or m = sym (meets-zero w)
-  node-meets (lit l) m = literal-meets l m
+  node-meets (lit l) m = test-meets (l .test) m
 
-  pub forest-meets : (f : Forest) (d : ℕ) → Every (λ n c i. OfLiteral Marked n) f d → forestHit ch f e ≡ meets (forestUses f) w
+  pub forest-meets : (f : Forest) (d : ℕ) → Every (λ n c i. OfTest Marked n) f d → forestHit ch f e ≡ meets (forestUses f) w
   unfolding forestHit forestUses Every
   forest-meets none d m = sym (meets-zero w)
   forest-meets (tree n c s) d m =
       ap₂ _||_ (ap₂ _||_ (node-meets n (m .0)) (forest-meets c (childDepth n d) (m .1)) ∙ sym (meets-or (nodeUses n) (forestUses c) w)) (forest-meets s d (m .2))
       ∙ sym (meets-or (bitOr (nodeUses n) (forestUses c)) (forestUses s) w)
 
-  pub touched-meets : (n : Node) (c : Forest) (d : ℕ) → OfLiteral Marked n → Every (λ n c i. OfLiteral Marked n) c d
+  pub touched-meets : (n : Node) (c : Forest) (d : ℕ) → OfTest Marked n → Every (λ n c i. OfTest Marked n) c d
       → touched ch n c e ≡ meets (bitOr (nodeUses n) (forestUses c)) w
   unfolding touched
   touched-meets n c d m ms = ap₂ _||_ (node-meets n m) (forest-meets c d ms) ∙ sym (meets-or (nodeUses n) (forestUses c) w)

@@ -9,9 +9,8 @@ use native.Mathlib.Numerals.{add-one}
 use native.Mathlib.Omega.{arith}
 use lib.Dec.{eqb, leb, ltb}
 use lib.ListN.{length, getD}
-use borrow.Author.Tests.{eqb-true}
-use Rattle.logic.specs.Formula.{Literal, isin, notin, port, size, Node, all, lit, Forest, none, tree, kindNumber, nodeCount, childDepth}
-use Rattle.logic.specs.inner.Literals.{Every, OfLiteral}
+use Rattle.logic.specs.Formula.{Literal, Node, all, lit, Forest, none, tree, kindNumber, nodeCount, childDepth}
+use Rattle.logic.specs.inner.Literals.{Every, OfLiteral, OfTest}
 use Rattle.logic.specs.Configuration.{Configuration, indicator, configured, inMasks}
 use Rattle.logic.specs.Truth.{Tuple}
 use Rattle.logic.specs.Penalty.{eachPort, below, sum}
@@ -21,13 +20,14 @@ use Rattle.logic.proofs.Bound.{LiteralsAtMost, literals-low, ports-in-le}
 use Rattle.logic.proofs.Tables.{place-lt}
 use Rattle.table_format.specs.Bytes.{recordLength, kindField, relationField, aField, bField, recordsOf, recordAt, relationByte, aByte, bByte}
 use Rattle.table_format.specs.Rules.{treeCount, arityRule}
+use Rattle.table_format.proofs.FieldRules.{literal-children}
 use Rattle.cells_touch.specs.declared.Changed.{Changed}
 use Rattle.cells_touch.specs.inner.Hits.{meets, restWord, portWord}
 use Rattle.cells_sum.specs.inner.Walk.{adds, begun, gathered, changes, Joined}
 use Rattle.cells_sum.specs.declared.After.{After}
 use Rattle.cells_sum.specs.declared.Sum.{Sum}
-use Rattle.cells_walk.specs.inner.Nodes.{NodeIs, LiteralFits, NodeFits, Fitting}
-use Rattle.cells_walk.specs.inner.Visit.{Visit, CellsFit, CellAfter, PortsVisit, PortsAfter, LiteralAt, RecordReady, RecordAfresh, Afresh}
+use Rattle.cells_walk.specs.inner.Nodes.{NodeIs, TestFits, NodeFits, Fitting}
+use Rattle.cells_walk.specs.inner.Visit.{Visit, CellsFit, CellAfter, PortsVisit, PortsAfter, TestAt, RecordReady, RecordAfresh, Afresh}
 use Rattle.cells_walk.proofs.KindOf.{adds-kind, Quantifier, Joint, quantifier-of, joint-of, literal-of}
 use Rattle.cells_walk.proofs.Steps.{packed-lt}
 use Rattle.cells_walk.proofs.Visits.{all-constants, node-here, fits-here, node-below, room-here, visit-next, visit-children, visit-ports, touched-here, port-visit, port-untouched}
@@ -45,14 +45,8 @@ all-fit cells h j = h j
 
 -- a literal has no children
 pub no-children : (n : Node) (f : Forest) (l : Literal) → n ≡ lit l → arityRule (kindNumber n) (treeCount f) ≡ true → treeCount f ≡ 0
-unfolding arityRule kindNumber
-no-children n f l q h = go l (ap (λ (x : Node). arityRule (kindNumber x) (treeCount f)) (sym q) ∙ h)
-  where
-    go : (l : Literal) → arityRule (kindNumber (lit l)) (treeCount f) ≡ true → treeCount f ≡ 0
-    go (isin v S) k = eqb-true _ _ k
-    go (notin v S) k = eqb-true _ _ k
-    go (port r v w) k = eqb-true _ _ k
-    go (size r S c) k = eqb-true _ _ k
+unfolding kindNumber
+no-children n f l q h = literal-children (l .test) (treeCount f) (ap (λ (x : Node). arityRule (kindNumber x) (treeCount f)) (sym q) ∙ h)
 
 zero-few : (x : ℕ) → x ≡ 0 → x < modulus
 unfolding modulus
@@ -129,14 +123,14 @@ module _ (u sets : ℕ) (c : Changed) (bytes firsts ends uses masks cells : List
       end-here end h = h ∙ here .end-is ∙ (let w : i + suc (nodeCount f) ≡ i + 1 + nodeCount f = omega arith in w)
 
       -- a literal's record
-      literal-here : (l : Literal) → n ≡ lit l → LiteralAt u sets d (kindField (recordAt bytes i)) (relationField (recordAt bytes i)) (aField (recordAt bytes i)) (bField (recordAt bytes i)) masks digits l e
-      unfolding OfLiteral
+      literal-here : (l : Literal) → n ≡ lit l → TestAt u sets d (kindField (recordAt bytes i)) (relationField (recordAt bytes i)) (aField (recordAt bytes i)) (bField (recordAt bytes i)) masks digits (l .test) e
+      unfolding OfLiteral kindNumber relationByte aByte bByte
       literal-here l q = record {
         kind-is = here .kind-is ∙ ap kindNumber q;
         relation-is = here .relation-is ∙ ap relationByte q;
         a-is = here .a-is ∙ ap aByte q;
         b-is = here .b-is ∙ ap bByte q;
-        fits = subst (OfLiteral (LiteralFits sets d)) q (fits .literal);
+        fits = subst (OfTest (TestFits sets d)) q (fits .literal);
         depth3 = fits .depth3;
         tuple = v .tuple;
         digits-are = v .digits-are;

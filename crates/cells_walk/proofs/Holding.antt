@@ -11,20 +11,21 @@ use lib.Dec.{eqb, ltb}
 use lib.ListN.{length, getD, drop, length-append, length-drop, List·getD-append}
 use lib.Seq.{drop-at, drop-drop}
 use borrow.Author.Tests.{leb-true, ltb-true}
-use Rattle.logic.specs.Formula.{Literal, isin, notin, port, size, Node, root, all, any, and, or, lit, Forest, none, tree, Plan, kindNumber, nodeCount, childDepth}
+use Rattle.logic.specs.Formula.{Test, isin, notin, port, size, Node, root, Forest, none, tree, Plan, kindNumber, nodeCount, childDepth}
 use Rattle.logic.specs.inner.Literals.{Every, OfLiteral}
 use Rattle.logic.specs.Cells.{siblingFirst, firstCells}
 use Rattle.logic.proofs.Lists.{and-left, and-right}
 use Rattle.logic.proofs.Tables.{Stands, stands-left, stands-right}
 use Rattle.table_format.specs.Bytes.{recordLength, kindField, relationField, aField, bField, recordsOf, recordAt, recordOf, records, header, encoding}
-use Rattle.table_format.specs.Rules.{everyNode, arityRule, depthRule, literalRule, innerRule, nodeRule, planRule}
+use Rattle.table_format.specs.Rules.{everyNode, arityRule, depthRule, testRule, nodeRule, planRule}
 use Rattle.table_format.specs.Decode.{sound, decode}
 use Rattle.table_format.specs.inner.Index.{ends, nodeUses, forestUses, usesTable, laid}
 use Rattle.table_format.proofs.Bytes.{kind-of-record, relation-of-record, a-of-record, b-of-record, length-record, records-of-header}
 use Rattle.table_format.proofs.Encoding.{length-records, decode-sound}
 use Rattle.table_format.proofs.Laid.{length-firsts, length-ends, length-uses}
+use Rattle.table_format.proofs.Facts.{of-inner}
 use Rattle.table_format.proofs.Rooted.{every-node, RootedIs, is-rooted, rooted-is}
-use Rattle.cells_walk.specs.inner.Nodes.{NodeIs, IndexHolds, LiteralFits, Fitting}
+use Rattle.cells_walk.specs.inner.Nodes.{NodeIs, IndexHolds, TestFits, Fitting}
 
 -- the record of the node m after another
 record-after : (bytes : List ℕ) (i m : ℕ) → recordAt bytes (i + m) ≡ drop (recordLength * m) (recordAt bytes i)
@@ -151,28 +152,19 @@ plan-holds bytes firsts ends′ uses P h x y z fs es us =
     }
 
 -- the rules of the table
-literal-fits : (sets d : ℕ) (l : Literal) → literalRule sets d l ≡ true → LiteralFits sets d l
-unfolding literalRule LiteralFits
-literal-fits sets d (isin v S) h = (ltb-true v d (and-left (ltb v d) _ h), ltb-true S sets (and-right (ltb v d) _ h))
-literal-fits sets d (notin v S) h = (ltb-true v d (and-left (ltb v d) _ h), ltb-true S sets (and-right (ltb v d) _ h))
-literal-fits sets d (port r v w) h = (ltb-true v d (and-left (ltb v d) _ h), ltb-true w d (and-right (ltb v d) _ h))
-literal-fits sets d (size r S c) h = (ltb-true S sets (and-left (ltb S sets) _ h), leb-true c 64 (and-right (ltb S sets) _ h))
-
-node-fits : (sets d : ℕ) (n : Node) → innerRule sets n d ≡ true → OfLiteral (LiteralFits sets d) n
-unfolding innerRule OfLiteral
-node-fits sets d root h = Prim.tt
-node-fits sets d all h = Prim.tt
-node-fits sets d any h = Prim.tt
-node-fits sets d and h = Prim.tt
-node-fits sets d or h = Prim.tt
-node-fits sets d (lit l) h = literal-fits sets d l h
+test-fits : (sets d : ℕ) (t : Test) → testRule sets d t ≡ true → TestFits sets d t
+unfolding testRule TestFits
+test-fits sets d (isin v S) h = (ltb-true v d (and-left (ltb v d) _ h), ltb-true S sets (and-right (ltb v d) _ h))
+test-fits sets d (notin v S) h = (ltb-true v d (and-left (ltb v d) _ h), ltb-true S sets (and-right (ltb v d) _ h))
+test-fits sets d (port r v w) h = (ltb-true v d (and-left (ltb v d) _ h), ltb-true w d (and-right (ltb v d) _ h))
+test-fits sets d (size r S c) h = (ltb-true S sets (and-left (ltb S sets) _ h), leb-true c 64 (and-right (ltb S sets) _ h))
 
 rules-fit : (sets : ℕ) (f : Forest) (d : ℕ) → everyNode (nodeRule sets) f d ≡ true → Fitting sets f d
 unfolding Fitting Every depthRule
 rules-fit sets none d h = Prim.tt
 rules-fit sets (tree n c s) d h =
     let r = every-node sets n c s d h in (
-      record { depth3 = leb-true d 3 (r .1); literal = node-fits sets d n (r .0); children = r .2 },
+      record { depth3 = leb-true d 3 (r .1); literal = of-inner sets (TestFits sets) (λ t i. test-fits sets i t) n d (r .0); children = r .2 },
       rules-fit sets c (childDepth n d) (r .4),
       rules-fit sets s d (r .5),
     )

@@ -5,11 +5,13 @@ use mathlib.Core.List.{List, _∷_}
 use Prim.Native.Nat.{ℕ, suc, _%_, _≤_, _<_}
 use native.Mathlib.Omega.{arith}
 use lib.Dec.{eqb, leb}
-use borrow.Author.Tests.{eqb-true}
-use Rattle.logic.specs.Formula.{Literal, isin, notin, port, size, Node, root, all, any, and, or, lit, kindNumber, childDepth}
+use borrow.Author.Tests.{eqb-true, leb-true}
+use Rattle.logic.specs.Formula.{Literal, Node, root, all, any, and, or, lit, kindNumber, childDepth}
 use Rattle.logic.specs.Truth.{Tuple}
 use Rattle.logic.specs.Penalty.{eachPort, below}
 use Rattle.logic.specs.Change.{Renewal}
+use Rattle.logic.proofs.Lists.{and-right}
+use Rattle.logic.proofs.Relations.{test-kind-range}
 use Rattle.logic.proofs.Touched.{Inner}
 use Rattle.table_format.specs.Rules.{arityRule}
 use Rattle.table_format.specs.inner.Index.{nodeUses}
@@ -23,10 +25,7 @@ adds-kind all kind h l = ap (λ (x : ℕ). eqb (x % 2) 1) h
 adds-kind any kind h l = ap (λ (x : ℕ). eqb (x % 2) 1) h
 adds-kind and kind h l = ap (λ (x : ℕ). eqb (x % 2) 1) h
 adds-kind or kind h l = ap (λ (x : ℕ). eqb (x % 2) 1) h
-adds-kind (lit (isin v S)) kind h l = absurd (omega arith)
-adds-kind (lit (notin v S)) kind h l = absurd (omega arith)
-adds-kind (lit (port r v w)) kind h l = absurd (omega arith)
-adds-kind (lit (size r S c)) kind h l = absurd (omega arith)
+adds-kind (lit t) kind h l = absurd (omega (arith, test-kind-range (t .test)))
 
 -- What stands below a quantifier, and below another inner node.
 pub record Quantifier (n : Node) : Type 1 where
@@ -50,10 +49,7 @@ quantifier-of all kind h q = record { deeper = λ d. refl; no-uses = refl; inner
 quantifier-of any kind h q = record { deeper = λ d. refl; no-uses = refl; inner = Prim.tt; one = λ m k. eqb-true m 1 k; renewed = λ u e g. refl; counted = λ u e g. refl }
 quantifier-of and kind h q = absurd (false≢true (sym (ap (λ (x : ℕ). leb 1 x && leb x 2) h) ∙ q))
 quantifier-of or kind h q = absurd (false≢true (sym (ap (λ (x : ℕ). leb 1 x && leb x 2) h) ∙ q))
-quantifier-of (lit (isin v S)) kind h q = absurd (false≢true (sym (ap (λ (x : ℕ). leb 1 x && leb x 2) h) ∙ q))
-quantifier-of (lit (notin v S)) kind h q = absurd (false≢true (sym (ap (λ (x : ℕ). leb 1 x && leb x 2) h) ∙ q))
-quantifier-of (lit (port r v w)) kind h q = absurd (false≢true (sym (ap (λ (x : ℕ). leb 1 x && leb x 2) h) ∙ q))
-quantifier-of (lit (size r S c)) kind h q = absurd (false≢true (sym (ap (λ (x : ℕ). leb 1 x && leb x 2) h) ∙ q))
+quantifier-of (lit l) kind h q = absurd (omega (arith, test-kind-range (l .test), leb-true kind 2 (and-right (leb 1 kind) _ q)))
 
 pub joint-of : (n : Node) (kind : ℕ) → kind ≡ kindNumber n → kind < 5 → (leb 1 kind && leb kind 2) ≡ false → Joint n
 unfolding kindNumber childDepth Inner below
@@ -62,10 +58,7 @@ joint-of all kind h l q = absurd (false≢true (sym q ∙ ap (λ (x : ℕ). leb 
 joint-of any kind h l q = absurd (false≢true (sym q ∙ ap (λ (x : ℕ). leb 1 x && leb x 2) h))
 joint-of and kind h l q = record { level = λ d. refl; inner = Prim.tt; renewed = λ u e g. refl; counted = λ u e g. refl }
 joint-of or kind h l q = record { level = λ d. refl; inner = Prim.tt; renewed = λ u e g. refl; counted = λ u e g. refl }
-joint-of (lit (isin v S)) kind h l q = absurd (omega arith)
-joint-of (lit (notin v S)) kind h l q = absurd (omega arith)
-joint-of (lit (port r v w)) kind h l q = absurd (omega arith)
-joint-of (lit (size r S c)) kind h l q = absurd (omega arith)
+joint-of (lit t) kind h l q = absurd (omega (arith, test-kind-range (t .test)))
 
 -- a node of a literal's kind is a literal
 pub literal-of : (n : Node) (kind : ℕ) → kind ≡ kindNumber n → 5 ≤ kind → (l : Literal) × (n ≡ lit l)

@@ -11,19 +11,19 @@ use lib.Dec.{eqb}
 use lib.ListN.{length, getD}
 use lib.Pow.{pow-add}
 use borrow.Author.Tests.{eq-eqb, ne-eqb}
-use Rattle.logic.specs.Formula.{Literal, isin, notin, port, size, kindNumber, relationOf}
+use Rattle.logic.specs.Formula.{Test, isin, notin, port, size, testKind, relationOf}
 use Rattle.logic.specs.Configuration.{portsIn, configured, inMask, inMasks}
 use Rattle.logic.specs.Truth.{Tuple, portOf}
-use Rattle.logic.specs.Penalty.{literalPenalty}
+use Rattle.logic.specs.Penalty.{testPenalty}
 use Rattle.logic.proofs.Lists.{TupleOf, empty, more}
 use Rattle.logic.proofs.Tables.{length-tuple}
 use Rattle.logic.proofs.Masks.{ports-within}
 use Rattle.logic.proofs.Relations.{relation-of-number}
-use Rattle.table_format.specs.Bytes.{relationByte, aByte, bByte}
+use Rattle.table_format.specs.Bytes.{testRelation, testA, testB}
 use Rattle.cells_rule.specs.inner.Rule.{rulePenalty, Operands}
 use Rattle.cells_rule.proofs.Rules.{rule-is}
-use Rattle.cells_walk.specs.inner.Visit.{packed, LiteralAt, LiteralReady, MasksSettled}
-use Rattle.cells_walk.specs.inner.Nodes.{LiteralFits}
+use Rattle.cells_walk.specs.inner.Visit.{packed, TestAt, LiteralReady, MasksSettled}
+use Rattle.cells_walk.specs.inner.Nodes.{TestFits}
 
 -- the digits of a tuple of ports below 256
 pub packed-lt : {u d : ℕ} {e : Tuple} → u ≤ 256 → TupleOf u d e → packed e < 256 ^ d
@@ -100,14 +100,14 @@ module _ (u sets d kind relation a b : ℕ) (masks : List ℕ) (digits : ℕ) (r
   abbrev portHere : ℕ → ℕ
   portHere v = digits / 256 ^ v % 256
 
-  module _ (l : Literal) (e : Tuple) (at : LiteralAt u sets d kind relation a b masks digits l e) where
+  module _ (t : Test) (e : Tuple) (at : TestAt u sets d kind relation a b masks digits t e) where
     port-here : (v : ℕ) → v < d → portHere v ≡ portOf e v
     port-here v h = ap (λ (x : ℕ). x / 256 ^ v % 256) (at .digits-are) ∙ port-packed v (omega (arith, ready .ports64)) (at .tuple) h
 
-  -- the rule's penalty is the literal's
+  -- the rule's penalty is the test's
   pub afresh-member : (r : ℕ) → kind ≤ 6 → r ≡ rulePenalty kind relation (inMask (getD masks b 0) (portHere a)) 0 0
-      → (l : Literal) (e : Tuple) → LiteralAt u sets d kind relation a b masks digits l e → r ≡ literalPenalty (configured u sets (inMasks masks)) l e
-  unfolding Operands kindNumber aByte bByte LiteralFits inMasks configured
+      → (t : Test) (e : Tuple) → TestAt u sets d kind relation a b masks digits t e → r ≡ testPenalty (configured u sets (inMasks masks)) t e
+  unfolding Operands testKind testA testB TestFits inMasks configured
   afresh-member r k q (isin v S) e at =
       q ∙ rule-is (configured u sets (inMasks masks)) (isin v S) e kind relation (inMask (getD masks b 0) (portHere a)) 0 0
       (at .kind-is, ap₂ (λ (x y : ℕ). inMask (getD masks x 0) y) (at .b-is) (ap portHere (at .a-is) ∙ port-here (isin v S) e at v (at .fits .0)))
@@ -118,8 +118,8 @@ module _ (u sets d kind relation a b : ℕ) (masks : List ℕ) (digits : ℕ) (r
   afresh-member r k q (size w S c) e at = absurd (omega (arith, at .kind-is))
 
   pub afresh-port : (r : ℕ) → kind ≡ 7 → r ≡ rulePenalty kind relation false (portHere a) (portHere b)
-      → (l : Literal) (e : Tuple) → LiteralAt u sets d kind relation a b masks digits l e → r ≡ literalPenalty (configured u sets (inMasks masks)) l e
-  unfolding Operands kindNumber relationByte aByte bByte LiteralFits
+      → (t : Test) (e : Tuple) → TestAt u sets d kind relation a b masks digits t e → r ≡ testPenalty (configured u sets (inMasks masks)) t e
+  unfolding Operands testKind testRelation testA testB TestFits
   afresh-port r k q (isin v S) e at = absurd (omega (arith, at .kind-is))
   afresh-port r k q (notin v S) e at = absurd (omega (arith, at .kind-is))
   afresh-port r k q (port w v x) e at =
@@ -128,8 +128,8 @@ module _ (u sets d kind relation a b : ℕ) (masks : List ℕ) (digits : ℕ) (r
   afresh-port r k q (size w S c) e at = absurd (omega (arith, at .kind-is))
 
   pub afresh-size : (r : ℕ) → 6 < kind → kind ≢ 7 → r ≡ rulePenalty kind relation false (portsIn 64 (inMask (getD masks a 0))) b
-      → (l : Literal) (e : Tuple) → LiteralAt u sets d kind relation a b masks digits l e → r ≡ literalPenalty (configured u sets (inMasks masks)) l e
-  unfolding Operands kindNumber relationByte aByte bByte LiteralFits configured inMasks
+      → (t : Test) (e : Tuple) → TestAt u sets d kind relation a b masks digits t e → r ≡ testPenalty (configured u sets (inMasks masks)) t e
+  unfolding Operands testKind testRelation testA testB TestFits configured inMasks
   afresh-size r k n q (isin v S) e at = absurd (omega (arith, at .kind-is))
   afresh-size r k n q (notin v S) e at = absurd (omega (arith, at .kind-is))
   afresh-size r k n q (port w v x) e at = absurd (n (at .kind-is))
@@ -149,16 +149,16 @@ port-of-lt {u = u} v (more {d = d} {p = p} {e = e} k t) l = go (ℕ-discrete v (
 
 -- where the fields of a literal lie, by its kind
 module _ (u sets d kind relation a b : ℕ) (masks : List ℕ) (digits : ℕ) (m : MasksSettled u sets masks) where
-  digit-lt : (l : Literal) (e : Tuple) → LiteralAt u sets d kind relation a b masks digits l e → (v : ℕ) → a ≡ v → v < d → digits / 256 ^ a % 256 < 64
-  digit-lt l e at v q h =
+  digit-lt : (t : Test) (e : Tuple) → TestAt u sets d kind relation a b masks digits t e → (v : ℕ) → a ≡ v → v < d → digits / 256 ^ a % 256 < 64
+  digit-lt t e at v q h =
       let p = port-of-lt v (at .tuple) h in
       let w : digits / 256 ^ a % 256 ≡ portOf e v =
       ap₂ (λ (x y : ℕ). x / 256 ^ y % 256) (at .digits-are) q ∙ port-packed v (omega (arith, m .ports64)) (at .tuple) h in
       omega (arith, m .ports64)
 
-  member-at : kind ≤ 6 → (l : Literal) (e : Tuple) → LiteralAt u sets d kind relation a b masks digits l e
+  member-at : kind ≤ 6 → (t : Test) (e : Tuple) → TestAt u sets d kind relation a b masks digits t e
       → (a ≤ 2) × (b < length masks) × (digits / 256 ^ a % 256 < 64)
-  unfolding kindNumber aByte bByte LiteralFits
+  unfolding testKind testA testB TestFits
   member-at k (isin v S) e at = (
     omega (arith, at .a-is, at .fits .0, at .depth3),
     omega (arith, at .b-is, at .fits .1, m .masks-long),
@@ -172,16 +172,16 @@ module _ (u sets d kind relation a b : ℕ) (masks : List ℕ) (digits : ℕ) (m
   member-at k (port r v w) e at = absurd (omega (arith, at .kind-is))
   member-at k (size r S c) e at = absurd (omega (arith, at .kind-is))
 
-  comparison-at : kind ≡ 7 → (l : Literal) (e : Tuple) → LiteralAt u sets d kind relation a b masks digits l e → (a ≤ 2) × (b ≤ 2)
-  unfolding kindNumber aByte bByte LiteralFits
+  comparison-at : kind ≡ 7 → (t : Test) (e : Tuple) → TestAt u sets d kind relation a b masks digits t e → (a ≤ 2) × (b ≤ 2)
+  unfolding testKind testA testB TestFits
   comparison-at h (isin v S) e at = absurd (omega (arith, at .kind-is))
   comparison-at h (notin v S) e at = absurd (omega (arith, at .kind-is))
   comparison-at h (port r v w) e at =
       (omega (arith, at .a-is, at .fits .0, at .depth3), omega (arith, at .b-is, at .fits .1, at .depth3))
   comparison-at h (size r S c) e at = absurd (omega (arith, at .kind-is))
 
-  size-at : 6 < kind → kind ≢ 7 → (l : Literal) (e : Tuple) → LiteralAt u sets d kind relation a b masks digits l e → a < length masks
-  unfolding kindNumber aByte bByte LiteralFits
+  size-at : 6 < kind → kind ≢ 7 → (t : Test) (e : Tuple) → TestAt u sets d kind relation a b masks digits t e → a < length masks
+  unfolding testKind testA testB TestFits
   size-at h n (isin v S) e at = absurd (omega (arith, at .kind-is))
   size-at h n (notin v S) e at = absurd (omega (arith, at .kind-is))
   size-at h n (port r v w) e at = absurd (n (at .kind-is))
@@ -189,10 +189,10 @@ module _ (u sets d kind relation a b : ℕ) (masks : List ℕ) (digits : ℕ) (m
 
 module _ {u sets d kind relation a b : ℕ} {masks : List ℕ} {digits : ℕ} (ready : LiteralReady u sets d kind relation a b masks digits) where
   pub member-ready : kind ≤ 6 → (a ≤ 2) × (b < length masks) × (digits / 256 ^ a % 256 < 64)
-  member-ready k = member-at u sets d kind relation a b masks digits (ready .settled) k (ready .literal) (ready .ports) (ready .at)
+  member-ready k = member-at u sets d kind relation a b masks digits (ready .settled) k (ready .literal .test) (ready .ports) (ready .at)
 
   pub comparison-ready : kind ≡ 7 → (a ≤ 2) × (b ≤ 2)
-  comparison-ready h = comparison-at u sets d kind relation a b masks digits (ready .settled) h (ready .literal) (ready .ports) (ready .at)
+  comparison-ready h = comparison-at u sets d kind relation a b masks digits (ready .settled) h (ready .literal .test) (ready .ports) (ready .at)
 
   pub size-ready : 6 < kind → kind ≢ 7 → a < length masks
-  size-ready h n = size-at u sets d kind relation a b masks digits (ready .settled) h n (ready .literal) (ready .ports) (ready .at)
+  size-ready h n = size-at u sets d kind relation a b masks digits (ready .settled) h n (ready .literal .test) (ready .ports) (ready .at)

@@ -7,8 +7,8 @@ use Prim.Native.Nat.{ℕ, suc, _+_, _*_, _^_, _%_, _≤_, _<_}
 use native.Mathlib.Omega.{arith}
 use lib.Bits.{bitOr, or-zero-l}
 use lib.ListN.{length, getD}
-use Rattle.logic.specs.Formula.{Literal, isin, notin, port, size, Node, root, all, any, and, or, lit, Forest, none, tree, nodeCount, childDepth}
-use Rattle.logic.specs.inner.Literals.{Every, OfLiteral, ConstantLow, ConstantsLow}
+use Rattle.logic.specs.Formula.{Test, isin, notin, port, size, Node, root, all, any, and, or, lit, Forest, none, tree, nodeCount, childDepth}
+use Rattle.logic.specs.inner.Literals.{Every, OfLiteral, OfTest, ConstantLow, ConstantsLow}
 use Rattle.logic.specs.Truth.{Tuple}
 use Rattle.logic.specs.Cells.{placeOf, cellCount, siblingFirst}
 use Rattle.logic.specs.Change.{Change, forestHit, touched, modulus}
@@ -19,43 +19,47 @@ use Rattle.table_format.specs.inner.Index.{nodeUses, forestUses}
 use Rattle.cells_touch.specs.declared.Changed.{Changed}
 use Rattle.cells_touch.specs.inner.Hits.{meets, Marked, Describes, restWord, portWord}
 use Rattle.cells_touch.proofs.Touching.{touched-meets, forest-meets, port-word-is, rest-word-is}
-use Rattle.cells_walk.specs.inner.Nodes.{NodeIs, IndexHolds, LiteralFits, NodeFits, Fitting}
+use Rattle.cells_walk.specs.inner.Nodes.{NodeIs, IndexHolds, TestFits, NodeFits, Fitting}
 use Rattle.cells_walk.specs.inner.Visit.{packed, Visit, PortsVisit}
 
 -- what a fitting forest's literals are
-literal-marked : (sets d : ℕ) → sets ≤ 16 → d ≤ 3 → (l : Literal) → LiteralFits sets d l → Marked l
-unfolding LiteralFits Marked
-literal-marked sets d h k (isin v S) f = (omega (arith, f .0), omega (arith, f .1))
-literal-marked sets d h k (notin v S) f = (omega (arith, f .0), omega (arith, f .1))
-literal-marked sets d h k (port r v w) f = Prim.tt
-literal-marked sets d h k (size r S c) f = omega (arith, f .0)
+test-marked : (sets d : ℕ) → sets ≤ 16 → d ≤ 3 → (t : Test) → TestFits sets d t → Marked t
+unfolding TestFits Marked
+test-marked sets d h k (isin v S) f = (omega (arith, f .0), omega (arith, f .1))
+test-marked sets d h k (notin v S) f = (omega (arith, f .0), omega (arith, f .1))
+test-marked sets d h k (port r v w) f = Prim.tt
+test-marked sets d h k (size r S c) f = omega (arith, f .0)
 
-node-marked : (sets d : ℕ) → sets ≤ 16 → d ≤ 3 → (n : Node) → OfLiteral (LiteralFits sets d) n → OfLiteral Marked n
+node-marked : (sets d : ℕ) → sets ≤ 16 → d ≤ 3 → (n : Node) → OfTest (TestFits sets d) n → OfTest Marked n
 unfolding OfLiteral
 node-marked sets d h k root f = Prim.tt
 node-marked sets d h k all f = Prim.tt
 node-marked sets d h k any f = Prim.tt
 node-marked sets d h k and f = Prim.tt
 node-marked sets d h k or f = Prim.tt
-node-marked sets d h k (lit l) f = literal-marked sets d h k l f
+node-marked sets d h k (lit l) f = test-marked sets d h k (l .test) f
 
-pub all-marked : (sets : ℕ) → sets ≤ 16 → (f : Forest) (d : ℕ) → Fitting sets f d → Every (λ n c i. OfLiteral Marked n) f d
+pub all-marked : (sets : ℕ) → sets ≤ 16 → (f : Forest) (d : ℕ) → Fitting sets f d → Every (λ n c i. OfTest Marked n) f d
 unfolding Fitting Every
 all-marked sets h none d f = Prim.tt
 all-marked sets h (tree n c s) d f =
     (node-marked sets d h (f .0 .depth3) n (f .0 .literal), all-marked sets h c (childDepth n d) (f .1), all-marked sets h s d (f .2))
 
-node-constant : (sets d : ℕ) (n : Node) → OfLiteral (LiteralFits sets d) n → OfLiteral ConstantLow n
-unfolding OfLiteral LiteralFits ConstantLow
+test-constant : (sets d : ℕ) (t : Test) → TestFits sets d t → ConstantLow t
+unfolding TestFits ConstantLow
+test-constant sets d (isin v S) f = Prim.tt
+test-constant sets d (notin v S) f = Prim.tt
+test-constant sets d (port r v w) f = Prim.tt
+test-constant sets d (size r S c) f = f .1
+
+node-constant : (sets d : ℕ) (n : Node) → OfTest (TestFits sets d) n → OfTest ConstantLow n
+unfolding OfLiteral
 node-constant sets d root f = Prim.tt
 node-constant sets d all f = Prim.tt
 node-constant sets d any f = Prim.tt
 node-constant sets d and f = Prim.tt
 node-constant sets d or f = Prim.tt
-node-constant sets d (lit (isin v S)) f = Prim.tt
-node-constant sets d (lit (notin v S)) f = Prim.tt
-node-constant sets d (lit (port r v w)) f = Prim.tt
-node-constant sets d (lit (size r S c)) f = f .1
+node-constant sets d (lit l) f = test-constant sets d (l .test) f
 
 pub all-constants : (sets : ℕ) (f : Forest) (d : ℕ) → Fitting sets f d → ConstantsLow f d
 unfolding Fitting Every ConstantsLow

@@ -7,16 +7,16 @@ use Prim.Native.Nat.{ℕ, _≤_}
 use native.Mathlib.Omega.{arith}
 use lib.ListN.{length, replicate}
 use Rattle.logic.specs.declared.Move.{Move}
-use Rattle.logic.specs.Formula.{kindNumber, nodeCount, childDepth}
+use Rattle.logic.specs.Formula.{literalOf, testKind, kindNumber, nodeCount, childDepth}
 use Rattle.logic.specs.Configuration.{indicator, portsIn, configuration, configured, inMask, inMasks, ownMasks, spelled, withinPorts, enter, leave, allWithin}
 use Rattle.logic.specs.Truth.{portOf}
-use Rattle.logic.specs.Penalty.{compare, sizePenalty, literalPenalty, sum, least, copy, combine, eachPort, below, penalties, penalty}
+use Rattle.logic.specs.Penalty.{compare, sizePenalty, testPenalty, literalPenalty, sum, least, copy, combine, eachPort, below, penalties, penalty}
 use Rattle.logic.specs.Cells.{cellCount, placeOf, tupleAt, tabulate, siblingFirst, layout, ownCells, cells, rootPenalty}
 use Rattle.logic.specs.Moves.{moveKind, fieldsKnown, fieldsFit, known, fits, legal, refusal, moveGrounds, kindMasks, namedMasks, moveMasks, Pair, kindPairs, namedPairs, movePairs, kindWeight, kindsKnown, ofKinds}
 use Rattle.logic.specs.Change.{someOf, pairsChange, memberHit, hit, nodeHit, forestHit, touched, modulus, differences, newNumbers, renew, cellOf, renewals, newCell, newCells, differing}
 use Rattle.logic.specs.Known.{literal, over, plan, planA, move}
 use Rattle.table_format.specs.Bytes.{encoding}
-use Rattle.table_format.specs.Rules.{everyNode, treeCount, arityRule, mayNest, nestingRule, depthRule, literalRule, innerRule, nodeRule, formulaRule, mostCells, planRule}
+use Rattle.table_format.specs.Rules.{everyNode, treeCount, arityRule, mayNest, nestingRule, depthRule, testRule, literalRule, innerRule, nodeRule, formulaRule, mostCells, planRule}
 use Rattle.table_format.specs.Decode.{Decoded, sound, decode}
 use Rattle.table_format.proofs.Encoding.{decode-complete}
 use Rattle.contracts.specs.State.{State, tables, ownTables, withRest}
@@ -36,7 +36,7 @@ use Rattle.contracts.specs.declared.Improved.the-variants as improved
 
 -- what computes here
 computing : Unit {0}
-unfolding kindNumber nodeCount childDepth indicator portsIn configuration configured inMask inMasks ownMasks spelled withinPorts enter leave portOf compare sizePenalty literalPenalty sum least copy combine eachPort below penalties penalty cellCount placeOf tupleAt tabulate siblingFirst layout ownCells cells rootPenalty moveKind fieldsKnown fieldsFit known fits legal refusal moveGrounds kindMasks namedMasks moveMasks kindPairs namedPairs movePairs kindWeight kindsKnown ofKinds someOf pairsChange memberHit hit nodeHit forestHit touched modulus differences newNumbers renew cellOf renewals newCell newCells differing literal over plan planA move everyNode treeCount arityRule mayNest nestingRule depthRule literalRule innerRule nodeRule formulaRule mostCells planRule allWithin loadGrounds loadedMasks loadedTables loadsOwn loads planGrounds tableGrounds callGrounds callOr call moveCallGrounds cellsAfter moveAnswer movesOwn moves trialsOwn trials improveGrounds rootNow rootAfter Chosen ImprovesOr Improves Step ownTables withRest tablesAfter
+unfolding literalOf testKind kindNumber nodeCount childDepth indicator portsIn configuration configured inMask inMasks ownMasks spelled withinPorts enter leave portOf compare sizePenalty testPenalty literalPenalty sum least copy combine eachPort below penalties penalty cellCount placeOf tupleAt tabulate siblingFirst layout ownCells cells rootPenalty moveKind fieldsKnown fieldsFit known fits legal refusal moveGrounds kindMasks namedMasks moveMasks kindPairs namedPairs movePairs kindWeight kindsKnown ofKinds someOf pairsChange memberHit hit nodeHit forestHit touched modulus differences newNumbers renew cellOf renewals newCell newCells differing literal over plan planA move everyNode treeCount arityRule mayNest nestingRule depthRule testRule literalRule innerRule nodeRule formulaRule mostCells planRule allWithin loadGrounds loadedMasks loadedTables loadsOwn loads planGrounds tableGrounds callGrounds callOr call moveCallGrounds cellsAfter moveAnswer movesOwn moves trialsOwn trials improveGrounds rootNow rootAfter Chosen ImprovesOr Improves Step ownTables withRest tablesAfter
 computing = tt
 
 -- plan A's cells under its masks, and after each of four moves

@@ -5,11 +5,11 @@ use mathlib.Core.List.{List, [], _∷_}
 use Prim.Native.Nat.{ℕ, zero, suc, _+_, _*_, _^_, _≤_}
 use native.Mathlib.Nat.{min-le-left, pow-suc, pow-zero, mul-left-comm}
 use native.Mathlib.Omega.{arith}
-use Rattle.logic.specs.Formula.{Relation, lt, le, eq, ne, ge, gt, Literal, isin, notin, port, size, Node, root, all, any, and, or, lit, Forest, none, tree, childDepth}
-use Rattle.logic.specs.inner.Literals.{Every, OfLiteral, ConstantLow, ConstantsLow}
+use Rattle.logic.specs.Formula.{Relation, lt, le, eq, ne, ge, gt, Test, isin, notin, port, size, Node, root, all, any, and, or, lit, Forest, none, tree, childDepth}
+use Rattle.logic.specs.inner.Literals.{Every, OfLiteral, OfTest, ConstantLow, ConstantsLow}
 use Rattle.logic.specs.Configuration.{Configuration, indicator, portsIn}
 use Rattle.logic.specs.Truth.{Tuple}
-use Rattle.logic.specs.Penalty.{sizePenalty, literalPenalty, sum, least, copy, combine, eachPort, below, penalties, penalty}
+use Rattle.logic.specs.Penalty.{sizePenalty, testPenalty, literalPenalty, sum, least, copy, combine, eachPort, below, penalties, penalty}
 use Rattle.logic.specs.Cells.{cellCount}
 use Rattle.logic.proofs.Lists.{sum-append, indicator-le}
 
@@ -141,21 +141,21 @@ ports-in-le zero s = omega arith
 ports-in-le (suc u) s = omega (arith, ports-in-le u s, indicator-le (s u))
 
 module _ (k : Configuration) (small : (S : ℕ) → k .size S ≤ 64) where
-  literal-le : (l : Literal) → ConstantLow l → (e : Tuple) → literalPenalty k l e ≤ 65
-  unfolding literalPenalty ConstantLow
-  literal-le (isin v S) h e = indicator-65 _
-  literal-le (notin v S) h e = indicator-65 _
-  literal-le (port r v w) h e = indicator-65 _
-  literal-le (size r S c) h e = size-le r _ c (small S) h
+  test-le : (t : Test) → ConstantLow t → (e : Tuple) → testPenalty k t e ≤ 65
+  unfolding testPenalty ConstantLow
+  test-le (isin v S) h e = indicator-65 _
+  test-le (notin v S) h e = indicator-65 _
+  test-le (port r v w) h e = indicator-65 _
+  test-le (size r S c) h e = size-le r _ c (small S) h
 
-  of-literal : (n : Node) → OfLiteral ConstantLow n → OfLiteral (λ l. (e : Tuple) → literalPenalty k l e ≤ 65) n
-  unfolding OfLiteral
+  of-literal : (n : Node) → OfTest ConstantLow n → OfLiteral (λ l. (e : Tuple) → literalPenalty k l e ≤ 65) n
+  unfolding OfLiteral literalPenalty
   of-literal root h = tt
   of-literal all h = tt
   of-literal any h = tt
   of-literal and h = tt
   of-literal or h = tt
-  of-literal (lit l) h = literal-le l h
+  of-literal (lit l) h = test-le (l .test) h
 
   pub literals-low : (f : Forest) (d : ℕ) → ConstantsLow f d → LiteralsAtMost 65 k f d
   unfolding ConstantsLow LiteralsAtMost Every

@@ -1,8 +1,8 @@
--- Relations by their numbers. Assumes nothing.
+-- Relations and the kinds of tests by their numbers. Assumes nothing.
 use mathlib.Core.Path.{_≡_, refl}
 use Prim.Native.Nat.{ℕ, zero, suc, _≤_}
 use native.Mathlib.Omega.{arith}
-use Rattle.logic.specs.Formula.{Relation, lt, le, eq, ne, ge, gt, relationNumber, relationOf}
+use Rattle.logic.specs.Formula.{Relation, lt, le, eq, ne, ge, gt, Test, isin, notin, port, size, relationNumber, relationOf, testKind}
 
 -- every number from 5 on is read as >
 pub relation-high : (r : ℕ) → 5 ≤ r → relationOf r ≡ gt
@@ -32,3 +32,11 @@ relation-number-le eq = omega arith
 relation-number-le ne = omega arith
 relation-number-le ge = omega arith
 relation-number-le gt = omega arith
+
+-- literals have kinds 5 to 8
+pub test-kind-range : (t : Test) → (5 ≤ testKind t) × (testKind t ≤ 8)
+unfolding testKind
+test-kind-range (isin v S) = omega arith
+test-kind-range (notin v S) = omega arith
+test-kind-range (port r v w) = omega arith
+test-kind-range (size r S c) = omega arith

@@ -10,7 +10,7 @@ use native.Mathlib.Omega.{arith}
 use lib.Dec.{eqb, leb}
 use lib.ListN.{length}
 use borrow.Author.Tests.{le-leb, lt-leb, eq-eqb}
-use Rattle.logic.specs.Formula.{Literal, isin, notin, port, size, Node, root, all, any, and, or, lit, Forest, none, tree}
+use Rattle.logic.specs.Formula.{Test, isin, notin, port, size, Node, root, all, any, and, or, lit, Forest, none, tree}
 use Rattle.logic.specs.Truth.{Tuple, portOf}
 use Rattle.logic.specs.Penalty.{eachPort, below}
 use Rattle.logic.specs.Moves.{Pair}
@@ -104,12 +104,12 @@ module _ (u : ℕ) (u1 : 1 ≤ u) where
   ]
 
   module _ (ch : Change) (ports : PortsBelow u (ch .pairs)) where
-    literal-port : (l : Literal) (e : Tuple) → hit ch l e ≡ true → (p : ℕ) × (p < u) × (hit ch l (p ∷ e) ≡ true)
+    test-port : (t : Test) (e : Tuple) → hit ch t e ≡ true → (p : ℕ) × (p < u) × (hit ch t (p ∷ e) ≡ true)
     unfolding hit
-    literal-port (isin v S) e h = pairs-port v S e (ch .pairs) ports h
-    literal-port (notin v S) e h = pairs-port v S e (ch .pairs) ports h
-    literal-port (port r v w) e h = absurd (false≢true h)
-    literal-port (size r S c) e h = (0, u1, h)
+    test-port (isin v S) e h = pairs-port v S e (ch .pairs) ports h
+    test-port (notin v S) e h = pairs-port v S e (ch .pairs) ports h
+    test-port (port r v w) e h = absurd (false≢true h)
+    test-port (size r S c) e h = (0, u1, h)
 
     node-port : (n : Node) (e : Tuple) → nodeHit ch n e ≡ true → (p : ℕ) × (p < u) × (nodeHit ch n (p ∷ e) ≡ true)
     unfolding nodeHit
@@ -118,7 +118,7 @@ module _ (u : ℕ) (u1 : 1 ≤ u) where
     node-port any e h = absurd (false≢true h)
     node-port and e h = absurd (false≢true h)
     node-port or e h = absurd (false≢true h)
-    node-port (lit l) e h = literal-port l e h
+    node-port (lit l) e h = test-port (l .test) e h
 
     forest-port : (f : Forest) (e : Tuple) → forestHit ch f e ≡ true → (p : ℕ) × (p < u) × (forestHit ch f (p ∷ e) ≡ true)
     unfolding forestHit
@@ -185,12 +185,12 @@ abbrev byPair : Pair → Change
 byPair q = pairsChange (q ∷ [])
 
 module _ (qs : List Pair) where
-  literal-pairs : (l : Literal) (e : Tuple) → hit (pairsChange qs) l e ≡ someOf (λ q. hit (byPair q) l e) qs
+  test-pairs : (t : Test) (e : Tuple) → hit (pairsChange qs) t e ≡ someOf (λ q. hit (byPair q) t e) qs
   unfolding hit pairsChange someOf
-  literal-pairs (isin v S) e = some-same _ _ (λ q. or-nothing (memberHit v S e q)) qs
-  literal-pairs (notin v S) e = some-same _ _ (λ q. or-nothing (memberHit v S e q)) qs
-  literal-pairs (port r v w) e = some-none qs
-  literal-pairs (size r S c) e = some-same _ _ (λ q. or-nothing (eqb S (q .0))) qs
+  test-pairs (isin v S) e = some-same _ _ (λ q. or-nothing (memberHit v S e q)) qs
+  test-pairs (notin v S) e = some-same _ _ (λ q. or-nothing (memberHit v S e q)) qs
+  test-pairs (port r v w) e = some-none qs
+  test-pairs (size r S c) e = some-same _ _ (λ q. or-nothing (eqb S (q .0))) qs
 
   node-pairs : (n : Node) (e : Tuple) → nodeHit (pairsChange qs) n e ≡ someOf (λ q. nodeHit (byPair q) n e) qs
   unfolding nodeHit
@@ -199,7 +199,7 @@ module _ (qs : List Pair) where
   node-pairs any e = some-none qs
   node-pairs and e = some-none qs
   node-pairs or e = some-none qs
-  node-pairs (lit l) e = literal-pairs l e
+  node-pairs (lit l) e = test-pairs (l .test) e
 
   forest-pairs : (f : Forest) (e : Tuple) → forestHit (pairsChange qs) f e ≡ someOf (λ q. forestHit (byPair q) f e) qs
   unfolding forestHit

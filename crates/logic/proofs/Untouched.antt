@@ -8,10 +8,10 @@ use native.Mathlib.Omega.{arith}
 use lib.ListN.{length}
 use lib.Dec.{eqb, leb}
 use borrow.Author.Tests.{leb-false, lt-leb, ne-eqb}
-use Rattle.logic.specs.Formula.{Literal, isin, notin, port, size, Node, root, all, any, and, or, lit, Forest, none, tree}
+use Rattle.logic.specs.Formula.{Test, isin, notin, port, size, Node, root, all, any, and, or, lit, Forest, none, tree}
 use Rattle.logic.specs.Configuration.{Configuration, indicator}
 use Rattle.logic.specs.Truth.{Tuple, portOf}
-use Rattle.logic.specs.Penalty.{sizePenalty, literalPenalty, combine, penalties, penalty}
+use Rattle.logic.specs.Penalty.{sizePenalty, testPenalty, literalPenalty, combine, penalties, penalty}
 use Rattle.logic.specs.Moves.{Pair}
 use Rattle.logic.specs.Change.{someOf, Change, memberHit, hit, nodeHit, forestHit, touched}
 use Rattle.logic.specs.inner.Agreement.{listed, AgreeOff}
@@ -30,7 +30,7 @@ member-deeper v S p e q h = and-false (eqb S (q .0)) _ (λ s.
     or-false _ _ (lt-leb (suc (length e)) v (omega arith)) (ap (λ (w : ℕ). eqb w (q .1)) (port-out p e v a) ∙ or-right (leb (length e) v) _ r))
 
 module _ (ch : Change) where
-  hit-deeper : (l : Literal) (p : ℕ) (e : Tuple) → hit ch l e ≡ false → hit ch l (p ∷ e) ≡ false
+  hit-deeper : (t : Test) (p : ℕ) (e : Tuple) → hit ch t e ≡ false → hit ch t (p ∷ e) ≡ false
   unfolding hit
   hit-deeper (isin v S) p e h = none-of _ _ (member-deeper v S p e) (ch .pairs) h
   hit-deeper (notin v S) p e h = none-of _ _ (member-deeper v S p e) (ch .pairs) h
@@ -44,7 +44,7 @@ module _ (ch : Change) where
   node-deeper any p e h = refl
   node-deeper and p e h = refl
   node-deeper or p e h = refl
-  node-deeper (lit l) p e h = hit-deeper l p e h
+  node-deeper (lit l) p e h = hit-deeper (l .test) p e h
 
   pub forest-deeper : (f : Forest) (p : ℕ) (e : Tuple) → forestHit ch f e ≡ false → forestHit ch f (p ∷ e) ≡ false
   unfolding forestHit
@@ -63,21 +63,21 @@ module _ (ch : Change) where
     unfolding listed
     member-same v S e h = agree .members S (portOf e v) (none-of _ _ (not-listed v S e) (ch .pairs) h)
 
-    literal-same : (l : Literal) (e : Tuple) → hit ch l e ≡ false → literalPenalty k′ l e ≡ literalPenalty k l e
-    unfolding hit literalPenalty
-    literal-same (isin v S) e h = ap (λ (b : Bool). indicator (not b)) (member-same v S e h)
-    literal-same (notin v S) e h = ap indicator (member-same v S e h)
-    literal-same (port r v w) e h = refl
-    literal-same (size r S c) e h = ap (λ (s : ℕ). sizePenalty r s c) (agree .sizes S h)
+    test-same : (t : Test) (e : Tuple) → hit ch t e ≡ false → testPenalty k′ t e ≡ testPenalty k t e
+    unfolding hit testPenalty
+    test-same (isin v S) e h = ap (λ (b : Bool). indicator (not b)) (member-same v S e h)
+    test-same (notin v S) e h = ap indicator (member-same v S e h)
+    test-same (port r v w) e h = refl
+    test-same (size r S c) e h = ap (λ (s : ℕ). sizePenalty r s c) (agree .sizes S h)
 
     combine-same : (n : Node) (e : Tuple) (vs : List ℕ) → nodeHit ch n e ≡ false → combine k′ n e vs ≡ combine k n e vs
-    unfolding nodeHit combine
+    unfolding nodeHit combine literalPenalty
     combine-same root e vs h = refl
     combine-same all e vs h = refl
     combine-same any e vs h = refl
     combine-same and e vs h = refl
     combine-same or e vs h = refl
-    combine-same (lit l) e vs h = literal-same l e h
+    combine-same (lit l) e vs h = test-same (l .test) e h
 
     penalties-same : (f : Forest) (e : Tuple) → forestHit ch f e ≡ false → penalties u k′ f e ≡ penalties u k f e
     unfolding forestHit penalties

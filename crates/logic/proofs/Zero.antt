@@ -8,10 +8,10 @@ use native.Mathlib.Nat.{min-le-left, min-le-right}
 use native.Mathlib.Decide.{decLt}
 use native.Mathlib.Omega.{arith}
 use borrow.Author.Tests.{leb-true, lt-ltb, ltb-true, le-leb, eqb-true, eqb-false, ne-eqb, eq-eqb, not-true, not-false}
-use Rattle.logic.specs.Formula.{Relation, lt, le, eq, ne, ge, gt, Literal, isin, notin, port, size, Node, root, all, any, and, or, lit, Forest, none, tree}
+use Rattle.logic.specs.Formula.{Relation, lt, le, eq, ne, ge, gt, Test, isin, notin, port, size, Node, root, all, any, and, or, lit, Forest, none, tree}
 use Rattle.logic.specs.Configuration.{Configuration, indicator}
-use Rattle.logic.specs.Truth.{Tuple, Related, LiteralTrue, Asked, every, some, first, NodeTrue, ForestTrue}
-use Rattle.logic.specs.Penalty.{compare, sizePenalty, literalPenalty, sum, least, copy, combine, eachPort, below, penalties, penalty}
+use Rattle.logic.specs.Truth.{Tuple, Related, TestTrue, Asked, every, some, first, NodeTrue, ForestTrue}
+use Rattle.logic.specs.Penalty.{compare, sizePenalty, testPenalty, literalPenalty, sum, least, copy, combine, eachPort, below, penalties, penalty}
 use Rattle.logic.proofs.Lists.{sum-append}
 
 pub indicator-zero : (b : Bool) → indicator b ≡ 0 ↔ b ≡ false
@@ -40,13 +40,13 @@ compare-true ne a b = (λ h. eqb-false a b (not-true _ h), λ h. ap not (ne-eqb 
 compare-true ge a b = (leb-true b a, le-leb b a)
 compare-true gt a b = (ltb-true b a, lt-ltb b a)
 
-literal-zero : (k : Configuration) (l : Literal) (e : Tuple) → literalPenalty k l e ≡ 0 ↔ LiteralTrue k l e
-unfolding literalPenalty LiteralTrue
-literal-zero k (isin v S) e = indicator-not _
-literal-zero k (notin v S) e = indicator-zero _
-literal-zero k (port r v w) e =
+test-zero : (k : Configuration) (t : Test) (e : Tuple) → testPenalty k t e ≡ 0 ↔ TestTrue k t e
+unfolding testPenalty TestTrue
+test-zero k (isin v S) e = indicator-not _
+test-zero k (notin v S) e = indicator-zero _
+test-zero k (port r v w) e =
     (λ h. compare-true r _ _ .0 (indicator-not _ .0 h), λ h. indicator-not _ .1 (compare-true r _ _ .1 h))
-literal-zero k (size r S c) e = size-zero r _ c
+test-zero k (size r S c) e = size-zero r _ c
 
 -- what is asked of the trees of a forest, as a number that is to be 0
 abbrev join : Asked → List ℕ → ℕ
@@ -111,7 +111,7 @@ least-ports (suc u) g = (
 module _ (u : ℕ) (k : Configuration) where
   node-zero : (n : Node) (e : Tuple) (g : Tuple → List ℕ) (H : Asked → Tuple → Type 0) → ((m : Asked) (x : Tuple) → join m (g x) ≡ 0 ↔ H m x)
       → combine k n e (below u n e g) ≡ 0 ↔ NodeTrue u k n H e
-  unfolding combine below NodeTrue
+  unfolding combine below NodeTrue literalPenalty
   node-zero root e g H I = I first e
   node-zero all e g H I = (
     (λ h p l. I every (p ∷ e) .0 (sum-ports u (λ p. g (p ∷ e)) .0 h p l)),
@@ -123,7 +123,7 @@ module _ (u : ℕ) (k : Configuration) where
   )
   node-zero and e g H I = I every e
   node-zero or e g H I = I some e
-  node-zero (lit l) e g H I = literal-zero k l e
+  node-zero (lit l) e g H I = test-zero k (l .test) e
 
   forest-zero : (f : Forest) (m : Asked) (e : Tuple) → join m (penalties u k f e) ≡ 0 ↔ ForestTrue u k f m e
   unfolding penalties ForestTrue sum least copy

@@ -4,7 +4,7 @@ use mathlib.Core.List.{List, [], _∷_, map}
 use Prim.Native.Nat.{ℕ, _+_, _-_, _^_, _%_}
 use lib.Dec.{eqb, leb}
 use lib.ListN.{length, getD}
-use Rattle.logic.specs.Formula.{Literal, isin, notin, port, size, Node, root, all, any, and, or, lit, Forest, none, tree, Plan, childDepth}
+use Rattle.logic.specs.Formula.{Test, isin, notin, port, size, Node, root, all, any, and, or, lit, Forest, none, tree, Plan, childDepth}
 use Rattle.logic.specs.Configuration.{Configuration, indicator}
 use Rattle.logic.specs.Truth.{Tuple, portOf}
 use Rattle.logic.specs.Penalty.{sum, combine, below}
@@ -32,7 +32,7 @@ pairsChange qs = record { pairs = qs; resized = λ S. someOf (λ q. eqb S (q .0)
 unfoldable pub memberHit : ℕ → ℕ → Tuple → Pair → Bool
 memberHit v S e q = eqb S (q .0) && (leb (length e) v || eqb (portOf e v) (q .1))
 
-unfoldable pub hit : Change → Literal → Tuple → Bool
+unfoldable pub hit : Change → Test → Tuple → Bool
 hit ch (isin v S) e = someOf (memberHit v S e) (ch .pairs)
 hit ch (notin v S) e = someOf (memberHit v S e) (ch .pairs)
 hit ch (port r v w) e = false
@@ -44,7 +44,7 @@ nodeHit ch all e = false
 nodeHit ch any e = false
 nodeHit ch and e = false
 nodeHit ch or e = false
-nodeHit ch (lit l) e = hit ch l e
+nodeHit ch (lit l) e = hit ch (l .test) e
 
 -- Such a literal stands in a forest.
 unfoldable pub forestHit : Change → Forest → Tuple → Bool

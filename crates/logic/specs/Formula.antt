@@ -22,27 +22,39 @@ relationOf (suc (suc (suc zero))) = ne
 relationOf (suc (suc (suc (suc zero)))) = ge
 relationOf (suc (suc (suc (suc (suc r))))) = gt
 
--- "Kinds 5, 6: a is a variable, b a set. Kind 7: a and b are variables. Kind 8: a is a set, b the constant."
--- "A variable is numbered by its quantifier, the outermost being 0."
-pub data Literal : Type 0 where
-  isin notin : ℕ → ℕ → Literal
-  port size : Relation → ℕ → ℕ → Literal
+-- What a literal asks. "Kinds 5, 6: a is a variable, b a set. Kind 7: a and b are variables. Kind 8: a is a set, b the
+-- constant." "A variable is numbered by its quantifier, the outermost being 0."
+pub data Test : Type 0 where
+  isin notin : ℕ → ℕ → Test
+  port size : Relation → ℕ → ℕ → Test
+
+-- A literal: its test. (2026-06 puts the weight beside it.)
+pub record Literal : Type 0 where
+  pub test : Test
+
+-- The literal of a test. Nothing else makes one.
+unfoldable pub literalOf : Test → Literal
+literalOf t = record { test = t }
 
 pub data Node : Type 0 where
   root all any and or : Node
   lit : Literal → Node
 
--- "Kinds: 0 root, 1 for all, 2 exists, 3 and, 4 or, 5 in, 6 not in, 7 port comparison, 8 size."
+-- "Kinds: [..] 5 in, 6 not in, 7 port comparison, 8 size."
+unfoldable pub testKind : Test → ℕ
+testKind (isin v S) = 5
+testKind (notin v S) = 6
+testKind (port r v w) = 7
+testKind (size r S c) = 8
+
+-- "Kinds: 0 root, 1 for all, 2 exists, 3 and, 4 or", then those of literals.
 unfoldable pub kindNumber : Node → ℕ
 kindNumber root = 0
 kindNumber all = 1
 kindNumber any = 2
 kindNumber and = 3
 kindNumber or = 4
-kindNumber (lit (isin v S)) = 5
-kindNumber (lit (notin v S)) = 6
-kindNumber (lit (port r v w)) = 7
-kindNumber (lit (size r S c)) = 8
+kindNumber (lit l) = testKind (l .test)
 
 -- A node, its children, its later siblings. "Nodes stand parent first, children in text order": the preorder of a forest
 -- is the table's order, and the records of a subtree stand together.

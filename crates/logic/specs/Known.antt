@@ -5,15 +5,15 @@ use Prim.Native.Nat.{ℕ}
 use lib.Dec.{eqb}
 use lib.ListN.{getD}
 use Rattle.logic.specs.declared.Move.{Move}
-use Rattle.logic.specs.Formula.{Relation, lt, le, eq, ne, gt, Literal, isin, notin, size, Node, root, all, any, and, or, lit, Forest, none, tree, Plan, nodeCount}
+use Rattle.logic.specs.Formula.{Relation, lt, le, eq, ne, gt, Test, isin, notin, size, literalOf, Node, root, all, any, and, or, lit, Forest, none, tree, Plan, nodeCount}
 use Rattle.logic.specs.Configuration.{inMasks, spelled}
 use Rattle.logic.specs.Cells.{ownCells, cells, rootPenalty}
 use Rattle.logic.specs.Moves.{refusal, moveGrounds, moveMasks, movePairs, kindsKnown, ofKinds}
 use Rattle.logic.specs.Change.{pairsChange, touchedCount, newCells, differing}
 
--- A literal, then its later siblings; a node with its children, and no sibling.
-unfoldable pub literal : Literal → Forest → Forest
-literal l s = tree (lit l) none s
+-- The literal of a test, then its later siblings; a node with its children, and no sibling.
+unfoldable pub literal : Test → Forest → Forest
+literal t s = tree (lit (literalOf t)) none s
 
 unfoldable pub over : Node → Forest → Forest
 over n c = tree n c none

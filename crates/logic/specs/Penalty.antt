@@ -3,7 +3,7 @@ use mathlib.Core.Bool.{Bool, not}
 use mathlib.Core.List.{List, [], _∷_, _++_}
 use Prim.Native.Nat.{ℕ, zero, suc, _+_, _-_, min}
 use lib.Dec.{eqb, leb, ltb}
-use Rattle.logic.specs.Formula.{Relation, lt, le, eq, ne, ge, gt, Literal, isin, notin, port, size, Node, root, all, any, and, or, lit, Forest, none, tree}
+use Rattle.logic.specs.Formula.{Relation, lt, le, eq, ne, ge, gt, Test, isin, notin, port, size, Literal, Node, root, all, any, and, or, lit, Forest, none, tree}
 use Rattle.logic.specs.Configuration.{Configuration, indicator}
 use Rattle.logic.specs.Truth.{Tuple, portOf}
 
@@ -26,11 +26,15 @@ sizePenalty ge s c = c - s
 sizePenalty gt s c = c + 1 - s
 
 -- "In, not in and port comparison give 0 if true, else 1." Cases (f) to (i) of Definition 5.
+unfoldable pub testPenalty : Configuration → Test → Tuple → ℕ
+testPenalty k (isin v S) e = indicator (not (k .member S (portOf e v)))
+testPenalty k (notin v S) e = indicator (k .member S (portOf e v))
+testPenalty k (port r v w) e = indicator (not (compare r (portOf e v) (portOf e w)))
+testPenalty k (size r S c) e = sizePenalty r (k .size S) c
+
+-- A literal's penalty is its test's.
 unfoldable pub literalPenalty : Configuration → Literal → Tuple → ℕ
-literalPenalty k (isin v S) e = indicator (not (k .member S (portOf e v)))
-literalPenalty k (notin v S) e = indicator (k .member S (portOf e v))
-literalPenalty k (port r v w) e = indicator (not (compare r (portOf e v) (portOf e w)))
-literalPenalty k (size r S c) e = sizePenalty r (k .size S) c
+literalPenalty k l e = testPenalty k (l .test) e
 
 unfoldable pub sum : List ℕ → ℕ
 sum [] = 0

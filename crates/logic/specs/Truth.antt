@@ -6,7 +6,7 @@ use mathlib.Core.List.{List, [], _∷_}
 use Prim.Native.Nat.{ℕ, _≤_, _<_}
 use lib.Dec.{eqb}
 use lib.ListN.{length}
-use Rattle.logic.specs.Formula.{Relation, lt, le, eq, ne, ge, gt, Literal, isin, notin, port, size, Node, root, all, any, and, or, lit, Forest, none, tree, Plan}
+use Rattle.logic.specs.Formula.{Relation, lt, le, eq, ne, ge, gt, Test, isin, notin, port, size, Node, root, all, any, and, or, lit, Forest, none, tree, Plan}
 use Rattle.logic.specs.Configuration.{Configuration}
 
 -- The ports that the variables of a cell stand for, the innermost variable first.
@@ -27,11 +27,11 @@ Related ne a b = a ≢ b
 Related ge a b = b ≤ a
 Related gt a b = b < a
 
-unfoldable pub LiteralTrue : Configuration → Literal → Tuple → Type 0
-LiteralTrue k (isin v S) e = k .member S (portOf e v) ≡ true
-LiteralTrue k (notin v S) e = k .member S (portOf e v) ≡ false
-LiteralTrue k (port r v w) e = Related r (portOf e v) (portOf e w)
-LiteralTrue k (size r S c) e = Related r (k .size S) c
+unfoldable pub TestTrue : Configuration → Test → Tuple → Type 0
+TestTrue k (isin v S) e = k .member S (portOf e v) ≡ true
+TestTrue k (notin v S) e = k .member S (portOf e v) ≡ false
+TestTrue k (port r v w) e = Related r (portOf e v) (portOf e w)
+TestTrue k (size r S c) e = Related r (k .size S) c
 
 -- What is asked of the trees of a forest: all of them, one of them, the first.
 pub data Asked : Type 0 where
@@ -44,7 +44,7 @@ NodeTrue u k all H e = (p : ℕ) → p < u → H every (p ∷ e)
 NodeTrue u k any H e = (p : ℕ) × (p < u) × H some (p ∷ e)
 NodeTrue u k and H e = H every e
 NodeTrue u k or H e = H some e
-NodeTrue u k (lit l) H e = LiteralTrue k l e
+NodeTrue u k (lit l) H e = TestTrue k (l .test) e
 
 unfoldable pub ForestTrue : ℕ → Configuration → Forest → Asked → Tuple → Type 0
 ForestTrue u k none every e = Unit {0}

@@ -11,27 +11,32 @@ use lib.Dec.{eqb}
 use lib.ListN.{length, take, drop, length-append}
 use lib.Seq.{take-at, drop-at}
 use borrow.Author.Tests.{eqb-true, eq-eqb}
-use Rattle.logic.specs.Formula.{Relation, isin, notin, port, size, Node, root, all, any, and, or, lit, Forest, none, tree, Plan, kindNumber, nodeCount}
+use Rattle.logic.specs.Formula.{Relation, Test, isin, notin, port, size, literalOf, Node, root, all, any, and, or, lit, Forest, none, tree, Plan, testKind, kindNumber, nodeCount}
 use Rattle.logic.proofs.Lists.{and-left, and-right, and-true}
 use Rattle.logic.proofs.Relations.{relation-of-number}
-use Rattle.table_format.specs.Bytes.{recordLength, recordsOf, kindField, relationField, aField, bField, endField, relationByte, aByte, bByte, nodeOf, recordOf, records, header, encoding}
+use Rattle.table_format.specs.Bytes.{recordLength, recordsOf, kindField, relationField, aField, bField, endField, testRelation, testA, testB, relationByte, aByte, bByte, testOf, nodeOf, recordOf, records, header, encoding}
 use Rattle.table_format.specs.Rules.{planRule}
 use Rattle.table_format.specs.Decode.{TableOf, forestOf, candidate, begins, Decoded, broken, sound, decode}
 use Rattle.table_format.proofs.Parts.{childrenOf, siblingsOf, span-tree, span-children, span-forest}
 use Rattle.table_format.proofs.Bytes.{record-pos, length-record, kind-of-record, relation-of-record, a-of-record, b-of-record, end-of-record, records-of-header, ports-of-header, sets-of-header, nodes-of-header}
 
+-- a test's bytes name it
+node-of-test : (t : Test) → nodeOf (testKind t) (testRelation t) (testA t) (testB t) ≡ lit (literalOf t)
+unfolding nodeOf testOf testKind testRelation testA testB
+node-of-test (isin v S) = refl
+node-of-test (notin v S) = refl
+node-of-test (port r v w) = ap (λ (x : Relation). lit (literalOf (port x v w))) (relation-of-number r)
+node-of-test (size r S c) = ap (λ (x : Relation). lit (literalOf (size x S c))) (relation-of-number r)
+
 -- a node's bytes name it
 pub node-of-bytes : (n : Node) → nodeOf (kindNumber n) (relationByte n) (aByte n) (bByte n) ≡ n
-unfolding nodeOf kindNumber relationByte aByte bByte
+unfolding nodeOf literalOf kindNumber relationByte aByte bByte
 node-of-bytes root = refl
 node-of-bytes all = refl
 node-of-bytes any = refl
 node-of-bytes and = refl
 node-of-bytes or = refl
-node-of-bytes (lit (isin v S)) = refl
-node-of-bytes (lit (notin v S)) = refl
-node-of-bytes (lit (port r v w)) = ap (λ (x : Relation). lit (port x v w)) (relation-of-number r)
-node-of-bytes (lit (size r S c)) = ap (λ (x : Relation). lit (size x S c)) (relation-of-number r)
+node-of-bytes (lit l) = node-of-test (l .test)
 
 -- and so does the record that a part begins with
 pub node-of-record : (n : Node) (p e : ℕ) (t : List ℕ)

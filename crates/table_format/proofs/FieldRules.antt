@@ -7,12 +7,12 @@ use native.Mathlib.Numerals.{add-one}
 use native.Mathlib.Nat.{pow-suc}
 use lib.Dec.{eqb, leb, ltb}
 use borrow.Author.Tests.{eqb-true, ne-eqb, leb-true, le-leb, lt-leb, ltb-true}
-use Rattle.logic.specs.Formula.{Relation, isin, notin, port, size, Node, root, all, any, and, or, lit, relationNumber, relationOf, kindNumber, childDepth}
+use Rattle.logic.specs.Formula.{Relation, Test, isin, notin, port, size, literalOf, Node, root, all, any, and, or, lit, relationNumber, relationOf, testKind, kindNumber, childDepth}
 use Rattle.logic.proofs.Lists.{and-left, and-right, and-true}
-use Rattle.logic.proofs.Relations.{relation-number-le}
-use Rattle.table_format.specs.Bytes.{relationByte, aByte, bByte, nodeOf}
-use Rattle.table_format.specs.Rules.{literalRule, innerRule}
-use Rattle.table_format.specs.inner.Index.{nodeUses}
+use Rattle.logic.proofs.Relations.{relation-number-le, test-kind-range}
+use Rattle.table_format.specs.Bytes.{testRelation, testA, testB, relationByte, aByte, bByte, testOf, nodeOf}
+use Rattle.table_format.specs.Rules.{arityRule, testRule, literalRule, innerRule}
+use Rattle.table_format.specs.inner.Index.{testUses, nodeUses}
 use Rattle.table_format.specs.inner.Tests.{fieldRule, kindDepth, kindWidth, kindUses, UsesFit}
 use Rattle.table_format.proofs.Conjunctions.{two-true, three-true, all-three}
 
@@ -54,7 +54,7 @@ fields-high sets d kind r a b h =
     rw (ne-eqb kind 0 (λ e. omega arith), lt-leb kind 4 (omega arith), lt-leb kind 6 (omega arith), ne-eqb kind 7 (λ e. omega arith), ne-eqb kind 8 (λ e. omega arith))
 
 pub fields-node : (sets d kind r a b : ℕ) → fieldRule sets d kind r a b ≡ true → NodeIs sets d kind r a b (nodeOf kind r a b)
-unfolding fieldRule nodeOf kindNumber relationByte aByte bByte innerRule literalRule
+unfolding fieldRule nodeOf testOf literalOf testKind testRelation testA testB testRule kindNumber relationByte aByte bByte innerRule literalRule
 fields-node sets d zero r a b h = absurd (false≢true h)
 fields-node sets d (suc zero) r a b h = plain sets d 1 r a b all refl refl refl refl refl h
 fields-node sets d (suc (suc zero)) r a b h = plain sets d 2 r a b any refl refl refl refl refl h
@@ -81,6 +81,13 @@ relation-low r a b h =
     let t = two-true a b h in
     all-three (leb (relationNumber r) 5) a b (le-leb (relationNumber r) 5 (relation-number-le r)) (t .0) (t .1)
 
+test-fields : (sets d : ℕ) (t : Test) → testRule sets d t ≡ true → fieldRule sets d (testKind t) (testRelation t) (testA t) (testB t) ≡ true
+unfolding fieldRule testKind testRelation testA testB testRule
+test-fields sets d (isin v S) h = h
+test-fields sets d (notin v S) h = h
+test-fields sets d (port r v w) h = relation-low r _ _ h
+test-fields sets d (size r S c) h = relation-low r _ _ h
+
 pub node-fields : (sets d : ℕ) (n : Node) → innerRule sets n d ≡ true
     → fieldRule sets d (kindNumber n) (relationByte n) (aByte n) (bByte n) ≡ true
 unfolding fieldRule kindNumber relationByte aByte bByte innerRule literalRule
@@ -89,10 +96,17 @@ node-fields sets d all h = refl
 node-fields sets d any h = refl
 node-fields sets d and h = refl
 node-fields sets d or h = refl
-node-fields sets d (lit (isin v S)) h = h
-node-fields sets d (lit (notin v S)) h = h
-node-fields sets d (lit (port r v w)) h = relation-low r _ _ h
-node-fields sets d (lit (size r S c)) h = relation-low r _ _ h
+node-fields sets d (lit l) h = test-fields sets d (l .test) h
+
+-- literals have no children
+pub literal-arity : (t : Test) (m : ℕ) → arityRule (testKind t) m ≡ eqb m 0
+unfolding arityRule
+literal-arity t m =
+    let r = test-kind-range t in
+    rw (lt-leb (testKind t) 2 (omega arith), lt-leb (testKind t) 4 (omega arith))
+
+pub literal-children : (t : Test) (m : ℕ) → arityRule (testKind t) m ≡ true → m ≡ 0
+literal-children t m h = eqb-true m 0 (sym (literal-arity t m) ∙ h)
 
 -- a node's children and uses, by its kind
 pub kind-depth : (sets d : ℕ) (n : Node) → innerRule sets n d ≡ true → childDepth n d ≡ kindDepth (kindNumber n) d
@@ -102,10 +116,7 @@ kind-depth sets d all h = sym (add-one d)
 kind-depth sets d any h = sym (add-one d)
 kind-depth sets d and h = refl
 kind-depth sets d or h = refl
-kind-depth sets d (lit (isin v S)) h = refl
-kind-depth sets d (lit (notin v S)) h = refl
-kind-depth sets d (lit (port r v w)) h = refl
-kind-depth sets d (lit (size r S c)) h = refl
+kind-depth sets d (lit l) h = rw (lt-leb (testKind (l .test)) 2 (omega (arith, test-kind-range (l .test))))
 
 pub kind-depth-le : (kind d : ℕ) → kindDepth kind d ≤ suc d
 unfolding kindDepth
@@ -123,6 +134,13 @@ kind-width kind width ports d h = go (leb kind 2)
     go true = ap (λ (x : ℕ). x * ports) h ∙ sym (pow-suc ports d) ∙ ap (λ (x : ℕ). ports ^ x) (sym (add-one d))
     go false = h
 
+test-uses : (t : Test) → testUses t ≡ kindUses (testKind t) (testA t) (testB t)
+unfolding testUses kindUses testKind testA testB
+test-uses (isin v S) = refl
+test-uses (notin v S) = refl
+test-uses (port r v w) = refl
+test-uses (size r S c) = refl
+
 pub kind-uses : (n : Node) → nodeUses n ≡ kindUses (kindNumber n) (aByte n) (bByte n)
 unfolding nodeUses kindUses kindNumber aByte bByte
 kind-uses root = refl
@@ -130,10 +148,22 @@ kind-uses all = refl
 kind-uses any = refl
 kind-uses and = refl
 kind-uses or = refl
-kind-uses (lit (isin v S)) = refl
-kind-uses (lit (notin v S)) = refl
-kind-uses (lit (port r v w)) = refl
-kind-uses (lit (size r S c)) = refl
+kind-uses (lit l) = test-uses (l .test)
+
+test-uses-fit : (sets d : ℕ) (t : Test) → d ≤ 3 → sets ≤ 16 → testRule sets d t ≡ true → UsesFit (testKind t) (testA t) (testB t)
+unfolding testKind testA testB testRule
+test-uses-fit sets d (isin v S) e s h =
+    let a = ltb-true v d (and-left (ltb v d) _ h) in
+    let b = ltb-true S sets (and-right (ltb v d) _ h) in
+    record { variable = λ x y. omega arith; set = λ x y. omega arith; sized = λ x. absurd (omega arith) }
+test-uses-fit sets d (notin v S) e s h =
+    let a = ltb-true v d (and-left (ltb v d) _ h) in
+    let b = ltb-true S sets (and-right (ltb v d) _ h) in
+    record { variable = λ x y. omega arith; set = λ x y. omega arith; sized = λ x. absurd (omega arith) }
+test-uses-fit sets d (port r v w) e s h = record { variable = λ x y. absurd (omega arith); set = λ x y. absurd (omega arith); sized = λ x. absurd (omega arith) }
+test-uses-fit sets d (size r S c) e s h =
+    let a = ltb-true S sets (and-left (ltb S sets) _ h) in
+    record { variable = λ x y. absurd (omega arith); set = λ x y. absurd (omega arith); sized = λ x. omega arith }
 
 node-uses-fit : (sets d : ℕ) (n : Node) → d ≤ 3 → sets ≤ 16 → innerRule sets n d ≡ true → UsesFit (kindNumber n) (aByte n) (bByte n)
 unfolding kindNumber aByte bByte innerRule literalRule
@@ -142,18 +172,7 @@ node-uses-fit sets d all e s h = record { variable = λ x y. absurd (omega arith
 node-uses-fit sets d any e s h = record { variable = λ x y. absurd (omega arith); set = λ x y. absurd (omega arith); sized = λ x. absurd (omega arith) }
 node-uses-fit sets d and e s h = record { variable = λ x y. absurd (omega arith); set = λ x y. absurd (omega arith); sized = λ x. absurd (omega arith) }
 node-uses-fit sets d or e s h = record { variable = λ x y. absurd (omega arith); set = λ x y. absurd (omega arith); sized = λ x. absurd (omega arith) }
-node-uses-fit sets d (lit (isin v S)) e s h =
-    let a = ltb-true v d (and-left (ltb v d) _ h) in
-    let b = ltb-true S sets (and-right (ltb v d) _ h) in
-    record { variable = λ x y. omega arith; set = λ x y. omega arith; sized = λ x. absurd (omega arith) }
-node-uses-fit sets d (lit (notin v S)) e s h =
-    let a = ltb-true v d (and-left (ltb v d) _ h) in
-    let b = ltb-true S sets (and-right (ltb v d) _ h) in
-    record { variable = λ x y. omega arith; set = λ x y. omega arith; sized = λ x. absurd (omega arith) }
-node-uses-fit sets d (lit (port r v w)) e s h = record { variable = λ x y. absurd (omega arith); set = λ x y. absurd (omega arith); sized = λ x. absurd (omega arith) }
-node-uses-fit sets d (lit (size r S c)) e s h =
-    let a = ltb-true S sets (and-left (ltb S sets) _ h) in
-    record { variable = λ x y. absurd (omega arith); set = λ x y. absurd (omega arith); sized = λ x. omega arith }
+node-uses-fit sets d (lit l) e s h = test-uses-fit sets d (l .test) e s h
 
 pub uses-fit : (sets d kind r a b : ℕ) → d ≤ 3 → sets ≤ 16 → fieldRule sets d kind r a b ≡ true → UsesFit kind a b
 uses-fit sets d kind r a b e s h =

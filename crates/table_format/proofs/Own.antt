@@ -8,12 +8,12 @@ use lib.Dec.{ltb}
 use lib.ListN.{length, take, drop, length-append, take-append-drop}
 use lib.Seq.{take-all, take-at, length-take-le}
 use borrow.Author.Tests.{leb-true, ltb-true, ltb-false}
-use Rattle.logic.specs.Formula.{isin, notin, port, size, Node, root, all, any, and, or, lit, Forest, none, tree, Plan, kindNumber, nodeCount, childDepth}
+use Rattle.logic.specs.Formula.{Test, isin, notin, port, size, Node, root, all, any, and, or, lit, Forest, none, tree, Plan, testKind, kindNumber, nodeCount, childDepth}
 use Rattle.logic.proofs.Lists.{and-left, and-right}
 use Rattle.logic.proofs.Relations.{relation-number-le}
-use Rattle.table_format.specs.Bytes.{headerLength, tableBytes, setsField, nodesField, relationByte, aByte, bByte, recordOf, records, header, encoding}
+use Rattle.table_format.specs.Bytes.{headerLength, tableBytes, setsField, nodesField, testRelation, testA, testB, relationByte, aByte, bByte, recordOf, records, header, encoding}
 use Rattle.table_format.specs.inner.Fields.{Bytes}
-use Rattle.table_format.specs.Rules.{everyNode, depthRule, literalRule, innerRule, nodeRule, planRule}
+use Rattle.table_format.specs.Rules.{everyNode, depthRule, testRule, literalRule, innerRule, nodeRule, planRule}
 use Rattle.table_format.specs.Decode.{TableOf, Decoded, broken, sound, decode, ownBytes}
 use Rattle.table_format.proofs.Bytes.{header-within, length-header, sets-of-header, nodes-of-header, sets-of-front, nodes-of-front, bytes-append, no-bytes, NodeBytes, record-bytes, header-bytes}
 use Rattle.table_format.proofs.Encoding.{length-records, decode-complete, decode-sound}
@@ -105,6 +105,18 @@ root-bytes : NodeBytes root
 unfolding kindNumber relationByte aByte bByte
 root-bytes = record { kind = omega arith; relation = omega arith; a = omega arith; b = omega arith }
 
+test-bytes : (sets d : ℕ) (t : Test) → sets ≤ 16 → d ≤ 3 → testRule sets d t ≡ true
+    → (testKind t < 256) × (testRelation t < 256) × (testA t < 256) × (testB t < 256)
+unfolding testRule testKind testRelation testA testB
+test-bytes sets d (isin v S) s e h =
+    omega (arith, ltb-true v d (and-left (ltb v d) _ h), ltb-true S sets (and-right (ltb v d) _ h))
+test-bytes sets d (notin v S) s e h =
+    omega (arith, ltb-true v d (and-left (ltb v d) _ h), ltb-true S sets (and-right (ltb v d) _ h))
+test-bytes sets d (port r v w) s e h =
+    omega (arith, ltb-true v d (and-left (ltb v d) _ h), ltb-true w d (and-right (ltb v d) _ h), relation-number-le r)
+test-bytes sets d (size r S c) s e h =
+    omega (arith, ltb-true S sets (and-left (ltb S sets) _ h), leb-true c 64 (and-right (ltb S sets) _ h), relation-number-le r)
+
 node-bytes : (sets d : ℕ) (n : Node) → sets ≤ 16 → d ≤ 3 → innerRule sets n d ≡ true → NodeBytes n
 unfolding innerRule literalRule kindNumber relationByte aByte bByte
 node-bytes sets d root s e h = absurd (false≢true h)
@@ -112,22 +124,9 @@ node-bytes sets d all s e h = record { kind = omega arith; relation = omega arit
 node-bytes sets d any s e h = record { kind = omega arith; relation = omega arith; a = omega arith; b = omega arith }
 node-bytes sets d and s e h = record { kind = omega arith; relation = omega arith; a = omega arith; b = omega arith }
 node-bytes sets d or s e h = record { kind = omega arith; relation = omega arith; a = omega arith; b = omega arith }
-node-bytes sets d (lit (isin v S)) s e h =
-    let x = ltb-true v d (and-left (ltb v d) _ h) in
-    let y = ltb-true S sets (and-right (ltb v d) _ h) in
-    record { kind = omega arith; relation = omega arith; a = omega arith; b = omega arith }
-node-bytes sets d (lit (notin v S)) s e h =
-    let x = ltb-true v d (and-left (ltb v d) _ h) in
-    let y = ltb-true S sets (and-right (ltb v d) _ h) in
-    record { kind = omega arith; relation = omega arith; a = omega arith; b = omega arith }
-node-bytes sets d (lit (port r v w)) s e h =
-    let x = ltb-true v d (and-left (ltb v d) _ h) in
-    let y = ltb-true w d (and-right (ltb v d) _ h) in
-    record { kind = omega arith; relation = omega (arith, relation-number-le r); a = omega arith; b = omega arith }
-node-bytes sets d (lit (size r S c)) s e h =
-    let x = ltb-true S sets (and-left (ltb S sets) _ h) in
-    let y = leb-true c 64 (and-right (ltb S sets) _ h) in
-    record { kind = omega arith; relation = omega (arith, relation-number-le r); a = omega arith; b = omega arith }
+node-bytes sets d (lit l) s e h =
+    let b = test-bytes sets d (l .test) s e h in
+    record { kind = b .0; relation = b .1; a = b .2; b = b .3 }
 
 records-bytes : (sets : ℕ) → sets ≤ 16 → (f : Forest) (d i p : ℕ) → everyNode (nodeRule sets) f d ≡ true → i + nodeCount f < 65536 → p < 65536
     → Bytes (records f i p)

@@ -9,9 +9,10 @@ use lib.Dec.{eqb, leb}
 use lib.ListN.{length, take, drop, length-append}
 use lib.Seq.{take-at, drop-at}
 use borrow.Author.Tests.{eqb-true, eq-eqb, leb-true, le-leb}
-use Rattle.logic.specs.Formula.{Node, Forest, root, all, tree, any, kindNumber, and, nodeCount, or, childDepth, lit, isin, notin, port, size, none, Plan}
+use Rattle.logic.specs.Formula.{Node, Forest, root, all, tree, any, kindNumber, and, nodeCount, or, childDepth, lit, none, Plan}
 use Rattle.logic.specs.Cells.{cellCount, ownCells}
 use Rattle.logic.proofs.Lists.{and-true}
+use Rattle.logic.proofs.Relations.{test-kind-range}
 use Rattle.table_format.specs.Bytes.{headerLength, recordLength, recordsFrom, tableBytes, recordsOf, kindField, relationField, aField, bField, parentField, endField, marked, versionField, portsField, setsField, nodesField, relationByte, aByte, bByte, recordOf, records, header, encoding}
 use Rattle.table_format.specs.inner.Fields.{Bytes}
 use Rattle.table_format.specs.Rules.{everyNode, treeCount, arityRule, mayNest, nestingRule, depthRule, innerRule, formulaRule, nodeRule, mostCells, planRule}
@@ -53,10 +54,7 @@ only-root all h = absurd (omega arith)
 only-root any h = absurd (omega arith)
 only-root and h = absurd (omega arith)
 only-root or h = absurd (omega arith)
-only-root (lit (isin v S)) h = absurd (omega arith)
-only-root (lit (notin v S)) h = absurd (omega arith)
-only-root (lit (port r v w)) h = absurd (omega arith)
-only-root (lit (size r S c)) h = absurd (omega arith)
+only-root (lit l) h = absurd (omega (arith, test-kind-range (l .test)))
 
 abbrev pub rooted : ℕ → ℕ → Forest → Plan
 rooted u n c = record { ports = u; sets = n; formula = tree root c none }

@@ -1,10 +1,10 @@
 -- The plan table's bytes: paper 01, section Plan table. Fields are read and written through the names below only.
-use mathlib.Core.Bool.{Bool, _&&_}
+use mathlib.Core.Bool.{Bool, cond, _&&_}
 use mathlib.Core.List.{List, [], _∷_, _++_}
 use Prim.Native.Nat.{ℕ, zero, suc, _+_, _*_, _/_, _%_}
 use lib.Dec.{eqb}
 use lib.ListN.{getD, drop}
-use Rattle.logic.specs.Formula.{isin, notin, port, size, Node, root, all, any, and, or, lit, Forest, none, tree, Plan, relationNumber, relationOf, kindNumber, nodeCount}
+use Rattle.logic.specs.Formula.{Test, isin, notin, port, size, literalOf, Node, root, all, any, and, or, lit, Forest, none, tree, Plan, relationNumber, relationOf, kindNumber, nodeCount}
 
 -- "Header, 9 bytes"; "Then 8 bytes a node".
 unfoldable pub headerLength : ℕ
@@ -79,28 +79,40 @@ unfoldable pub recordAt : List ℕ → ℕ → List ℕ
 recordAt l i = drop (recordLength * i) (recordsOf l)
 
 -- "Relation (kinds 7, 8)"; "Unused fields are 0."
+unfoldable pub testRelation : Test → ℕ
+testRelation (isin v S) = 0
+testRelation (notin v S) = 0
+testRelation (port r v w) = relationNumber r
+testRelation (size r S c) = relationNumber r
+
 unfoldable pub relationByte : Node → ℕ
 relationByte root = 0
 relationByte all = 0
 relationByte any = 0
 relationByte and = 0
 relationByte or = 0
-relationByte (lit (isin v S)) = 0
-relationByte (lit (notin v S)) = 0
-relationByte (lit (port r v w)) = relationNumber r
-relationByte (lit (size r S c)) = relationNumber r
+relationByte (lit l) = testRelation (l .test)
 
 -- "Kinds 5, 6: a is a variable, b a set. Kind 7: a and b are variables. Kind 8: a is a set, b the constant."
+unfoldable pub testA : Test → ℕ
+testA (isin v S) = v
+testA (notin v S) = v
+testA (port r v w) = v
+testA (size r S c) = S
+
+unfoldable pub testB : Test → ℕ
+testB (isin v S) = S
+testB (notin v S) = S
+testB (port r v w) = w
+testB (size r S c) = c
+
 unfoldable pub aByte : Node → ℕ
 aByte root = 0
 aByte all = 0
 aByte any = 0
 aByte and = 0
 aByte or = 0
-aByte (lit (isin v S)) = v
-aByte (lit (notin v S)) = v
-aByte (lit (port r v w)) = v
-aByte (lit (size r S c)) = S
+aByte (lit l) = testA (l .test)
 
 unfoldable pub bByte : Node → ℕ
 bByte root = 0
@@ -108,22 +120,21 @@ bByte all = 0
 bByte any = 0
 bByte and = 0
 bByte or = 0
-bByte (lit (isin v S)) = S
-bByte (lit (notin v S)) = S
-bByte (lit (port r v w)) = w
-bByte (lit (size r S c)) = c
+bByte (lit l) = testB (l .test)
 
--- The node that a kind, a relation, a and b say; other kinds are read as 8 and other relations as 5.
+-- The test that a literal's kind, its relation, a and b say; other kinds are read as 8 and other relations as 5.
+unfoldable pub testOf : ℕ → ℕ → ℕ → ℕ → Test
+testOf kind r a b =
+    cond (eqb kind 5) (isin a b) (cond (eqb kind 6) (notin a b) (cond (eqb kind 7) (port (relationOf r) a b) (size (relationOf r) a b)))
+
+-- The node that a kind, a relation, a and b say; from kind 5 on, a literal.
 unfoldable pub nodeOf : ℕ → ℕ → ℕ → ℕ → Node
 nodeOf zero r a b = root
 nodeOf (suc zero) r a b = all
 nodeOf (suc (suc zero)) r a b = any
 nodeOf (suc (suc (suc zero))) r a b = and
 nodeOf (suc (suc (suc (suc zero)))) r a b = or
-nodeOf (suc (suc (suc (suc (suc zero))))) r a b = lit (isin a b)
-nodeOf (suc (suc (suc (suc (suc (suc zero)))))) r a b = lit (notin a b)
-nodeOf (suc (suc (suc (suc (suc (suc (suc zero))))))) r a b = lit (port (relationOf r) a b)
-nodeOf (suc (suc (suc (suc (suc (suc (suc (suc k)))))))) r a b = lit (size (relationOf r) a b)
+nodeOf (suc (suc (suc (suc (suc k))))) r a b = lit (literalOf (testOf (suc (suc (suc (suc (suc k))))) r a b))
 
 -- One record by its fields, and the record of a node by its parent's number and its end.
 unfoldable pub recordBytes : ℕ → ℕ → ℕ → ℕ → ℕ → ℕ → List ℕ

@@ -3,7 +3,7 @@
 use mathlib.Core.Bool.{Bool, true, false, cond, not, _&&_}
 use Prim.Native.Nat.{ℕ, suc}
 use lib.Dec.{eqb, leb, ltb}
-use Rattle.logic.specs.Formula.{Literal, isin, notin, port, size, Node, root, all, any, and, or, lit, Forest, none, tree, Plan, kindNumber, nodeCount, childDepth}
+use Rattle.logic.specs.Formula.{Test, isin, notin, port, size, Literal, Node, root, all, any, and, or, lit, Forest, none, tree, Plan, kindNumber, nodeCount, childDepth}
 use Rattle.logic.specs.Cells.{ownCells}
 
 -- A rule for every node of a forest at depth d, by the node, its children and its depth.
@@ -32,11 +32,15 @@ unfoldable pub depthRule : ℕ → Bool
 depthRule d = leb d 3
 
 -- "A variable's number is below the depth"; a set's number is below n; "Zero to 64 is the range of a size constant."
+unfoldable pub testRule : ℕ → ℕ → Test → Bool
+testRule sets d (isin v S) = ltb v d && ltb S sets
+testRule sets d (notin v S) = ltb v d && ltb S sets
+testRule sets d (port r v w) = ltb v d && ltb w d
+testRule sets d (size r S c) = ltb S sets && leb c 64
+
+-- A literal at depth d keeps its test's rule.
 unfoldable pub literalRule : ℕ → ℕ → Literal → Bool
-literalRule sets d (isin v S) = ltb v d && ltb S sets
-literalRule sets d (notin v S) = ltb v d && ltb S sets
-literalRule sets d (port r v w) = ltb v d && ltb w d
-literalRule sets d (size r S c) = ltb S sets && leb c 64
+literalRule sets d l = testRule sets d (l .test)
 
 -- "and only node 0 is a root": a node below it.
 unfoldable pub innerRule : ℕ → Node → ℕ → Bool

@@ -6,7 +6,7 @@ use mathlib.Core.List.{List, _∷_}
 use Prim.Native.Nat.{ℕ, zero, suc, _<_}
 use native.Mathlib.Decide.{decLt}
 use native.Mathlib.Omega.{arith}
-use Rattle.logic.specs.Formula.{Relation, Literal, isin, notin, port, size}
+use Rattle.logic.specs.Formula.{Relation, Test, isin, notin, port, size}
 use Rattle.logic.specs.Configuration.{Configuration}
 use Rattle.logic.specs.Truth.{Related}
 use Rattle.logic.specs.Penalty.{compare}
@@ -176,7 +176,7 @@ related-dec r a b = go (true-dec (compare r a b))
     go (no f) = no (λ h. f (compare-true r a b .1 h))
 
 module _ (u : ℕ) (k : Configuration) (sets : List ℕ) where
-  leaf-dec : (env : List Binding) (l : Literal) → Dec (LeafTrue k sets env l)
+  leaf-dec : (env : List Binding) (t : Test) → Dec (LeafTrue k sets env t)
   unfolding LeafTrue
   leaf-dec env (isin v S) = true-dec _
   leaf-dec env (notin v S) = false-dec _
@@ -185,7 +185,7 @@ module _ (u : ℕ) (k : Configuration) (sets : List ℕ) where
 
   pub tree-dec : (env : List Binding) (a : Tree) → Dec (TreeTrue u k sets env a)
   unfolding TreeTrue
-  tree-dec env (leaf l) = leaf-dec env l
+  tree-dec env (leaf l) = leaf-dec env (l .test)
   tree-dec env (neg a) = not-dec (tree-dec env a)
   tree-dec env (par a) = tree-dec env a
   tree-dec env (bind q v a) = bind-dec q u (λ p. TreeTrue u k sets ((v, p) ∷ env) a) (λ p. tree-dec ((v, p) ∷ env) a)

@@ -6,16 +6,19 @@ use Prim.Native.Nat.{ℕ, suc, _≤_, _<_}
 use native.Mathlib.Omega.{arith}
 use lib.Dec.{eqb, leb, ltb}
 use lib.ListN.{length}
-use borrow.Author.Tests.{lt-leb, lt-ltb, le-leb, eq-eqb, leb-true, leb-false, ltb-true, ltb-false, not-false}
-use Rattle.logic.specs.Formula.{Literal, isin, notin, port, size, Node, root, all, any, and, or, lit, Forest, none, tree, kindNumber, childDepth}
-use Rattle.logic.specs.inner.Literals.{Every, OfLiteral, VariablesBelow, VariablesBound, ConstantLow, ConstantsLow}
+use borrow.Author.Tests.{lt-leb, lt-ltb, le-leb, eq-eqb, ne-eqb, leb-false, ltb-false, not-false}
+use Rattle.logic.specs.Formula.{Test, isin, notin, port, size, Literal, literalOf, Node, root, all, any, and, lit, Forest, none, tree, testKind, kindNumber, childDepth}
+use Rattle.logic.specs.inner.Literals.{VariablesBelow, VariablesBound, ConstantLow, ConstantsLow}
 use Rattle.logic.specs.Change.{someOf}
-use Rattle.logic.proofs.Lists.{or-left, or-right, and-left, and-right, and-true}
+use Rattle.logic.proofs.Lists.{or-left, or-right, and-right, and-true}
+use Rattle.logic.proofs.Relations.{test-kind-range}
 use Rattle.text_tree.specs.Tree.{Quantifier, forall, exists, Tree, leaf, neg, par, bind, join, Declared, lettersOf}
 use Rattle.text_tree.proofs.Sets.{letters-length}
-use Rattle.text_core.specs.Names.{among, setNumber, variableNumber, misdeclared, misnamedLiteral, misnamed, ground5, highLiteral, ground6, fourth, ground7}
-use Rattle.text_core.specs.Core.{Above, alone, inside, jointNode, Part, joint, two, quantifierNode, memberAt, literalAt, place, coreOf}
-use Rattle.table_format.specs.Rules.{everyNode, treeCount, arityRule, mayNest, nestingRule, depthRule, literalRule, innerRule, nodeRule, formulaRule}
+use Rattle.text_core.specs.Names.{among, setNumber, variableNumber, misdeclared, misnamedTest, misnamed, ground5, highConstant, ground6, fourth, ground7}
+use Rattle.text_core.specs.Core.{Above, alone, inside, jointNode, Part, joint, two, quantifierNode, memberAt, testAt, literalAt, place, coreOf}
+use Rattle.table_format.specs.Rules.{everyNode, treeCount, arityRule, mayNest, nestingRule, depthRule, testRule, literalRule, innerRule, nodeRule, formulaRule}
+use Rattle.table_format.proofs.FieldRules.{literal-arity}
+use Rattle.table_format.proofs.Facts.{every-rooted, constant-low, variables-below}
 use Rattle.text_core.proofs.Decided.{joined}
 use Rattle.text_core.proofs.SameTruth.{variable-below}
 
@@ -122,16 +125,10 @@ module _ (n : ℕ) where
         lone : (s : Forest) → treeCount (joint j (λ r. F (inside j) (G (inside j) r)) alone s) ≡ suc (treeCount s)
         lone s = unfold joint treeCount in refl
 
-literal-may : (l : Literal) (j : Bool) → mayNest (kindNumber (jointNode j)) (kindNumber (lit l)) ≡ true
+literal-may : (t : Test) (j : Bool) → mayNest (kindNumber (jointNode j)) (testKind t) ≡ true
 unfolding mayNest kindNumber jointNode
-literal-may (isin v S) true = refl
-literal-may (isin v S) false = refl
-literal-may (notin v S) true = refl
-literal-may (notin v S) false = refl
-literal-may (port r v w) true = refl
-literal-may (port r v w) false = refl
-literal-may (size r S c) true = refl
-literal-may (size r S c) false = refl
+literal-may t true = rw (ne-eqb 3 (testKind t) (λ e. omega (arith, test-kind-range t)))
+literal-may t false = rw (ne-eqb 4 (testKind t) (λ e. omega (arith, test-kind-range t)))
 
 quantifier-may : (q : Quantifier) (j : Bool) → mayNest (kindNumber (jointNode j)) (kindNumber (quantifierNode true q)) ≡ true
 unfolding mayNest kindNumber jointNode quantifierNode
@@ -142,37 +139,29 @@ quantifier-may exists false = refl
 
 module _ (sets : List ℕ) where
   member-rule : (vars : List ℕ) (p : Bool) (v S : ℕ) → (not (among vars v) || not (among sets S)) ≡ false
-      → literalRule (length sets) (length vars) (memberAt p (variableNumber vars v) (setNumber sets S)) ≡ true
-  unfolding memberAt literalRule
+      → testRule (length sets) (length vars) (memberAt p (variableNumber vars v) (setNumber sets S)) ≡ true
+  unfolding memberAt testRule
   member-rule vars p v S h = go p (lt-ltb _ _ (variable-below vars v (not-false _ (or-left _ _ h)))) (lt-ltb _ _ (set-below sets S (not-false _ (or-right (not (among vars v)) _ h))))
     where
       go : (p : Bool) → ltb (variableNumber vars v) (length vars) ≡ true → ltb (setNumber sets S) (length sets) ≡ true
-          → literalRule (length sets) (length vars) (memberAt p (variableNumber vars v) (setNumber sets S)) ≡ true
+          → testRule (length sets) (length vars) (memberAt p (variableNumber vars v) (setNumber sets S)) ≡ true
       go true a b = and-true _ _ a b
       go false a b = and-true _ _ a b
 
-  literal-rule : (vars : List ℕ) (p : Bool) (l : Literal) → misnamedLiteral sets vars l ≡ false → highLiteral l ≡ false
-      → literalRule (length sets) (length vars) (literalAt sets vars p l) ≡ true
-  unfolding misnamedLiteral highLiteral literalRule literalAt
-  literal-rule vars p (isin v S) h g = member-rule vars p v S h
-  literal-rule vars p (notin v S) h g = member-rule vars (not p) v S h
-  literal-rule vars p (port r v w) h g =
+  test-rule : (vars : List ℕ) (p : Bool) (t : Test) → misnamedTest sets vars t ≡ false → highConstant t ≡ false
+      → testRule (length sets) (length vars) (testAt sets vars p t) ≡ true
+  unfolding misnamedTest highConstant testRule testAt
+  test-rule vars p (isin v S) h g = member-rule vars p v S h
+  test-rule vars p (notin v S) h g = member-rule vars (not p) v S h
+  test-rule vars p (port r v w) h g =
       and-true _ _ (lt-ltb _ _ (variable-below vars v (not-false _ (or-left _ _ h))))
       (lt-ltb _ _ (variable-below vars w (not-false _ (or-right (not (among vars v)) _ h))))
-  literal-rule vars p (size r S c) h g = and-true _ _ (lt-ltb _ _ (set-below sets S (not-false _ h))) (le-leb c 64 (ltb-false 64 c g))
+  test-rule vars p (size r S c) h g = and-true _ _ (lt-ltb _ _ (set-below sets S (not-false _ h))) (le-leb c 64 (ltb-false 64 c g))
 
   literal-fits : (d : ℕ) (l : Literal) → d ≤ 3 → literalRule (length sets) d l ≡ true → Fits (length sets) (λ above s. tree (lit l) none s) d
-  unfolding nodeRule depthRule innerRule everyNode
-  literal-fits d l low h = tree-fits (length sets) (lit l) none d (and4 _ _ _ _ h (le-leb d 3 low) (arity l) (nests l)) refl (literal-may l)
-    where
-      arity : (l : Literal) → arityRule (kindNumber (lit l)) (treeCount none) ≡ true
-      arity (isin v S) = unfold arityRule kindNumber treeCount in refl
-      arity (notin v S) = unfold arityRule kindNumber treeCount in refl
-      arity (port r v w) = unfold arityRule kindNumber treeCount in refl
-      arity (size r S c) = unfold arityRule kindNumber treeCount in refl
-
-      nests : (l : Literal) → nestingRule (kindNumber (lit l)) none ≡ true
-      nests l = unfold nestingRule in refl
+  unfolding nodeRule depthRule innerRule everyNode nestingRule kindNumber treeCount
+  literal-fits d l low h =
+      tree-fits (length sets) (lit l) none d (and4 _ _ _ _ h (le-leb d 3 low) (literal-arity (l .test) 0) refl) refl (literal-may (l .test))
 
   over-fits : (q : Quantifier) (d : ℕ) (F : Part) → d < 3 → Fits (length sets) F (suc d) → Fits (length sets) (λ above s. tree (quantifierNode true q) (F alone none) s) d
   unfolding nodeRule depthRule innerRule arityRule kindNumber quantifierNode everyNode childDepth treeCount
@@ -193,8 +182,8 @@ module _ (sets : List ℕ) where
 
   place-fits : (vars : List ℕ) (p : Bool) (a : Tree) → length vars ≤ 3 → misnamed sets vars a ≡ false → ground6 a ≡ false → fourth (length vars) a ≡ false
       → Fits (length sets) (place sets vars p a) (length vars)
-  unfolding place misnamed ground6 fourth
-  place-fits vars p (leaf l) low h g f = literal-fits (length vars) _ low (literal-rule vars p l h g)
+  unfolding place misnamed ground6 fourth literalRule literalAt literalOf
+  place-fits vars p (leaf l) low h g f = literal-fits (length vars) _ low (test-rule vars p (l .test) h g)
   place-fits vars p (neg a) low h g f = place-fits vars (not p) a low h g f
   place-fits vars p (par a) low h g f = place-fits vars p a low h g f
   place-fits vars p (bind q v a) low h g f =
@@ -221,30 +210,9 @@ core-rules sets a h g f = rw (← letters-length sets) (named-rules (lettersOf s
 
 -- and so what the laws of truth and penalty ask
 module _ (n : ℕ) where
-  literal-kept : (m : Node) (c : Forest) (d : ℕ) → nodeRule n m c d ≡ true → OfLiteral (VariablesBelow d) m × OfLiteral ConstantLow m
-  unfolding nodeRule innerRule OfLiteral VariablesBelow ConstantLow literalRule
-  literal-kept root c d h = (tt, tt)
-  literal-kept all c d h = (tt, tt)
-  literal-kept any c d h = (tt, tt)
-  literal-kept and c d h = (tt, tt)
-  literal-kept or c d h = (tt, tt)
-  literal-kept (lit (isin v S)) c d h = (ltb-true v d (and-left _ _ (and-left _ _ (and-left _ _ (and-left _ _ h)))), tt)
-  literal-kept (lit (notin v S)) c d h = (ltb-true v d (and-left _ _ (and-left _ _ (and-left _ _ (and-left _ _ h)))), tt)
-  literal-kept (lit (port r v w)) c d h =
-      let i = and-left _ _ (and-left _ _ (and-left _ _ h)) in ((ltb-true v d (and-left _ _ i), ltb-true w d (and-right (ltb v d) _ i)), tt)
-  literal-kept (lit (size r S k)) c d h = (tt, leb-true k 64 (and-right (ltb S n) _ (and-left _ _ (and-left _ _ (and-left _ _ h)))))
-
-  kept : (f : Forest) (d : ℕ) → everyNode (nodeRule n) f d ≡ true → VariablesBound f d × ConstantsLow f d
-  unfolding everyNode VariablesBound ConstantsLow Every
-  kept none d h = (tt, tt)
-  kept (tree m c s) d h =
-      let l = literal-kept m c d (and-left _ _ (and-left _ _ h)) in
-      let C = kept c (childDepth m d) (and-right (nodeRule n m c d) _ (and-left _ _ h)) in
-      let S = kept s d (and-right (nodeRule n m c d && everyNode (nodeRule n) c (childDepth m d)) _ h) in
-      ((l .0, C .0, S .0), (l .1, C .1, S .1))
-
   pub core-kept : (sets : List ℕ) (a : Tree) → formulaRule n (coreOf sets a) ≡ true → VariablesBound (coreOf sets a) 0 × ConstantsLow (coreOf sets a) 0
-  unfolding coreOf formulaRule VariablesBound ConstantsLow Every OfLiteral childDepth
+  unfolding coreOf formulaRule VariablesBound ConstantsLow
   core-kept sets a h =
       let c = place sets [] true a alone none in
-      let K = kept c 0 (and-right (eqb (kindNumber root) 0 && eqb (treeCount none) 0 && arityRule (kindNumber root) (treeCount c)) _ h) in ((tt, K .0, tt), (tt, K .1, tt))
+      let r = and-right (eqb (kindNumber root) 0 && eqb (treeCount none) 0 && arityRule (kindNumber root) (treeCount c)) _ h in
+      (every-rooted n VariablesBelow (variables-below n) c r, every-rooted n (λ d t. ConstantLow t) (constant-low n) c r)

@@ -8,15 +8,15 @@ use native.Mathlib.Omega.{arith}
 use lib.Dec.{eqb, leb, ltb}
 use lib.ListN.{length, getD}
 use borrow.Author.Tests.{eqb-true}
-use Rattle.logic.specs.Formula.{Literal, isin, notin, port, size}
-use Rattle.text_tree.specs.Tree.{Quantifier, Join, Tree, leaf, neg, par, bind, join, Declared}
+use Rattle.logic.specs.Formula.{Test, isin, notin, port, size, literalOf}
+use Rattle.text_tree.specs.Tree.{Quantifier, Join, Tree, neg, par, bind, join, Declared, leafOf}
 use Rattle.text_tokens.specs.declared.Token.{Token}
 use Rattle.text_tokens.specs.declared.Sign.{Sign}
 use Rattle.text_tokens.specs.Tokens.{pick, isVariable, isSet, isDigit, sign, oneOrTwo, singleKind, signOf, runAt, runToken, hereAt, afterBlanks, tokenAt}
 use Rattle.text_tokens.proofs.Laws.{between-range}
 use Rattle.text_grammar.specs.Grammar.{Level, unit, conjunction, disjunction, formula, kindAt, valueAt, nextAt}
 use Rattle.text_grammar.specs.Parser.{Part, missing, found, test, follow, nothing, mapPart, quantifierSign, relationSign, joinSign, joined, closed, bound, operand, variableLiteral, compared, sizeLiteral, parseAt, Result, failed, read, ended, declared, setsAt, afterSets, parsed}
-use Rattle.text_core.specs.Names.{Variable, SetLetter, LetteredLiteral, Lettered}
+use Rattle.text_core.specs.Names.{Variable, SetLetter, LetteredTest, Lettered}
 
 pub when {ℓ} : {A : Type 0} (P : A → Type ℓ) (b : Bool) {x y : A} → (b ≡ true → P x) → (b ≡ false → P y) → P (pick b x y)
 when P true f g = f refl
@@ -138,13 +138,13 @@ module _ (s : List ℕ) where
   good-closed missing g = tt
   good-closed (found a i) g = good-test (eqb (kindAt s i) 4) (found (par a)) nothing (nextAt s i) (λ _. g) (λ _. tt)
 
-  good-operand : (wanted : ℕ) (make : ℕ → Literal) (i : ℕ) → (kindAt s i ≡ wanted → LetteredLiteral (make (valueAt s i))) → Good (operand s wanted make i)
-  unfolding Lettered
+  good-operand : (wanted : ℕ) (make : ℕ → Test) (i : ℕ) → (kindAt s i ≡ wanted → LetteredTest (make (valueAt s i))) → Good (operand s wanted make i)
+  unfolding Lettered literalOf
   good-operand wanted make i f =
-      good-test (eqb (kindAt s i) wanted) (found (leaf (make (valueAt s i)))) nothing (nextAt s i) (λ e. f (eqb-true _ _ e)) (λ _. tt)
+      good-test (eqb (kindAt s i) wanted) (found (leafOf (make (valueAt s i)))) nothing (nextAt s i) (λ e. f (eqb-true _ _ e)) (λ _. tt)
 
   good-variable : (v i : ℕ) → Variable v → Good (variableLiteral s v i)
-  unfolding LetteredLiteral
+  unfolding LetteredTest
   good-variable v i l =
       good-test (eqb (kindAt s i) 13) (operand s 23 (isin v)) _ (nextAt s i) (λ _. good-operand 23 (isin v) _ (λ e. (l, token-valued s _ .set-is e))) (λ _.
       good-test (eqb (kindAt s i) 14) (operand s 23 (notin v)) _ (nextAt s i) (λ _. good-operand 23 (notin v) _ (λ e. (l, token-valued s _ .set-is e))) (λ _.
@@ -152,7 +152,7 @@ module _ (s : List ℕ) where
       (λ r. good-operand 22 (port r v) _ (λ e. (l, token-valued s _ .variable-is e))) tt))
 
   good-size : (i : ℕ) → Good (sizeLiteral s i)
-  unfolding LetteredLiteral
+  unfolding LetteredTest
   good-size i =
       good-test (eqb (kindAt s i) 23) (compared s (valueAt s i)) nothing (nextAt s i)
       (λ e. good-follow (relationSign (kindAt s (nextAt s i))) (λ r. operand s 24 (size r (valueAt s i))) nothing (nextAt s (nextAt s i))

@@ -9,15 +9,15 @@ use native.Mathlib.Omega.{arith}
 use lib.Dec.{eqb}
 use lib.ListN.{length}
 use borrow.Author.Tests.{ne-eqb, eq-eqb, not-false}
-use Rattle.logic.specs.Formula.{Relation, lt, le, eq, ne, ge, gt, Literal, isin, notin, port, size, Node, and, or, lit, Forest, none, tree}
+use Rattle.logic.specs.Formula.{Relation, lt, le, eq, ne, ge, gt, Test, isin, notin, port, size, literalOf, Node, and, or, lit, Forest, none, tree}
 use Rattle.logic.specs.Configuration.{Configuration}
 use Rattle.logic.specs.Change.{someOf}
-use Rattle.logic.specs.Truth.{Tuple, portOf, Related, LiteralTrue, Asked, every, some, first, NodeTrue, ForestTrue, PlanTrue}
+use Rattle.logic.specs.Truth.{Tuple, portOf, Related, TestTrue, Asked, every, some, first, NodeTrue, ForestTrue, PlanTrue}
 use Rattle.logic.proofs.Lists.{or-left, or-right}
 use Rattle.text_tree.specs.Tree.{Quantifier, forall, exists, Tree, leaf, neg, par, bind, join, Declared, lettersOf}
-use Rattle.text_core.specs.Names.{among, setNumber, variableNumber, misnamedLiteral, misdeclared, misnamed, ground5}
+use Rattle.text_core.specs.Names.{among, setNumber, variableNumber, misnamedTest, misdeclared, misnamed, ground5}
 use Rattle.text_core.specs.Meaning.{Binding, valueOf, LeafTrue, BindTrue, TreeTrue}
-use Rattle.text_core.specs.Core.{alone, inside, jointNode, Part, joint, two, quantifierNode, opposite, relationAt, memberAt, literalAt, place, coreOf, planOf}
+use Rattle.text_core.specs.Core.{alone, inside, jointNode, Part, joint, two, quantifierNode, opposite, relationAt, memberAt, testAt, literalAt, place, coreOf, planOf}
 use Rattle.text_core.proofs.Decided.{Signed, Both, iff-trans, both-same, neg-law, joined, join-law, Ports, bind-law, false-law, true-law, tree-dec}
 
 abbrev pub letters : List Binding → List ℕ
@@ -79,27 +79,27 @@ relation-law false ge a b = (λ h f. omega arith, λ h. omega arith)
 relation-law false gt a b = (λ h f. omega arith, λ h. omega arith)
 
 module _ (k : Configuration) where
-  member-law : (p : Bool) (v S : ℕ) (e : Tuple) (b : Bool) → k .member S (portOf e v) ≡ b → LiteralTrue k (memberAt p v S) e ↔ Signed p (b ≡ true)
-  unfolding memberAt LiteralTrue
+  member-law : (p : Bool) (v S : ℕ) (e : Tuple) (b : Bool) → k .member S (portOf e v) ≡ b → TestTrue k (memberAt p v S) e ↔ Signed p (b ≡ true)
+  unfolding memberAt TestTrue
   member-law true v S e b h = rw h (λ x. x, λ x. x)
   member-law false v S e b h = rw h (false-law b)
 
-  outside-law : (p : Bool) (v S : ℕ) (e : Tuple) (b : Bool) → k .member S (portOf e v) ≡ b → LiteralTrue k (memberAt (not p) v S) e ↔ Signed p (b ≡ false)
-  unfolding memberAt LiteralTrue
+  outside-law : (p : Bool) (v S : ℕ) (e : Tuple) (b : Bool) → k .member S (portOf e v) ≡ b → TestTrue k (memberAt (not p) v S) e ↔ Signed p (b ≡ false)
+  unfolding memberAt TestTrue
   outside-law true v S e b h = rw h (λ x. x, λ x. x)
   outside-law false v S e b h = rw h (true-law b)
 
-  literal-law : (sets : List ℕ) (env : List Binding) (p : Bool) (l : Literal) → misnamedLiteral sets (letters env) l ≡ false
-      → LiteralTrue k (literalAt sets (letters env) p l) (ports env) ↔ Signed p (LeafTrue k sets env l)
-  unfolding misnamedLiteral literalAt LeafTrue LiteralTrue
-  literal-law sets env p (isin v S) h =
+  test-law : (sets : List ℕ) (env : List Binding) (p : Bool) (t : Test) → misnamedTest sets (letters env) t ≡ false
+      → TestTrue k (testAt sets (letters env) p t) (ports env) ↔ Signed p (LeafTrue k sets env t)
+  unfolding misnamedTest testAt LeafTrue TestTrue
+  test-law sets env p (isin v S) h =
       member-law p _ _ _ _ (ap (k .member (setNumber sets S)) (variable-port env v (not-false _ (or-left _ _ h))))
-  literal-law sets env p (notin v S) h =
+  test-law sets env p (notin v S) h =
       outside-law p _ _ _ _ (ap (k .member (setNumber sets S)) (variable-port env v (not-false _ (or-left _ _ h))))
-  literal-law sets env p (port r v w) h =
+  test-law sets env p (port r v w) h =
       rw (variable-port env v (not-false _ (or-left _ _ h)), variable-port env w (not-false _ (or-right (not (among (letters env) v)) _ h)))
       (relation-law p r (valueOf env v) (valueOf env w))
-  literal-law sets env p (size r S c) h = relation-law p r (k .size (setNumber sets S)) c
+  test-law sets env p (size r S c) h = relation-law p r (k .size (setNumber sets S)) c
 
 module _ (u : ℕ) (k : Configuration) where
   -- a part of the core says A at the tuple e, whatever stands above it
@@ -177,8 +177,8 @@ module _ (u : ℕ) (k : Configuration) where
   module _ (sets : List ℕ) where
     place-means : (env : List Binding) (p : Bool) (a : Tree) → misnamed sets (letters env) a ≡ false
         → Means (place sets (letters env) p a) (Signed p (TreeTrue u k sets env a)) (ports env)
-    unfolding place misnamed TreeTrue NodeTrue
-    place-means env p (leaf l) h = tree-means (lit (literalAt sets (letters env) p l)) none _ (ports env) (literal-law k sets env p l h)
+    unfolding place misnamed TreeTrue NodeTrue literalAt literalOf
+    place-means env p (leaf l) h = tree-means (lit (literalAt sets (letters env) p l)) none _ (ports env) (test-law k sets env p (l .test) h)
     place-means env p (neg a) h = means-same (place-means env (not p) a h) (neg-law p (tree-dec u k sets env a))
     place-means env p (par a) h = place-means env p a h
     place-means env p (bind q v a) h =

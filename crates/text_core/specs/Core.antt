@@ -3,7 +3,7 @@ use mathlib.Core.Bool.{Bool, true, false, not}
 use mathlib.Core.List.{List, [], _∷_}
 use Prim.Native.Nat.{ℕ}
 use lib.ListN.{length}
-use Rattle.logic.specs.Formula.{Relation, lt, le, eq, ne, ge, gt, Literal, isin, notin, port, size, Node, root, all, any, and, or, lit, Forest, none, tree, Plan}
+use Rattle.logic.specs.Formula.{Relation, lt, le, eq, ne, ge, gt, Test, isin, notin, port, size, Literal, literalOf, Node, root, all, any, and, or, lit, Forest, none, tree, Plan}
 use Rattle.text_tree.specs.Tree.{Quantifier, forall, exists, Join, conj, disj, imp, rev, iff, Tree, leaf, neg, par, bind, join, Declared, lettersOf}
 use Rattle.text_core.specs.Names.{setNumber, variableNumber}
 
@@ -51,16 +51,20 @@ unfoldable pub relationAt : Bool → Relation → Relation
 relationAt true r = r
 relationAt false r = opposite r
 
-unfoldable pub memberAt : Bool → ℕ → ℕ → Literal
+unfoldable pub memberAt : Bool → ℕ → ℕ → Test
 memberAt true v S = isin v S
 memberAt false v S = notin v S
 
--- The literal by numbers in place of letters.
+-- The test by numbers in place of letters.
+unfoldable pub testAt : List ℕ → List ℕ → Bool → Test → Test
+testAt sets vars p (isin v S) = memberAt p (variableNumber vars v) (setNumber sets S)
+testAt sets vars p (notin v S) = memberAt (not p) (variableNumber vars v) (setNumber sets S)
+testAt sets vars p (port r v w) = port (relationAt p r) (variableNumber vars v) (variableNumber vars w)
+testAt sets vars p (size r S c) = size (relationAt p r) (setNumber sets S) c
+
+-- The literal with its test so.
 unfoldable pub literalAt : List ℕ → List ℕ → Bool → Literal → Literal
-literalAt sets vars p (isin v S) = memberAt p (variableNumber vars v) (setNumber sets S)
-literalAt sets vars p (notin v S) = memberAt (not p) (variableNumber vars v) (setNumber sets S)
-literalAt sets vars p (port r v w) = port (relationAt p r) (variableNumber vars v) (variableNumber vars w)
-literalAt sets vars p (size r S c) = size (relationAt p r) (setNumber sets S) c
+literalAt sets vars p l = literalOf (testAt sets vars p (l .test))
 
 -- "F->G is ~F|G, F<-G is F|~G, F<->G is (~F|G)&(F|~G)", and De Morgan's "or" for "and" where p is false. F and G are
 -- given at both polarities, and `pair` makes the "and" or the "or" of two parts.

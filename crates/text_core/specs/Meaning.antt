@@ -5,7 +5,7 @@ use mathlib.Core.Bool.{true, false, cond}
 use mathlib.Core.List.{List, [], _∷_}
 use Prim.Native.Nat.{ℕ, _<_}
 use lib.Dec.{eqb}
-use Rattle.logic.specs.Formula.{Literal, isin, notin, port, size}
+use Rattle.logic.specs.Formula.{Test, isin, notin, port, size}
 use Rattle.logic.specs.Configuration.{Configuration}
 use Rattle.logic.specs.Truth.{Related}
 use Rattle.text_tree.specs.Tree.{Quantifier, forall, exists, Join, conj, disj, imp, rev, iff, Tree, leaf, neg, par, bind, join}
@@ -19,7 +19,7 @@ unfoldable pub valueOf : List Binding → ℕ → ℕ
 valueOf [] v = 0
 valueOf (b ∷ env) v = cond (eqb v (b .0)) (b .1) (valueOf env v)
 
-unfoldable pub LeafTrue : Configuration → List ℕ → List Binding → Literal → Type 0
+unfoldable pub LeafTrue : Configuration → List ℕ → List Binding → Test → Type 0
 LeafTrue k sets env (isin v S) = k .member (setNumber sets S) (valueOf env v) ≡ true
 LeafTrue k sets env (notin v S) = k .member (setNumber sets S) (valueOf env v) ≡ false
 LeafTrue k sets env (port r v w) = Related r (valueOf env v) (valueOf env w)
@@ -37,7 +37,7 @@ BindTrue forall u A = (p : ℕ) → p < u → A p
 BindTrue exists u A = (p : ℕ) × (p < u) × A p
 
 unfoldable pub TreeTrue : ℕ → Configuration → List ℕ → List Binding → Tree → Type 0
-TreeTrue u k sets env (leaf l) = LeafTrue k sets env l
+TreeTrue u k sets env (leaf l) = LeafTrue k sets env (l .test)
 TreeTrue u k sets env (neg a) = TreeTrue u k sets env a → ⊥
 TreeTrue u k sets env (par a) = TreeTrue u k sets env a
 TreeTrue u k sets env (bind q v a) = BindTrue q u (λ p. TreeTrue u k sets ((v, p) ∷ env) a)

@@ -5,7 +5,7 @@ use mathlib.Core.List.{List, [], _∷_}
 use Prim.Native.Nat.{ℕ, suc, _≤_}
 use lib.Dec.{eqb, leb, ltb}
 use lib.ListN.{length}
-use Rattle.logic.specs.Formula.{Literal, isin, notin, port, size}
+use Rattle.logic.specs.Formula.{Test, isin, notin, port, size}
 use Rattle.logic.specs.Change.{someOf}
 use Rattle.text_tree.specs.Tree.{Tree, leaf, neg, par, bind, join, Declared, lettersOf}
 
@@ -31,16 +31,16 @@ declaredTwice (x ∷ xs) = among xs x || declaredTwice xs
 unfoldable pub misdeclared : List Declared → Bool
 misdeclared sets = declaredTwice (lettersOf sets) || ltb 16 (length sets)
 
--- Ground 5, of a literal: "set undeclared", "variable unbound".
-unfoldable pub misnamedLiteral : List ℕ → List ℕ → Literal → Bool
-misnamedLiteral sets vars (isin v S) = not (among vars v) || not (among sets S)
-misnamedLiteral sets vars (notin v S) = not (among vars v) || not (among sets S)
-misnamedLiteral sets vars (port r v w) = not (among vars v) || not (among vars w)
-misnamedLiteral sets vars (size r S c) = not (among sets S)
+-- Ground 5, of a literal's test: "set undeclared", "variable unbound".
+unfoldable pub misnamedTest : List ℕ → List ℕ → Test → Bool
+misnamedTest sets vars (isin v S) = not (among vars v) || not (among sets S)
+misnamedTest sets vars (notin v S) = not (among vars v) || not (among sets S)
+misnamedTest sets vars (port r v w) = not (among vars v) || not (among vars w)
+misnamedTest sets vars (size r S c) = not (among sets S)
 
 -- Ground 5, of a part of the formula: also "variable [..] bound again within its reach", which is the quantifier's unit.
 unfoldable pub misnamed : List ℕ → List ℕ → Tree → Bool
-misnamed sets vars (leaf l) = misnamedLiteral sets vars l
+misnamed sets vars (leaf l) = misnamedTest sets vars (l .test)
 misnamed sets vars (neg a) = misnamed sets vars a
 misnamed sets vars (par a) = misnamed sets vars a
 misnamed sets vars (bind q v a) = among vars v || misnamed sets (v ∷ vars) a
@@ -50,14 +50,14 @@ unfoldable pub ground5 : List Declared → Tree → Bool
 ground5 sets a = misdeclared sets || misnamed (lettersOf sets) [] a
 
 -- Ground 6: "constant above 64".
-unfoldable pub highLiteral : Literal → Bool
-highLiteral (isin v S) = false
-highLiteral (notin v S) = false
-highLiteral (port r v w) = false
-highLiteral (size r S c) = ltb 64 c
+unfoldable pub highConstant : Test → Bool
+highConstant (isin v S) = false
+highConstant (notin v S) = false
+highConstant (port r v w) = false
+highConstant (size r S c) = ltb 64 c
 
 unfoldable pub ground6 : Tree → Bool
-ground6 (leaf l) = highLiteral l
+ground6 (leaf l) = highConstant (l .test)
 ground6 (neg a) = ground6 a
 ground6 (par a) = ground6 a
 ground6 (bind q v a) = ground6 a
@@ -82,14 +82,14 @@ Variable v = (97 ≤ v) × (v ≤ 122)
 unfoldable pub SetLetter : ℕ → Type 0
 SetLetter S = (65 ≤ S) × (S ≤ 90)
 
-unfoldable pub LetteredLiteral : Literal → Type 0
-LetteredLiteral (isin v S) = Variable v × SetLetter S
-LetteredLiteral (notin v S) = Variable v × SetLetter S
-LetteredLiteral (port r v w) = Variable v × Variable w
-LetteredLiteral (size r S c) = SetLetter S × (c ≤ 65)
+unfoldable pub LetteredTest : Test → Type 0
+LetteredTest (isin v S) = Variable v × SetLetter S
+LetteredTest (notin v S) = Variable v × SetLetter S
+LetteredTest (port r v w) = Variable v × Variable w
+LetteredTest (size r S c) = SetLetter S × (c ≤ 65)
 
 unfoldable pub Lettered : Tree → Type 0
-Lettered (leaf l) = LetteredLiteral l
+Lettered (leaf l) = LetteredTest (l .test)
 Lettered (neg a) = Lettered a
 Lettered (par a) = Lettered a
 Lettered (bind q v a) = Variable v × Lettered a

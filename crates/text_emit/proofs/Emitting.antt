@@ -12,7 +12,7 @@ use Rattle.logic.proofs.Lists.{or-left, or-right}
 use Rattle.text_tree.specs.Tree.{Quantifier, forall, exists, Join, conj, disj, imp, rev, iff, Tree, par, bind, join}
 use Rattle.text_tree.specs.inner.Stored.{quantifierOperator, joinOperator, Record, Stored, literalCode}
 use Rattle.text_core.specs.Names.{fourth, Lettered}
-use Rattle.text_core.specs.Core.{alone, inside, jointNode, two, quantifierNode, place}
+use Rattle.text_core.specs.Core.{alone, inside, jointNode, two, quantifierNode, literalAt, place}
 use Rattle.text_tree.proofs.Table.{stored-after, stored-within, on-leaf, on-neg, on-bind, on-join}
 use Rattle.text_core.proofs.Siblings.{place-before}
 use Rattle.table_format.specs.Bytes.{recordLength, relationByte, aByte, bByte, recordOf}
@@ -37,10 +37,10 @@ module _ (operator payload : ℕ) (sets : List ℕ) (b : Bound) (p : Bool) (pare
 
   pub literal-put : (f : Fields) → recordLength * (i + 1) ≤ length B → LiteralIs sets operator payload b p f
       → Written (recordLength * i) (fieldBytes f parent (i + 1)) B O → EmitsLiteral operator payload sets b p parent i B O (i + 1)
-  unfolding LiteralIs
+  unfolding LiteralIs literalAt
   literal-put f h L W = record {
     placed = h;
-    writes = λ l R. records-tree _ none parent i (i + 1) B B O (records-none i i B) (recorded f _ _ parent (i + 1) B O (L l R) W);
+    writes = λ l R. records-tree _ none parent i (i + 1) B B O (records-none i i B) (recorded f _ _ parent (i + 1) B O (L (l .test) R) W);
   }
 
 -- a node with no relation, a and b

@@ -8,9 +8,9 @@ use native.Mathlib.Omega.{arith}
 use lib.Dec.{eqb}
 use lib.ListN.{length}
 use borrow.Author.Tests.{eq-eqb, ne-eqb}
-use Rattle.logic.specs.Formula.{Relation, Literal, isin, notin, port, size, relationNumber}
-use Rattle.text_tree.specs.Tree.{Quantifier, forall, exists, Join, conj, disj, Tree, leaf, neg, par, bind, join, Declared}
-use Rattle.text_grammar.specs.Grammar.{Symbol, Level, unit, conjunction, disjunction, formula, quantifierKind, relationKind, Arrow, to-right, to-left, both-ways, Derives, one-disjunction, arrow, one-conjunction, or, one-unit, and, negation, quantified, bracketed, member, no-member, ports, sizes, Sets, one, more, kindAt, nextAt, valueAt}
+use Rattle.logic.specs.Formula.{Relation, Test, isin, notin, port, size, relationNumber}
+use Rattle.text_tree.specs.Tree.{Quantifier, forall, exists, Join, conj, disj, Tree, neg, par, bind, join, Declared, leafOf}
+use Rattle.text_grammar.specs.Grammar.{Symbol, Level, unit, conjunction, disjunction, formula, quantifierKind, relationKind, Arrow, to-right, to-left, both-ways, Tests, member, no-member, ports, sizes, Derives, one-disjunction, arrow, one-conjunction, or, one-unit, and, negation, quantified, bracketed, literal, Sets, one, more, kindAt, nextAt, valueAt}
 use Rattle.text_grammar.specs.Parser.{Part, found, mapPart, joinSign, quantifierSign, closed, bound, operand, variableLiteral, compared, sizeLiteral, rank, parseAt, setAt, setsAt, afterSets}
 use Rattle.text_grammar.proofs.Signs.{arrow-sign, quantifier-sign, relation-sign}
 use Rattle.text_grammar.proofs.Readers.{Joins, joins-conjunction, joins-disjunction, joins-formula, step-one, step-more, unit-bracket, unit-tilde, unit-quantifier, unit-variable, unit-hash}
@@ -54,7 +54,7 @@ module _ (s : List ℕ) (l m k : Level) (J : Joins l m k) (i : ℕ) where
 
 -- literals
 
-operand-found : (s : List ℕ) (wanted : ℕ) (make : ℕ → Literal) (t : Symbol) (i j : ℕ) → t .kind ≡ wanted → i ≤ length s → Tokens s i (t ∷ []) j → operand s wanted make i ≡ found (leaf (make (t .value))) j
+operand-found : (s : List ℕ) (wanted : ℕ) (make : ℕ → Test) (t : Symbol) (i j : ℕ) → t .kind ≡ wanted → i ≤ length s → Tokens s i (t ∷ []) j → operand s wanted make i ≡ found (leafOf (make (t .value))) j
 operand-found s wanted make t i j y h T =
     let w = first s i t [] j T in
     rw (eq-eqb _ _ (w .kind ∙ y), w .value, nothing-left s (nextAt s i) j (w .rest))
@@ -105,17 +105,33 @@ paired s l m k J i j xs ys t q a b h T y F G =
     pair s l m k J i q a b (w .mid) j (F (w .mid) (w .left) (u .kind)) (p .on) (v .0) (v .1) (ap (joinSign l) (u .kind) ∙ y) (G (nextAt s (w .mid)) (v .1) (u .rest))
 
 -- a literal that begins with a variable
-three-found : (s : List ℕ) (i j : ℕ) (x t m : Symbol) (make : ℕ → ℕ → Literal) (wanted : ℕ) → x .kind ≡ 22
+three-found : (s : List ℕ) (i j : ℕ) (x t m : Symbol) (make : ℕ → ℕ → Test) (wanted : ℕ) → x .kind ≡ 22
     → (kindAt s (nextAt s i) ≡ t .kind → (v : ℕ) → variableLiteral s v (nextAt s i) ≡ operand s wanted (make v) (nextAt s (nextAt s i)))
-    → m .kind ≡ wanted → i ≤ length s → Tokens s i (x ∷ t ∷ m ∷ []) j → Finds s unit i (leaf (make (x .value) (m .value))) j
+    → m .kind ≡ wanted → i ≤ length s → Tokens s i (x ∷ t ∷ m ∷ []) j → Finds s unit i (leafOf (make (x .value) (m .value))) j
 three-found s i j x t m make wanted y step e h T =
     let u = first s i x (t ∷ m ∷ []) j T in
     let v = token-span s i h (u .token) in
     let u′ = first s (nextAt s i) t (m ∷ []) j (u .rest) in
     let v′ = token-span s (nextAt s i) (v .1) (u′ .token) in
     rw (← u .value)
-    (at-once s i (leaf (make (valueAt s i) (m .value))) j (λ g. unit-variable g s i (u .kind ∙ y) ∙ step (u′ .kind) (valueAt s i)
+    (at-once s i (leafOf (make (valueAt s i) (m .value))) j (λ g. unit-variable g s i (u .kind ∙ y) ∙ step (u′ .kind) (valueAt s i)
     ∙ operand-found s wanted (make (valueAt s i)) m (nextAt s (nextAt s i)) j e (v′ .1) (u′ .rest)))
+
+-- a literal, by its test
+test-complete : {xs : List Symbol} {t : Test} → Tests xs t → (s : List ℕ) (i j : ℕ) → i ≤ length s → Tokens s i xs j → Finds s unit i (leafOf t) j
+test-complete (member x t m y z e) s i j h T = three-found s i j x t m isin 23 y (λ k v. colon-found s v (nextAt s i) (k ∙ z)) e h T
+test-complete (no-member x t m y z e) s i j h T = three-found s i j x t m notin 23 y (λ k v. slash-found s v (nextAt s i) (k ∙ z)) e h T
+test-complete (ports x t m r y z e) s i j h T = three-found s i j x t m (port r) 22 y (λ k v. relation-found s v (nextAt s i) r (k ∙ z)) e h T
+test-complete (sizes x m t c r y n z e) s i j h T =
+    let u = first s i x (m ∷ t ∷ c ∷ []) j T in
+    let v = token-span s i h (u .token) in
+    let u′ = first s (nextAt s i) m (t ∷ c ∷ []) j (u .rest) in
+    let v′ = token-span s (nextAt s i) (v .1) (u′ .token) in
+    let u″ = first s (nextAt s (nextAt s i)) t (c ∷ []) j (u′ .rest) in
+    let v″ = token-span s (nextAt s (nextAt s i)) (v′ .1) (u″ .token) in
+    rw (← u′ .value)
+    (at-once s i _ j (λ g. unit-hash g s i (u .kind ∙ y) ∙ size-found s (nextAt s i) (u′ .kind ∙ n) ∙ compared-found s (valueAt s (nextAt s i)) (nextAt s (nextAt s i)) r (u″ .kind ∙ z)
+    ∙ operand-found s 24 (size r (valueAt s (nextAt s i))) c (nextAt s (nextAt s (nextAt s i))) j e (v″ .1) (u″ .rest)))
 
 pub complete : {l : Level} {xs : List Symbol} {a : Tree} → Derives l xs a → (s : List ℕ) (i j : ℕ) → i ≤ length s → Tokens s i xs j → Follow l (kindAt s j) → Finds s l i a j
 complete (one-disjunction {a = a} d) s i j h T F = lone s formula disjunction disjunction joins-formula i a j (complete d s i j h T (F .0, F .1)) (F .2)
@@ -153,19 +169,7 @@ complete (bracketed t x {xs = xs} {a = a} y d z) s i j h T F =
     let k = u′ .kind ∙ z in
     rw (← nothing-left s (nextAt s (w .mid)) j (u′ .rest))
     (bracket-found s i a (w .mid) (u .kind ∙ y) (v .0) (v .1) (complete d s (nextAt s i) (w .mid) (v .1) (w .left) (rw k (refl, refl, refl))) k)
-complete (member x t m y z e) s i j h T F = three-found s i j x t m isin 23 y (λ k v. colon-found s v (nextAt s i) (k ∙ z)) e h T
-complete (no-member x t m y z e) s i j h T F = three-found s i j x t m notin 23 y (λ k v. slash-found s v (nextAt s i) (k ∙ z)) e h T
-complete (ports x t m r y z e) s i j h T F = three-found s i j x t m (port r) 22 y (λ k v. relation-found s v (nextAt s i) r (k ∙ z)) e h T
-complete (sizes x m t c r y n z e) s i j h T F =
-    let u = first s i x (m ∷ t ∷ c ∷ []) j T in
-    let v = token-span s i h (u .token) in
-    let u′ = first s (nextAt s i) m (t ∷ c ∷ []) j (u .rest) in
-    let v′ = token-span s (nextAt s i) (v .1) (u′ .token) in
-    let u″ = first s (nextAt s (nextAt s i)) t (c ∷ []) j (u′ .rest) in
-    let v″ = token-span s (nextAt s (nextAt s i)) (v′ .1) (u″ .token) in
-    rw (← u′ .value)
-    (at-once s i _ j (λ g. unit-hash g s i (u .kind ∙ y) ∙ size-found s (nextAt s i) (u′ .kind ∙ n) ∙ compared-found s (valueAt s (nextAt s i)) (nextAt s (nextAt s i)) r (u″ .kind ∙ z)
-    ∙ operand-found s 24 (size r (valueAt s (nextAt s i))) c (nextAt s (nextAt s (nextAt s i))) j e (v″ .1) (u″ .rest)))
+complete (literal d) s i j h T F = test-complete d s i j h T
 
 -- declared sets
 pub record FoundSets (s : List ℕ) (i : ℕ) (sets : List Declared) (j f : ℕ) : Type 0 where

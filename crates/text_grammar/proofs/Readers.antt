@@ -10,9 +10,9 @@ use native.Mathlib.Numerals.{add-one}
 use lib.ListN.{length, set}
 use lib.Dec.{eqb, ltb}
 use borrow.Author.Tests.{eq-eqb, ne-eqb}
-use Rattle.logic.specs.Formula.{isin, notin, port, size, relationOf}
-use Rattle.text_tree.specs.Tree.{Quantifier, Join, Tree, leaf, neg, par, bind, join, tooDeep}
-use Rattle.text_tree.specs.inner.Stored.{literalOperator, literalPayload, quantifierOperator, joinOperator, of-leaf, of-neg, of-par, of-bind, of-join}
+use Rattle.logic.specs.Formula.{isin, notin, port, size, literalOf, relationOf}
+use Rattle.text_tree.specs.Tree.{Quantifier, Join, Tree, neg, par, bind, join, leafOf, tooDeep}
+use Rattle.text_tree.specs.inner.Stored.{testOperator, testPayload, quantifierOperator, joinOperator, of-leaf, of-neg, of-par, of-bind, of-join}
 use Rattle.text_tokens.specs.declared.Token.{Token}
 use Rattle.text_tokens.specs.Tokens.{between, tokenAt}
 use Rattle.text_tokens.proofs.Laws.{Moves, token-moves, between-range}
@@ -423,21 +423,21 @@ module _ (s before : List ℕ) (at n d : ℕ) (room : ReaderRoom s before at n d
 
 -- literals
 
--- the forms of literals
+-- the forms of tests
 unfoldable pub in-form : Form 0
-unfolding literalOperator literalPayload
+unfolding testOperator testPayload
 in-form = record { make = isin; operates = λ x y. refl; pays = λ x y. refl }
 
 unfoldable pub not-in-form : Form 1
-unfolding literalOperator literalPayload
+unfolding testOperator testPayload
 not-in-form = record { make = notin; operates = λ x y. refl; pays = λ x y. refl }
 
 unfoldable pub port-form : (k : ℕ) → between 16 k 21 ≡ true → Form k
-unfolding literalOperator literalPayload
+unfolding testOperator testPayload
 port-form k e = record { make = port (relationOf (k - 16)); operates = λ x y. relation-is k e; pays = λ x y. refl }
 
 unfoldable pub size-form : (k : ℕ) → between 16 k 21 ≡ true → Form (k + 8)
-unfolding literalOperator literalPayload
+unfolding testOperator testPayload
 size-form k e = record { make = size (relationOf (k - 16)); operates = λ x y. omega (arith, relation-is k e); pays = λ x y. refl }
 
 module _ (s before : List ℕ) (at n d : ℕ) (room : ReaderRoom s before at n d) (t : Token) (T : t ≡ tokenAt s at) where
@@ -450,15 +450,15 @@ module _ (s before : List ℕ) (at n d : ℕ) (room : ReaderRoom s before at n d
 
     pub operand-yes : 1 ≤ wanted → t .kind ≡ wanted → (o : List ℕ) → o ≡ set (set before n (256 * first + t .value)) (n + 1) operator
         → Operands s before o first operator wanted at n d (record { ok = true; deep = ltb 64 d; next = t .next; count = n + 2 })
-    unfolding tooDeep
+    unfolding tooDeep literalOf
     operand-yes low y o w m =
         let M = moves s at t T (room .within) in
         let U = pushed before o n (256 * first + t .value) operator (omega (arith, operand-push low y, room .wide)) w in
         record {
           accepts = λ _. record {
-            tree = leaf (m .make first (t .value));
+            tree = leafOf (m .make first (t .value));
             is = rw (eq-eqb _ _ (kind-of s at t T wanted y), value-of s at t T, next-of s at t T);
-            stored = of-leaf {e = n + 2} {l = m .make first (t .value)} (rw (m .operates, m .pays) (U .is));
+            stored = of-leaf {e = n + 2} {l = literalOf (m .make first (t .value))} (rw (m .operates, m .pays) (U .is));
             deeper = refl;
             kept = U .kept;
             count = omega arith;

@@ -7,9 +7,9 @@ use Prim.Native.Nat.{ℕ, zero, suc, _≤_}
 use native.Mathlib.Omega.{arith}
 use lib.Dec.{eqb}
 use borrow.Author.Tests.{eqb-true, eqb-false}
-use Rattle.logic.specs.Formula.{Relation, Literal, isin, notin, port, size, relationOf}
-use Rattle.text_tree.specs.Tree.{Quantifier, Join, conj, disj, Tree, leaf, neg, par, bind, join, Declared}
-use Rattle.text_grammar.specs.Grammar.{Symbol, Level, unit, conjunction, disjunction, formula, Derives, one-disjunction, arrow, one-conjunction, or, one-unit, and, negation, quantified, bracketed, member, no-member, ports, sizes, Sets, one, more, kindAt, nextAt, valueAt, symbolAt}
+use Rattle.logic.specs.Formula.{Relation, Test, isin, notin, port, size, relationOf}
+use Rattle.text_tree.specs.Tree.{Quantifier, Join, conj, disj, Tree, neg, par, bind, join, Declared, leafOf}
+use Rattle.text_grammar.specs.Grammar.{Symbol, Level, unit, conjunction, disjunction, formula, Tests, member, no-member, ports, sizes, Derives, one-disjunction, arrow, one-conjunction, or, one-unit, and, negation, quantified, bracketed, literal, Sets, one, more, kindAt, nextAt, valueAt, symbolAt}
 use Rattle.text_grammar.specs.Parser.{Part, missing, found, test, follow, nothing, mapPart, quantifierOf, joinSign, quantifierSign, relationSign, joined, closed, bound, operand, variableLiteral, compared, sizeLiteral, parseAt, setAt, setsAt, afterSets}
 use Rattle.text_grammar.proofs.Signs.{of-stands, join-sign-some, sign-arrow, quantifier-kind, relation-kind}
 use Rattle.text_grammar.proofs.Positions.{Tokens, nil, cons, append}
@@ -47,14 +47,14 @@ of-joined s sign rest (found b k) a j e =
     (λ q p x. let m = mapped (join q b) (rest (nextAt s k)) a j x in both q b (m .sub) k refl p (m .was) (m .made))
     (λ x. alone x)
 
-record Operand (s : List ℕ) (wanted : ℕ) (make : ℕ → Literal) (i : ℕ) (a : Tree) (j : ℕ) : Type 0 where
+record Operand (s : List ℕ) (wanted : ℕ) (make : ℕ → Test) (i : ℕ) (a : Tree) (j : ℕ) : Type 0 where
   kind : kindAt s i ≡ wanted
-  made : leaf (make (valueAt s i)) ≡ a
+  made : leafOf (make (valueAt s i)) ≡ a
   ends : nextAt s i ≡ j
 
-of-operand : (s : List ℕ) (wanted : ℕ) (make : ℕ → Literal) (i : ℕ) (a : Tree) (j : ℕ) → operand s wanted make i ≡ found a j → Operand s wanted make i a j
+of-operand : (s : List ℕ) (wanted : ℕ) (make : ℕ → Test) (i : ℕ) (a : Tree) (j : ℕ) → operand s wanted make i ≡ found a j → Operand s wanted make i a j
 of-operand s wanted make i a j e =
-    on-test (eqb (kindAt s i) wanted) (found (leaf (make (valueAt s i)))) nothing (nextAt s i) (found a j) e
+    on-test (eqb (kindAt s i) wanted) (found (leafOf (make (valueAt s i)))) nothing (nextAt s i) (found a j) e
     (λ t x. record { kind = eqb-true _ _ t; made = cc; ends = cc }) (λ t x. no-way x)
 
 -- the tokens from i to j are derived as the tree a
@@ -92,13 +92,13 @@ relation-token k r p = let w = of-stands 16 21 relationOf k r p in omega (arith,
 
 module _ (s : List ℕ) (i : ℕ) (a : Tree) (j : ℕ) where
   -- a literal of three tokens
-  three : (wanted : ℕ) (make : ℕ → Literal) → 1 ≤ kindAt s i → 1 ≤ kindAt s (nextAt s i) → 1 ≤ wanted → Operand s wanted make (nextAt s (nextAt s i)) a j
-      → Derives unit (symbolAt s i ∷ symbolAt s (nextAt s i) ∷ symbolAt s (nextAt s (nextAt s i)) ∷ []) (leaf (make (valueAt s (nextAt s (nextAt s i))))) → Spelt s unit i a j
+  three : (wanted : ℕ) (make : ℕ → Test) → 1 ≤ kindAt s i → 1 ≤ kindAt s (nextAt s i) → 1 ≤ wanted → Operand s wanted make (nextAt s (nextAt s i)) a j
+      → Tests (symbolAt s i ∷ symbolAt s (nextAt s i) ∷ symbolAt s (nextAt s (nextAt s i)) ∷ []) (make (valueAt s (nextAt s (nextAt s i)))) → Spelt s unit i a j
   three wanted make p q r w d =
       let k = nextAt s i in
       let m = nextAt s k in
       let h : 1 ≤ kindAt s m = omega (arith, w .kind) in
-      rw (← w .made, ← w .ends) (record { symbols = symbolAt s i ∷ symbolAt s k ∷ symbolAt s m ∷ []; are = cons s i _ _ p (cons s k _ _ q (last-token s m h)); derives = d })
+      rw (← w .made, ← w .ends) (record { symbols = symbolAt s i ∷ symbolAt s k ∷ symbolAt s m ∷ []; are = cons s i _ _ p (cons s k _ _ q (last-token s m h)); derives = literal d })
 
   variable-sound : kindAt s i ≡ 22 → variableLiteral s (valueAt s i) (nextAt s i) ≡ found a j → Spelt s unit i a j
   variable-sound y e =
@@ -135,7 +135,7 @@ module _ (s : List ℕ) (i : ℕ) (a : Tree) (j : ℕ) where
       rw (← w .made, ← w .ends) (record {
         symbols = symbolAt s i ∷ symbolAt s n ∷ symbolAt s k ∷ symbolAt s (nextAt s k) ∷ [];
         are = cons s i _ _ (omega arith) (cons s n _ _ (omega arith) (cons s k _ _ (relation-token (kindAt s k) r p) (last-token s (nextAt s k) h)));
-        derives = sizes (symbolAt s i) (symbolAt s n) (symbolAt s k) (symbolAt s (nextAt s k)) r y z (relation-kind (kindAt s k) r p) (w .kind);
+        derives = literal (sizes (symbolAt s i) (symbolAt s n) (symbolAt s k) (symbolAt s (nextAt s k)) r y z (relation-kind (kindAt s k) r p) (w .kind));
       }))
       (λ x. no-way x)
 

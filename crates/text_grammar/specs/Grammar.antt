@@ -4,8 +4,8 @@ use mathlib.Core.List.{List, [], _∷_, _++_}
 use Prim.Native.Nat.{ℕ, zero, suc, _+_}
 use lib.Dec.{eqb}
 use lib.ListN.{length}
-use Rattle.logic.specs.Formula.{Relation, relationNumber, isin, notin, port, size}
-use Rattle.text_tree.specs.Tree.{Quantifier, forall, exists, Join, conj, disj, imp, rev, iff, Tree, leaf, neg, par, bind, join, Declared}
+use Rattle.logic.specs.Formula.{Relation, relationNumber, Test, isin, notin, port, size}
+use Rattle.text_tree.specs.Tree.{Quantifier, forall, exists, Join, conj, disj, imp, rev, iff, Tree, neg, par, bind, join, Declared, leafOf}
 use Rattle.text_tokens.specs.Tokens.{endOfText, leftSquare, rightSquare, leftBracket, rightBracket, atSign, questionMark, tilde, ampersand, bar, rightArrow, leftArrow, doubleArrow, colon, slash, hash, less, variable, setLetter, number, pick, tokenAt}
 
 -- A token without its place.
@@ -31,6 +31,21 @@ pub data Arrow : ℕ → Join → Type 0 where
   to-left : Arrow leftArrow rev
   both-ways : Arrow doubleArrow iff
 
+-- The tests of literals. "Variables v, w are lower-case letters."
+pub data Tests : List Symbol → Test → Type 0 where
+  -- "`v:S` in"
+  member : (v t m : Symbol) → v .kind ≡ variable → t .kind ≡ colon → m .kind ≡ setLetter
+      → Tests (v ∷ t ∷ m ∷ []) (isin (v .value) (m .value))
+  -- "`v/S` not in"
+  no-member : (v t m : Symbol) → v .kind ≡ variable → t .kind ≡ slash → m .kind ≡ setLetter
+      → Tests (v ∷ t ∷ m ∷ []) (notin (v .value) (m .value))
+  -- "`v < w` and its kin"
+  ports : (v t w : Symbol) (r : Relation) → v .kind ≡ variable → t .kind ≡ relationKind r → w .kind ≡ variable
+      → Tests (v ∷ t ∷ w ∷ []) (port r (v .value) (w .value))
+  -- "`#S <= 9` and its kin"
+  sizes : (h m t c : Symbol) (r : Relation) → h .kind ≡ hash → m .kind ≡ setLetter → t .kind ≡ relationKind r → c .kind ≡ number
+      → Tests (h ∷ m ∷ t ∷ c ∷ []) (size r (m .value) (c .value))
+
 pub data Derives : Level → List Symbol → Tree → Type 0 where
   -- "A formula is one disjunction, or two with an arrow between."
   one-disjunction : {xs : List Symbol} {a : Tree} → Derives disjunction xs a → Derives formula xs a
@@ -50,15 +65,7 @@ pub data Derives : Level → List Symbol → Tree → Type 0 where
       → Derives unit (t ∷ v ∷ xs) (bind q (v .value) a)
   bracketed : (t u : Symbol) {xs : List Symbol} {a : Tree} → t .kind ≡ leftBracket → Derives formula xs a → u .kind ≡ rightBracket
       → Derives unit (t ∷ (xs ++ (u ∷ []))) (par a)
-  -- "`v:S` in, `v/S` not in, `v < w` and its kin, `#S <= 9` and its kin. Variables v, w are lower-case letters."
-  member : (v t m : Symbol) → v .kind ≡ variable → t .kind ≡ colon → m .kind ≡ setLetter
-      → Derives unit (v ∷ t ∷ m ∷ []) (leaf (isin (v .value) (m .value)))
-  no-member : (v t m : Symbol) → v .kind ≡ variable → t .kind ≡ slash → m .kind ≡ setLetter
-      → Derives unit (v ∷ t ∷ m ∷ []) (leaf (notin (v .value) (m .value)))
-  ports : (v t w : Symbol) (r : Relation) → v .kind ≡ variable → t .kind ≡ relationKind r → w .kind ≡ variable
-      → Derives unit (v ∷ t ∷ w ∷ []) (leaf (port r (v .value) (w .value)))
-  sizes : (h m t c : Symbol) (r : Relation) → h .kind ≡ hash → m .kind ≡ setLetter → t .kind ≡ relationKind r → c .kind ≡ number
-      → Derives unit (h ∷ m ∷ t ∷ c ∷ []) (leaf (size r (m .value) (c .value)))
+  literal : {xs : List Symbol} {t : Test} → Tests xs t → Derives unit xs (leafOf t)
 
 -- "one or more upper-case set letters"
 pub data Sets : List Symbol → List Declared → Type 0 where

@@ -6,8 +6,8 @@ use mathlib.Core.Option.{Option, none, some}
 use Prim.Native.Nat.{ℕ, zero, suc, _+_, _*_, _-_}
 use lib.Dec.{eqb}
 use lib.ListN.{length}
-use Rattle.logic.specs.Formula.{Relation, relationOf, Literal, isin, notin, port, size}
-use Rattle.text_tree.specs.Tree.{Quantifier, forall, exists, Join, conj, disj, imp, rev, iff, Tree, leaf, neg, par, bind, join, Declared}
+use Rattle.logic.specs.Formula.{Relation, relationOf, Test, isin, notin, port, size}
+use Rattle.text_tree.specs.Tree.{Quantifier, forall, exists, Join, conj, disj, imp, rev, iff, Tree, neg, par, bind, join, Declared, leafOf}
 use Rattle.text_tokens.specs.Tokens.{endOfText, leftSquare, rightSquare, leftBracket, rightBracket, atSign, questionMark, tilde, ampersand, bar, rightArrow, doubleArrow, colon, slash, hash, less, greater, variable, setLetter, number, pick, between}
 use Rattle.text_grammar.specs.Grammar.{Level, unit, conjunction, disjunction, formula, kindAt, valueAt, nextAt}
 
@@ -69,9 +69,9 @@ closed s (found a i) = test (eqb (kindAt s i) rightBracket) (found (par a)) noth
 abbrev pub bound : List ℕ → (ℕ → Part) → Quantifier → ℕ → Part
 bound s rest q i = test (eqb (kindAt s i) variable) (λ j. mapPart (bind q (valueAt s i)) (rest j)) nothing (nextAt s i)
 
--- The last operand of a literal.
-abbrev pub operand : List ℕ → ℕ → (ℕ → Literal) → ℕ → Part
-operand s wanted make i = test (eqb (kindAt s i) wanted) (found (leaf (make (valueAt s i)))) nothing (nextAt s i)
+-- The last operand of a literal; `make` gives the test.
+abbrev pub operand : List ℕ → ℕ → (ℕ → Test) → ℕ → Part
+operand s wanted make i = test (eqb (kindAt s i) wanted) (found (leafOf (make (valueAt s i)))) nothing (nextAt s i)
 
 -- The rest of a literal, behind its variable v.
 abbrev pub variableLiteral : List ℕ → ℕ → ℕ → Part

@@ -46,8 +46,8 @@ module _ (t : List ℕ) (e : ℕ) (sets : List ℕ) (bound d : ℕ) (r : Faults)
   pub finds-leaf : literalCode (getD t (e - 1) 0) ≡ true → LiteralFaults sets (getD t (e - 1) 0) (getD t (e - 2) 0) bound r → Finds t e sets bound d r
   unfolding Finds misnamed ground6 fourth Lettered NamesLiteral HighLiteral
   finds-leaf h F = on-leaf t e Goal through h (λ l s w. record {
-    names-is = λ vars M. F .names-is l (record { operator-is = s .operator-is; payload-is = s .payload-is; lettered = w }) vars M;
-    constants-is = F .constants-is l (record { operator-is = s .operator-is; payload-is = s .payload-is; lettered = w });
+    names-is = λ vars M. F .names-is (l .test) (record { operator-is = s .operator-is; payload-is = s .payload-is; lettered = w }) vars M;
+    constants-is = F .constants-is (l .test) (record { operator-is = s .operator-is; payload-is = s .payload-is; lettered = w });
     quantifiers-is = F .quantifiers-is;
   })
 

@@ -17,8 +17,8 @@ use Rattle.logic.specs.Change.{someOf}
 use Rattle.logic.proofs.Lists.{or-true-left}
 use Rattle.logic.proofs.Masks.{in-flip-same, in-flip-other}
 use Rattle.logic.proofs.Relations.{relation-number-le}
-use Rattle.text_tree.specs.inner.Stored.{literalOperator, literalPayload}
-use Rattle.text_core.specs.Names.{among, setNumber, misnamedLiteral, highLiteral, Variable, SetLetter, LetteredLiteral}
+use Rattle.text_tree.specs.inner.Stored.{testOperator, testPayload}
+use Rattle.text_core.specs.Names.{among, setNumber, misnamedTest, highConstant, Variable, SetLetter, LetteredTest}
 use Rattle.text_names.specs.inner.Faults.{Marks, IsBound, Binds, NamesLiteral, HighLiteral}
 
 -- the search for a letter, from place i on
@@ -115,7 +115,7 @@ bound-left false b c h e = absurd (false≢true (sym e ∙ h))
 
 module _ (sets : List ℕ) (operator x bound : ℕ) where
   pub names-size : (r : Bool) → 24 ≤ operator → r ≡ not (among sets (x / 256)) → NamesLiteral sets operator x bound r
-  unfolding NamesLiteral literalOperator literalPayload LetteredLiteral misnamedLiteral
+  unfolding NamesLiteral testOperator testPayload LetteredTest misnamedTest
   names-size r h e (isin v S) R vars M = absurd (omega (arith, R .operator-is))
   names-size r h e (notin v S) R vars M = absurd (omega (arith, R .operator-is))
   names-size r h e (port q v w) R vars M = absurd (omega (arith, R .operator-is, relation-number-le q))
@@ -123,7 +123,7 @@ module _ (sets : List ℕ) (operator x bound : ℕ) where
 
   module _ (b : Bool) (B : IsBound bound (x / 256) b) (low : operator < 24) where
     pub names-unbound : b ≡ false → NamesLiteral sets operator x bound true
-    unfolding NamesLiteral literalOperator literalPayload LetteredLiteral misnamedLiteral
+    unfolding NamesLiteral testOperator testPayload LetteredTest misnamedTest
     names-unbound h (isin v S) R vars M =
         unbound-read _ b _ h (bound-read bound _ v b vars B (high-part x v S (R .payload-is) (set-low S (R .lettered .1))) M (R .lettered .0))
     names-unbound h (notin v S) R vars M =
@@ -133,7 +133,7 @@ module _ (sets : List ℕ) (operator x bound : ℕ) where
     names-unbound h (size q S c) R vars M = absurd (omega (arith, R .operator-is))
 
     pub names-member : (r : Bool) → b ≡ true → operator < 2 → r ≡ not (among sets (x % 256)) → NamesLiteral sets operator x bound r
-    unfolding NamesLiteral literalOperator literalPayload LetteredLiteral misnamedLiteral
+    unfolding NamesLiteral testOperator testPayload LetteredTest misnamedTest
     names-member r h l e (isin v S) R vars M =
         (e ∙ ap (λ (n : ℕ). not (among sets n)) (low-part x v S (R .payload-is) (set-low S (R .lettered .1))))
         ∙ bound-left _ b _ h (bound-read bound _ v b vars B (high-part x v S (R .payload-is) (set-low S (R .lettered .1))) M (R .lettered .0))
@@ -144,7 +144,7 @@ module _ (sets : List ℕ) (operator x bound : ℕ) where
     names-member r h l e (size q S c) R vars M = absurd (omega (arith, R .operator-is))
 
     pub names-port : (r d : Bool) → b ≡ true → 2 ≤ operator → IsBound bound (x % 256) d → r ≡ not d → NamesLiteral sets operator x bound r
-    unfolding NamesLiteral literalOperator literalPayload LetteredLiteral misnamedLiteral
+    unfolding NamesLiteral testOperator testPayload LetteredTest misnamedTest
     names-port r d h l D e (isin v S) R vars M = absurd (omega (arith, R .operator-is))
     names-port r d h l D e (notin v S) R vars M = absurd (omega (arith, R .operator-is))
     names-port r d h l D e (port q v w) R vars M =
@@ -153,14 +153,14 @@ module _ (sets : List ℕ) (operator x bound : ℕ) where
     names-port r d h l D e (size q S c) R vars M = absurd (omega (arith, R .operator-is))
 
   pub low-constant : operator < 24 → HighLiteral operator x false
-  unfolding HighLiteral highLiteral literalOperator
+  unfolding HighLiteral highConstant testOperator
   low-constant h (isin v S) R = refl
   low-constant h (notin v S) R = refl
   low-constant h (port q v w) R = refl
   low-constant h (size q S c) R = absurd (omega (arith, R .operator-is))
 
   pub high-constant : (r : Bool) → 24 ≤ operator → r ≡ ltb 64 (x % 256) → HighLiteral operator x r
-  unfolding HighLiteral highLiteral literalOperator literalPayload LetteredLiteral
+  unfolding HighLiteral highConstant testOperator testPayload LetteredTest
   high-constant r h e (isin v S) R = absurd (omega (arith, R .operator-is))
   high-constant r h e (notin v S) R = absurd (omega (arith, R .operator-is))
   high-constant r h e (port q v w) R = absurd (omega (arith, R .operator-is, relation-number-le q))

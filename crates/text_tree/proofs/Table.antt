@@ -8,9 +8,9 @@ use lib.Dec.{ltb}
 use lib.ListN.{length, getD}
 use borrow.Author.Tests.{lt-ltb, le-leb, le-ltb, lt-leb}
 use Rattle.logic.proofs.Lists.{or-false, or-true-left, or-true-right}
-use Rattle.logic.specs.Formula.{Literal, isin, notin, port, size}
+use Rattle.logic.specs.Formula.{Test, isin, notin, port, size, Literal}
 use Rattle.text_tree.specs.Tree.{Quantifier, forall, exists, Join, conj, disj, imp, rev, iff, Tree, leaf, neg, par, bind, join}
-use Rattle.text_tree.specs.inner.Stored.{literalOperator, literalPayload, quantifierOperator, joinOperator, Record, Stored, of-leaf, of-neg, of-par, of-bind, of-join, literalCode}
+use Rattle.text_tree.specs.inner.Stored.{testOperator, testPayload, quantifierOperator, joinOperator, Record, Stored, of-leaf, of-neg, of-par, of-bind, of-join, literalCode}
 
 pub stored-after : {t : List ℕ} {e : ℕ} {a : Tree} → Stored t e a → 2 ≤ e
 stored-after (of-leaf r) = r .after
@@ -38,12 +38,12 @@ pub other-code : (n : ℕ) → 2 ≤ n → n < 16 → literalCode n ≡ false
 unfolding literalCode
 other-code n h g = or-false _ _ (le-ltb n 2 h) (lt-leb 16 n g)
 
-literal-code : (l : Literal) → literalCode (literalOperator l) ≡ true
-unfolding literalOperator
-literal-code (isin v S) = low-code 0 (omega arith)
-literal-code (notin v S) = low-code 1 (omega arith)
-literal-code (port r v w) = high-code _ (omega arith)
-literal-code (size r S c) = high-code _ (omega arith)
+test-code : (t : Test) → literalCode (testOperator t) ≡ true
+unfolding testOperator
+test-code (isin v S) = low-code 0 (omega arith)
+test-code (notin v S) = low-code 1 (omega arith)
+test-code (port r v w) = high-code _ (omega arith)
+test-code (size r S c) = high-code _ (omega arith)
 
 clash : {A : Type 0} (n m : ℕ) → literalCode n ≡ true → n ≡ m → literalCode m ≡ false → A
 clash n m h e g = let z : true ≡ false = sym h ∙ ap literalCode e ∙ g in absurd (true≢false z)
@@ -66,7 +66,7 @@ module _ (t : List ℕ) (e : ℕ) (P : Tree → Type 0) (through : (a : Tree) �
   abbrev operator : ℕ
   operator = getD t (e - 1) 0
 
-  pub on-leaf : literalCode operator ≡ true → ((l : Literal) → Record t e (literalPayload l) (literalOperator l) → P (leaf l)) → (a : Tree) → Stored t e a → P a
+  pub on-leaf : literalCode operator ≡ true → ((l : Literal) → Record t e (testPayload (l .test)) (testOperator (l .test)) → P (leaf l)) → (a : Tree) → Stored t e a → P a
   on-leaf h H a (of-leaf {l = l} r) = H l r
   on-leaf h H a (of-neg r d) = clash operator 2 h (r .operator-is) (other-code 2 (omega arith) (omega arith))
   on-leaf h H a (of-par {a = b} d) = through b (on-leaf h H b d)
@@ -76,7 +76,7 @@ module _ (t : List ℕ) (e : ℕ) (P : Tree → Type 0) (through : (a : Tree) �
       let w = join-range j in clash operator _ h (r .operator-is) (other-code _ (omega arith) (omega arith))
 
   pub on-neg : operator ≡ 2 → ((a : Tree) → Stored t (e - 2) a → P (neg a)) → (a : Tree) → Stored t e a → P a
-  on-neg h H a (of-leaf {l = l} r) = clash _ 2 (literal-code l) (sym (r .operator-is) ∙ h) (other-code 2 (omega arith) (omega arith))
+  on-neg h H a (of-leaf {l = l} r) = clash _ 2 (test-code (l .test)) (sym (r .operator-is) ∙ h) (other-code 2 (omega arith) (omega arith))
   on-neg h H a (of-neg {a = b} r d) = H b d
   on-neg h H a (of-par {a = b} d) = through b (on-neg h H b d)
   on-neg h H a (of-bind {q = q} r d) = let w = quantifier-range q in absurd (omega (arith, r .operator-is))
@@ -84,7 +84,7 @@ module _ (t : List ℕ) (e : ℕ) (P : Tree → Type 0) (through : (a : Tree) �
 
   pub on-bind : literalCode operator ≡ false → (operator ≡ 2 → ⊥) → operator < 5
       → ((q : Quantifier) (v : ℕ) (a : Tree) → Record t e v (quantifierOperator q) → Stored t (e - 2) a → P (bind q v a)) → (a : Tree) → Stored t e a → P a
-  on-bind n m h H a (of-leaf {l = l} r) = clash _ operator (literal-code l) (sym (r .operator-is)) n
+  on-bind n m h H a (of-leaf {l = l} r) = clash _ operator (test-code (l .test)) (sym (r .operator-is)) n
   on-bind n m h H a (of-neg r d) = absurd (m (r .operator-is))
   on-bind n m h H a (of-par {a = b} d) = through b (on-bind n m h H b d)
   on-bind n m h H a (of-bind {v = v} {q = q} {a = b} r d) = H q v b r d
@@ -93,7 +93,7 @@ module _ (t : List ℕ) (e : ℕ) (P : Tree → Type 0) (through : (a : Tree) �
   pub on-join : literalCode operator ≡ false → (operator ≡ 2 → ⊥) → 5 ≤ operator
       → ((j : Join) (a b : Tree) → operator ≡ joinOperator j → getD t (e - 2) 0 ≤ e - 2 → Stored t (getD t (e - 2) 0) a → Stored t (e - 2) b → P (join j a b))
       → (a : Tree) → Stored t e a → P a
-  on-join n m h H a (of-leaf {l = l} r) = clash _ operator (literal-code l) (sym (r .operator-is)) n
+  on-join n m h H a (of-leaf {l = l} r) = clash _ operator (test-code (l .test)) (sym (r .operator-is)) n
   on-join n m h H a (of-neg r d) = absurd (m (r .operator-is))
   on-join n m h H a (of-par {a = b} d) = through b (on-join n m h H b d)
   on-join n m h H a (of-bind {q = q} r d) = let w = quantifier-range q in absurd (omega (arith, r .operator-is))

@@ -3,7 +3,7 @@ use mathlib.Core.Bool.{Bool, _||_}
 use mathlib.Core.List.{List, map}
 use Prim.Native.Nat.{ℕ, suc}
 use lib.Dec.{ltb}
-use Rattle.logic.specs.Formula.{Literal}
+use Rattle.logic.specs.Formula.{Test, Literal, literalOf}
 
 -- "`@v` unit (for all), `?v` unit (exists)"
 pub data Quantifier : Type 0 where
@@ -20,6 +20,10 @@ pub data Tree : Type 0 where
   neg par : Tree → Tree
   bind : Quantifier → ℕ → Tree → Tree
   join : Join → Tree → Tree → Tree
+
+-- The literal of a test, as a tree.
+abbrev pub leafOf : Test → Tree
+leafOf t = leaf (literalOf t)
 
 -- "one or more upper-case set letters": a set as it is declared, by its letter.
 pub record Declared : Type 0 where

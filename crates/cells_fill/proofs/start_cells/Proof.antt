@@ -22,7 +22,7 @@ same-length c = search needs
 returns : tie.Need-returns
 unfolding started
 returns c =
-    c .before .before .put-literal .ensures ∙ ap (λ (x : List ℕ). x ++ drop (c .before .before .before .before .before .before .before .args .width) (c .before .before .before .before .before .before .before .args .cells .now)) (tabulate-cong (c .before .before .before .before .before .before .before .args .width) _ _ (λ t h. start-literal (config (c .before .before .before .before .before .before .before .args .ports) (c .before .before .before .before .before .before .before .args .sets) (c .before .before .before .before .before .before .before .args .masks .now)) (c .before .before .before .before .before .before .before .args .kind) (c .before .before .before .before .before .before .before .args .relation) (c .before .before .before .before .before .before .before .args .a) (c .before .before .before .before .before .before .before .args .b) _ (c .before .before .before .before .if1 .taken) (kind-low _ _ _ _ _ _ (c .before .before .before .before .before .before .before .pre .fields))))
+    c .before .before .put-literal .ensures ∙ ap (λ (x : List ℕ). x ++ drop (c .before .before .before .before .before .before .before .args .width) (c .before .before .before .before .before .before .before .args .cells .now)) (tabulate-cong (c .before .before .before .before .before .before .before .args .width) _ _ (λ t h. start-literal (config (c .before .before .before .before .before .before .before .args .ports) (c .before .before .before .before .before .before .before .args .sets) (c .before .before .before .before .before .before .before .args .masks .now)) (c .before .before .before .before .before .before .before .args .kind) (c .before .before .before .before .before .before .before .args .relation) (c .before .before .before .before .before .before .before .args .a) (c .before .before .before .before .before .before .before .args .b) _ (c .before .before .before .before .if1 .taken)))
 
 join-of-requires : tie.Need-join-of-requires
 join-of-requires c κs = search needs

@@ -1,18 +1,11 @@
 -- A literal's record, and where it and its cells stand: paper 01, section Plan table.
 use mathlib.Core.Path.{_≡_}
-use mathlib.Core.Bool.{true, cond}
+use mathlib.Core.Bool.{true}
 use mathlib.Core.List.{List}
 use Prim.Native.Nat.{ℕ, _^_, _≤_, _<_}
-use lib.Dec.{eqb}
 use lib.ListN.{length, getD}
-use Rattle.logic.specs.Formula.{Literal, isin, notin, port, size, relationOf}
 use Rattle.logic.specs.Configuration.{withinPorts}
 use Rattle.table_format.specs.inner.Tests.{fieldRule}
-
--- "5 in, 6 not in, 7 port comparison, 8 size": the literal of a record's kind, relation, a and b.
-unfoldable pub literalOf : ℕ → ℕ → ℕ → ℕ → Literal
-literalOf kind r a b =
-    cond (eqb kind 5) (isin a b) (cond (eqb kind 6) (notin a b) (cond (eqb kind 7) (port (relationOf r) a b) (size (relationOf r) a b)))
 
 -- A literal's record at its depth, the masks that it reads, and the cells, of which the first `width` are its own.
 pub record LiteralPlaced (sets kind relation a b ports depth width : ℕ) (masks cells : List ℕ) : Type 0 where

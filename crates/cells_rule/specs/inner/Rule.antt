@@ -3,7 +3,7 @@ use mathlib.Core.Path.{_≡_}
 use mathlib.Core.Bool.{Bool, cond, not}
 use Prim.Native.Nat.{ℕ}
 use lib.Dec.{eqb}
-use Rattle.logic.specs.Formula.{Literal, isin, notin, port, size, relationOf}
+use Rattle.logic.specs.Formula.{Test, isin, notin, port, size, relationOf}
 use Rattle.logic.specs.Configuration.{Configuration, indicator}
 use Rattle.logic.specs.Truth.{Tuple, portOf}
 use Rattle.logic.specs.Penalty.{compare, sizePenalty}
@@ -14,8 +14,8 @@ rulePenalty kind r inside x y =
     cond (eqb kind 5) (indicator (not inside))
     (cond (eqb kind 6) (indicator inside) (cond (eqb kind 7) (indicator (not (compare (relationOf r) x y))) (sizePenalty (relationOf r) x y)))
 
--- What a literal has the rule read at a tuple: its kind, relation and operands, as far as the kind asks for them.
-unfoldable pub Operands : Configuration → Literal → Tuple → ℕ → ℕ → Bool → ℕ → ℕ → Type 0
+-- What a test has the rule read at a tuple: its kind, relation and operands, as far as the kind asks for them.
+unfoldable pub Operands : Configuration → Test → Tuple → ℕ → ℕ → Bool → ℕ → ℕ → Type 0
 Operands k (isin v S) e kind r inside x y = (kind ≡ 5) × (inside ≡ k .member S (portOf e v))
 Operands k (notin v S) e kind r inside x y = (kind ≡ 6) × (inside ≡ k .member S (portOf e v))
 Operands k (port w v z) e kind r inside x y = (kind ≡ 7) × (relationOf r ≡ w) × (x ≡ portOf e v) × (y ≡ portOf e z)

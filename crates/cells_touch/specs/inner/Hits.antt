@@ -7,7 +7,7 @@ use Prim.Native.Nat.{ℕ, _+_, _-_, _*_, _^_, _%_, _≤_, _<_, min, max}
 use lib.Bits.{bitAnd, bitOr}
 use lib.Dec.{eqb}
 use Rattle.logic.specs.declared.Move.{Move}
-use Rattle.logic.specs.Formula.{Literal, isin, notin, port, size, Plan}
+use Rattle.logic.specs.Formula.{Test, isin, notin, port, size, Plan}
 use Rattle.logic.specs.Configuration.{Sets, inMask}
 use Rattle.logic.specs.Truth.{Tuple}
 use Rattle.logic.specs.Moves.{known, movePairs}
@@ -25,8 +25,8 @@ pub record HitWord (ch : Change) (e : Tuple) (w : ℕ) : Type 0 where
   pub members : (S v : ℕ) → S < 16 → v < 3 → inMask w (4 * S + v) ≡ someOf (memberHit v S e) (ch .pairs)
   pub sizes : (S : ℕ) → S < 16 → inMask w (4 * S + 3) ≡ ch .resized S
 
--- A literal whose variable and set have a bit: variables below 3, sets below 16.
-unfoldable pub Marked : Literal → Type 0
+-- A test whose variable and set have a bit: variables below 3, sets below 16.
+unfoldable pub Marked : Test → Type 0
 Marked (isin v S) = (v < 3) × (S < 16)
 Marked (notin v S) = (v < 3) × (S < 16)
 Marked (port r v w) = Unit {0}

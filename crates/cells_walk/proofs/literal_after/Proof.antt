@@ -1,4 +1,5 @@
 use borrow.Author.Needs.{needs}
+use Rattle.logic.specs.Penalty.{literalPenalty}
 use Rattle.cells_walk.specs.inner.Visit.{Afresh}
 use Rattle.cells_walk.proofs.Steps.{afresh-member, afresh-port, afresh-size, member-ready, comparison-ready, size-ready}
 use Rattle.cells_walk.proofs.literal_after.Statement.{statement}
@@ -20,9 +21,9 @@ literal-penalty-requires : tie.Need-literal-penalty-requires
 literal-penalty-requires c κs = search needs
 
 returns : tie.Need-returns
-unfolding Afresh
+unfolding Afresh literalPenalty
 returns c =
-    afresh-member _ _ _ _ _ _ _ _ _ (c .before .before .before .before .before .before .pre .settled) _ (c .before .before .before .before .if1 .taken) (cc)
+    λ l. afresh-member _ _ _ _ _ _ _ _ _ (c .before .before .before .before .before .before .pre .settled) _ (c .before .before .before .before .if1 .taken) (cc) (l .test)
 
 port-at-requires-2 : tie.Need-port-at-requires-2
 port-at-requires-2 c κs =
@@ -36,9 +37,9 @@ literal-penalty-requires-2 : tie.Need-literal-penalty-requires-2
 literal-penalty-requires-2 c κs = search needs
 
 returns-2 : tie.Need-returns-2
-unfolding Afresh
+unfolding Afresh literalPenalty
 returns-2 c =
-    afresh-port _ _ _ _ _ _ _ _ _ (c .before .before .before .before .before .before .pre .settled) _ (c .before .before .before .if2 .taken) (cc)
+    λ l. afresh-port _ _ _ _ _ _ _ _ _ (c .before .before .before .before .before .before .pre .settled) _ (c .before .before .before .if2 .taken) (cc) (l .test)
 
 mask-at-requires-2 : tie.Need-mask-at-requires-2
 mask-at-requires-2 c κs =
@@ -51,9 +52,9 @@ literal-penalty-requires-3 : tie.Need-literal-penalty-requires-3
 literal-penalty-requires-3 c κs = search needs
 
 returns-3 : tie.Need-returns-3
-unfolding Afresh
+unfolding Afresh literalPenalty
 returns-3 c =
-    afresh-size _ _ _ _ _ _ _ _ _ (c .before .before .before .before .before .before .pre .settled) _ (c .before .before .before .before .if1 .left) (c .before .before .before .if2 .left) (cc)
+    λ l. afresh-size _ _ _ _ _ _ _ _ _ (c .before .before .before .before .before .before .pre .settled) _ (c .before .before .before .before .if1 .left) (c .before .before .before .if2 .left) (cc) (l .test)
 
 pub literal-after-spec : {M : Type 1} → statement M
 literal-after-spec =

@@ -5,8 +5,8 @@ use mathlib.Core.List.{List}
 use Prim.Native.Nat.{ℕ, suc, _+_, _*_, _^_, _≤_, _<_}
 use lib.Bits.{bitOr}
 use lib.ListN.{length, getD}
-use Rattle.logic.specs.Formula.{Literal, isin, notin, port, size, Node, Forest, none, tree, kindNumber, nodeCount, childDepth}
-use Rattle.logic.specs.inner.Literals.{Every, OfLiteral}
+use Rattle.logic.specs.Formula.{Test, isin, notin, port, size, Node, Forest, none, tree, kindNumber, nodeCount, childDepth}
+use Rattle.logic.specs.inner.Literals.{Every, OfTest}
 use Rattle.logic.specs.Cells.{siblingFirst}
 use Rattle.table_format.specs.Bytes.{recordLength, kindField, relationField, aField, bField, recordsOf, recordAt, relationByte, aByte, bByte}
 use Rattle.table_format.specs.Rules.{treeCount, arityRule}
@@ -31,15 +31,15 @@ IndexHolds u bytes firsts ends uses i (tree n c s) b d =
     × IndexHolds u bytes firsts ends uses (i + suc (nodeCount c)) s (siblingFirst u n c b d) d
 
 -- What the rules of the table say of a node: its depth, a literal's variables, set and constant, and how many children it has.
-unfoldable pub LiteralFits : ℕ → ℕ → Literal → Type 0
-LiteralFits sets d (isin v S) = (v < d) × (S < sets)
-LiteralFits sets d (notin v S) = (v < d) × (S < sets)
-LiteralFits sets d (port r v w) = (v < d) × (w < d)
-LiteralFits sets d (size r S c) = (S < sets) × (c ≤ 64)
+unfoldable pub TestFits : ℕ → ℕ → Test → Type 0
+TestFits sets d (isin v S) = (v < d) × (S < sets)
+TestFits sets d (notin v S) = (v < d) × (S < sets)
+TestFits sets d (port r v w) = (v < d) × (w < d)
+TestFits sets d (size r S c) = (S < sets) × (c ≤ 64)
 
 pub record NodeFits (sets : ℕ) (n : Node) (c : Forest) (d : ℕ) : Type 0 where
   pub depth3 : d ≤ 3
-  pub literal : OfLiteral (LiteralFits sets d) n
+  pub literal : OfTest (TestFits sets d) n
   pub children : arityRule (kindNumber n) (treeCount c) ≡ true
 
 unfoldable pub Fitting : ℕ → Forest → ℕ → Type 0

@@ -4,7 +4,7 @@ use mathlib.Core.Bool.{Bool, true}
 use mathlib.Core.List.{List, [], _∷_}
 use Prim.Native.Nat.{ℕ, suc, _+_, _*_, _^_, _%_, _≤_, _<_}
 use lib.ListN.{length, getD}
-use Rattle.logic.specs.Formula.{Literal, Node, lit, Forest, tree, none, kindNumber, nodeCount}
+use Rattle.logic.specs.Formula.{Test, Literal, Node, Forest, tree, none, testKind, nodeCount}
 use Rattle.logic.specs.Configuration.{Configuration, configured, inMasks, withinPorts}
 use Rattle.logic.specs.Truth.{Tuple}
 use Rattle.logic.specs.Penalty.{literalPenalty, eachPort, sum}
@@ -17,8 +17,8 @@ use Rattle.cells_touch.specs.inner.Hits.{HitWord}
 use Rattle.cells_sum.specs.inner.Walk.{gathered, changes}
 use Rattle.cells_sum.specs.declared.After.{After}
 use Rattle.cells_sum.specs.declared.Sum.{Sum}
-use Rattle.table_format.specs.Bytes.{recordLength, kindField, relationField, aField, bField, recordsOf, recordAt, relationByte, aByte, bByte}
-use Rattle.cells_walk.specs.inner.Nodes.{IndexHolds, LiteralFits, Fitting}
+use Rattle.table_format.specs.Bytes.{recordLength, kindField, relationField, aField, bField, recordsOf, recordAt, testRelation, testA, testB}
+use Rattle.cells_walk.specs.inner.Nodes.{IndexHolds, TestFits, Fitting}
 
 -- The ports of a tuple in one number, eight bits a variable, the outermost lowest.
 unfoldable pub packed : Tuple → ℕ
@@ -58,13 +58,13 @@ pub record TreesAfter (u : ℕ) (k : Configuration) (ch : Change) (t : OldCells)
   pub value-is : r .value ≡ gathered add (acc .value) (renewals u k ch t f b d e)
   pub changed-is : r .changed ≡ (acc .changed + changes u k ch t f b d e) % modulus
 
--- A literal's fields, its masks and its tuple's digits.
-pub record LiteralAt (u sets d kind relation a b : ℕ) (masks : List ℕ) (digits : ℕ) (l : Literal) (e : Tuple) : Type 0 where
-  pub kind-is : kind ≡ kindNumber (lit l)
-  pub relation-is : relation ≡ relationByte (lit l)
-  pub a-is : a ≡ aByte (lit l)
-  pub b-is : b ≡ bByte (lit l)
-  pub fits : LiteralFits sets d l
+-- The fields of a literal's test, its masks and its tuple's digits.
+pub record TestAt (u sets d kind relation a b : ℕ) (masks : List ℕ) (digits : ℕ) (t : Test) (e : Tuple) : Type 0 where
+  pub kind-is : kind ≡ testKind t
+  pub relation-is : relation ≡ testRelation t
+  pub a-is : a ≡ testA t
+  pub b-is : b ≡ testB t
+  pub fits : TestFits sets d t
   pub depth3 : d ≤ 3
   pub tuple : TupleOf u d e
   pub digits-are : digits ≡ packed e
@@ -72,13 +72,13 @@ pub record LiteralAt (u sets d kind relation a b : ℕ) (masks : List ℕ) (digi
 pub record LiteralReady (u sets d kind relation a b : ℕ) (masks : List ℕ) (digits : ℕ) : Type 0 where
   pub literal : Literal
   pub ports : Tuple
-  pub at : LiteralAt u sets d kind relation a b masks digits literal ports
+  pub at : TestAt u sets d kind relation a b masks digits (literal .test) ports
   pub settled : MasksSettled u sets masks
 
 -- "literals [..] afresh"
 unfoldable pub Afresh : ℕ → ℕ → ℕ → ℕ → ℕ → ℕ → ℕ → List ℕ → ℕ → ℕ → Type 0
 Afresh u sets d kind relation a b masks digits r =
-    (l : Literal) (e : Tuple) → LiteralAt u sets d kind relation a b masks digits l e
+    (l : Literal) (e : Tuple) → TestAt u sets d kind relation a b masks digits (l .test) e
     → r ≡ literalPenalty (configured u sets (inMasks masks)) l e
 
 -- The same of the record of node i.

@@ -73,7 +73,7 @@ pub record EmitReady (sets : List ℕ) (i : ℕ) (out : List ℕ) : Type 0 where
 -- The record of a literal's node.
 pub record EmitsLiteral (operator payload : ℕ) (sets : List ℕ) (b : Bound) (p : Bool) (parent i : ℕ) (before after : List ℕ) (r : ℕ) : Type 0 where
   pub placed : recordLength * r ≤ length before
-  pub writes : (l : Literal) → ReadAs operator payload l
+  pub writes : (l : Literal) → ReadAs operator payload (l .test)
       → Records (tree (lit (literalAt sets (boundLetters b) p l)) none none) parent i before after r
 
 -- The tree whose records end at place e, with d quantifiers around it and no fourth.

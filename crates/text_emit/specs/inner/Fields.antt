@@ -3,10 +3,10 @@ use mathlib.Core.Path.{_≡_}
 use mathlib.Core.Bool.{Bool, not}
 use mathlib.Core.List.{List, [], _∷_}
 use Prim.Native.Nat.{ℕ, zero, suc, _<_}
-use Rattle.logic.specs.Formula.{Relation, relationNumber, Literal, Node, lit, kindNumber}
+use Rattle.logic.specs.Formula.{Relation, relationNumber, Test, literalOf, Node, lit, testKind, kindNumber}
 use Rattle.text_tree.specs.Tree.{Quantifier}
 use Rattle.text_tree.specs.inner.Stored.{quantifierOperator}
-use Rattle.text_core.specs.Core.{quantifierNode, relationAt, memberAt, literalAt}
+use Rattle.text_core.specs.Core.{quantifierNode, relationAt, memberAt, testAt}
 use Rattle.text_names.specs.inner.Faults.{ReadAs}
 use Rattle.table_format.specs.Bytes.{relationByte, aByte, bByte}
 use Rattle.text_emit.specs.declared.Bound.{Bound}
@@ -43,9 +43,9 @@ QuantifierIs p operator r = (q : Quantifier) → operator ≡ quantifierOperator
 -- `v:S` has operator 0, `v/S` 1.
 unfoldable pub MemberIs : Bool → ℕ → ℕ → Type 0
 MemberIs p operator r = (v S : ℕ)
-    → (operator ≡ 0 → r ≡ kindNumber (lit (memberAt p v S)))
-    × (operator ≡ 1 → r ≡ kindNumber (lit (memberAt (not p) v S)))
+    → (operator ≡ 0 → r ≡ testKind (memberAt p v S))
+    × (operator ≡ 1 → r ≡ testKind (memberAt (not p) v S))
 
 unfoldable pub LiteralIs : List ℕ → ℕ → ℕ → Bound → Bool → Fields → Type 0
 LiteralIs sets operator payload b p r =
-    (l : Literal) → ReadAs operator payload l → Shows r (lit (literalAt sets (boundLetters b) p l))
+    (t : Test) → ReadAs operator payload t → Shows r (lit (literalOf (testAt sets (boundLetters b) p t)))

@@ -4,9 +4,9 @@ use mathlib.Core.List.{List}
 use mathlib.Core.Bool.{true, false}
 use Prim.Native.Nat.{ℕ, suc, _+_, _*_, _-_, _≤_, _<_}
 use lib.ListN.{length, getD, set, take}
-use Rattle.logic.specs.Formula.{Literal}
+use Rattle.logic.specs.Formula.{Test}
 use Rattle.text_tree.specs.Tree.{Tree, Declared, lettersOf, tooDeep}
-use Rattle.text_tree.specs.inner.Stored.{literalOperator, literalPayload, Record, Stored}
+use Rattle.text_tree.specs.inner.Stored.{testOperator, testPayload, Record, Stored}
 use Rattle.text_grammar.specs.declared.Reading.{Reading}
 use Rattle.text_grammar.specs.declared.Letters.{Letters}
 use Rattle.text_grammar.specs.declared.Syntax.{Syntax}
@@ -52,11 +52,11 @@ abbrev pub Prefixed : List ℕ → List ℕ → List ℕ → ℕ → ℕ → ℕ
 Prefixed s before after at n d payload operator r =
     (f : ℕ) → 4 * (length s - at) + rank unit ≤ f → (p : Prefix payload operator) → Outcome (mapPart (p .make) (parseAt f unit s at)) s before after (at - 1) n d r
 
--- The literals of an operator, by their two operands.
+-- The tests of an operator, by their two operands.
 pub record Form (operator : ℕ) : Type 0 where
-  pub make : ℕ → ℕ → Literal
-  pub operates : (x y : ℕ) → literalOperator (make x y) ≡ operator
-  pub pays : (x y : ℕ) → literalPayload (make x y) ≡ 256 * x + y
+  pub make : ℕ → ℕ → Test
+  pub operates : (x y : ℕ) → testOperator (make x y) ≡ operator
+  pub pays : (x y : ℕ) → testPayload (make x y) ≡ 256 * x + y
 
 -- The literal of an operator and a first operand, with its last operand of the kind `wanted` at `at`.
 abbrev pub Operands : List ℕ → List ℕ → List ℕ → ℕ → ℕ → ℕ → ℕ → ℕ → ℕ → Reading → Type 0

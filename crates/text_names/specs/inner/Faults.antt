@@ -3,12 +3,12 @@ use mathlib.Core.Path.{_≡_}
 use mathlib.Core.Bool.{Bool, false}
 use mathlib.Core.List.{List, [], _∷_}
 use Prim.Native.Nat.{ℕ, _-_}
-use Rattle.logic.specs.Formula.{Literal}
+use Rattle.logic.specs.Formula.{Test}
 use Rattle.logic.specs.Configuration.{inMask}
 use Rattle.text_tree.specs.Tree.{Tree, Declared, lettersOf}
-use Rattle.text_tree.specs.inner.Stored.{literalOperator, literalPayload, Stored}
+use Rattle.text_tree.specs.inner.Stored.{testOperator, testPayload, Stored}
 use Rattle.text_names.specs.declared.Faults.{Faults}
-use Rattle.text_core.specs.Names.{among, misdeclared, misnamedLiteral, misnamed, highLiteral, ground6, fourth, ground7, Variable, LetteredLiteral, Lettered}
+use Rattle.text_core.specs.Names.{among, misdeclared, misnamedTest, misnamed, highConstant, ground6, fourth, ground7, Variable, LetteredTest, Lettered}
 
 -- Ground 5 of every declaration that has these letters.
 unfoldable pub Misdeclares : List ℕ → Bool → Type 0
@@ -24,18 +24,18 @@ IsBound bound v r = (vars : List ℕ) → Marks bound vars → Variable v → r 
 unfoldable pub Binds : ℕ → ℕ → ℕ → Type 0
 Binds bound v r = (vars : List ℕ) → Marks bound vars → Variable v → among vars v ≡ false → Marks r (v ∷ vars)
 
--- The literal of a record.
-pub record ReadAs (operator payload : ℕ) (l : Literal) : Type 0 where
-  pub operator-is : operator ≡ literalOperator l
-  pub payload-is : payload ≡ literalPayload l
-  pub lettered : LetteredLiteral l
+-- The test of a literal's record.
+pub record ReadAs (operator payload : ℕ) (t : Test) : Type 0 where
+  pub operator-is : operator ≡ testOperator t
+  pub payload-is : payload ≡ testPayload t
+  pub lettered : LetteredTest t
 
 unfoldable pub NamesLiteral : List ℕ → ℕ → ℕ → ℕ → Bool → Type 0
 NamesLiteral sets operator payload bound r =
-    (l : Literal) → ReadAs operator payload l → (vars : List ℕ) → Marks bound vars → r ≡ misnamedLiteral sets vars l
+    (t : Test) → ReadAs operator payload t → (vars : List ℕ) → Marks bound vars → r ≡ misnamedTest sets vars t
 
 unfoldable pub HighLiteral : ℕ → ℕ → Bool → Type 0
-HighLiteral operator payload r = (l : Literal) → ReadAs operator payload l → r ≡ highLiteral l
+HighLiteral operator payload r = (t : Test) → ReadAs operator payload t → r ≡ highConstant t
 
 pub record LiteralFaults (sets : List ℕ) (operator payload bound : ℕ) (r : Faults) : Type 0 where
   pub names-is : NamesLiteral sets operator payload bound (r .names)

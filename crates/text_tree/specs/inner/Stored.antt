@@ -6,20 +6,20 @@ use mathlib.Core.Bool.{Bool, _||_}
 use Prim.Native.Nat.{ℕ, _+_, _*_, _-_, _≤_}
 use lib.ListN.{length, getD}
 use lib.Dec.{leb, ltb}
-use Rattle.logic.specs.Formula.{Literal, isin, notin, port, size, relationNumber}
+use Rattle.logic.specs.Formula.{Test, isin, notin, port, size, Literal, relationNumber}
 use Rattle.text_tree.specs.Tree.{Quantifier, forall, exists, Join, conj, disj, imp, rev, iff, Tree, leaf, neg, par, bind, join}
 
-unfoldable pub literalOperator : Literal → ℕ
-literalOperator (isin v S) = 0
-literalOperator (notin v S) = 1
-literalOperator (port r v w) = 16 + relationNumber r
-literalOperator (size r S c) = 24 + relationNumber r
+unfoldable pub testOperator : Test → ℕ
+testOperator (isin v S) = 0
+testOperator (notin v S) = 1
+testOperator (port r v w) = 16 + relationNumber r
+testOperator (size r S c) = 24 + relationNumber r
 
-unfoldable pub literalPayload : Literal → ℕ
-literalPayload (isin v S) = 256 * v + S
-literalPayload (notin v S) = 256 * v + S
-literalPayload (port r v w) = 256 * v + w
-literalPayload (size r S c) = 256 * S + c
+unfoldable pub testPayload : Test → ℕ
+testPayload (isin v S) = 256 * v + S
+testPayload (notin v S) = 256 * v + S
+testPayload (port r v w) = 256 * v + w
+testPayload (size r S c) = 256 * S + c
 
 unfoldable pub quantifierOperator : Quantifier → ℕ
 quantifierOperator forall = 3
@@ -41,12 +41,12 @@ pub record Record (t : List ℕ) (e payload operator : ℕ) : Type 0 where
 
 -- The tree whose records end at place e of the table t.
 pub data Stored (t : List ℕ) : ℕ → Tree → Type 0 where
-  of-leaf : {e : ℕ} {l : Literal} → Record t e (literalPayload l) (literalOperator l) → Stored t e (leaf l)
+  of-leaf : {e : ℕ} {l : Literal} → Record t e (testPayload (l .test)) (testOperator (l .test)) → Stored t e (leaf l)
   of-neg : {e : ℕ} {a : Tree} → Record t e 0 2 → Stored t (e - 2) a → Stored t e (neg a)
   of-par : {e : ℕ} {a : Tree} → Stored t e a → Stored t e (par a)
   of-bind : {e v : ℕ} {q : Quantifier} {a : Tree} → Record t e v (quantifierOperator q) → Stored t (e - 2) a → Stored t e (bind q v a)
   of-join : {e m : ℕ} {j : Join} {a b : Tree} → Record t e m (joinOperator j) → m ≤ e - 2 → Stored t m a → Stored t (e - 2) b → Stored t e (join j a b)
 
--- The operators of literals: `literalOperator` gives these.
+-- The operators of literals: `testOperator` gives these.
 unfoldable pub literalCode : ℕ → Bool
 literalCode operator = ltb operator 2 || leb 16 operator
