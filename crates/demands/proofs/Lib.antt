@@ -5,3 +5,4 @@ pub mod Demand1
 pub mod KnownRun
 pub mod Demand3
 pub mod KnownLine
+pub mod PrintedLine

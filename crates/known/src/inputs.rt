@@ -1,16 +1,9 @@
 // Inputs of planroot, whole and cut in two, and the lines for them.
-use crate::print::say_line;
 use planroot_input::start;
 use planroot_input::step;
-use planroot_line::Line;
-use planroot_line::finish;
+use planroot_line::answer;
 ghost use mathlib.Core.Path.{_≡_};
 ghost use Prim.Native.Nat.{min};
-
-// "It holds 16,384 cells."
-fn room() -> [u32; 16384] {
-    [0; 16384]
-}
 
 // The lesser of two: a cut behind the end of an input cuts nothing off.
 fn least(a: usize, b: usize) -> usize
@@ -22,26 +15,26 @@ fn least(a: usize, b: usize) -> usize
     b
 }
 
-// The line for an input that comes in two pieces.
-fn line_of(first: &[u8], rest: &[u8]) -> Line {
+// Prints the line for an input that comes in two pieces, as planroot does.
+fn say_pieces(first: &[u8], rest: &[u8]) {
     let mut masks = [0u64; 16];
     let mut text = [0u8; 4097];
     let a = step(start(), first, &mut masks, &mut text);
     let b = step(a, rest, &mut masks, &mut text);
-    let mut table = [0u8; 4105];
-    let mut cells = room();
-    finish(b, &mut masks, &text, &mut table, &mut cells)
+    let mut out = [0u8; 36];
+    let n = answer(b, &mut masks, &text, &mut out);
+    io::write_all(1, &out[..n]);
 }
 
 // An input whole.
 fn whole(input: &[u8]) {
-    say_line(line_of(input, b""));
+    say_pieces(input, b"");
 }
 
 // An input of which the first piece has at most n bytes.
 fn cut_at(input: &[u8], n: usize) {
     let k = least(n, input.len());
-    say_line(line_of(&input[0..k], &input[k..]));
+    say_pieces(&input[0..k], &input[k..]);
 }
 
 // An input cut at some places: the same line each time.

@@ -2,7 +2,6 @@
 use contracts::Answer;
 use contracts::Loaded;
 use contracts::Moved;
-use planroot_line::Line;
 
 // A number, a space before it.
 fn number(n: u32) {
@@ -76,14 +75,6 @@ pub fn say_moved(answer: Moved) {
             changed: cells,
         } => changed(before, after, cells),
         Moved::Refused(n) => refused(n),
-    }
-}
-
-// The line of planroot.
-pub fn say_line(line: Line) {
-    match line {
-        Line::Penalty { root, cells } => counted(b"penalty", root, cells),
-        Line::Refusal(n) => refused(n),
     }
 }
 

@@ -1,67 +1,67 @@
 // planroot: reads u, masks and a text from standard input and prints the root's penalty and the cell total, or the number of a
 // refusal. Paper 01, section Known plans.
 use planroot_input::Scan;
+use planroot_input::decided;
 use planroot_input::start;
 use planroot_input::step;
-use planroot_line::Line;
-use planroot_line::finish;
+use planroot_line::answer;
 ghost use Rattle.planroot_input.specs.inner.Scans.{InputRoom};
-ghost use Rattle.planroot.specs.inner.Known.{Known};
+ghost use Rattle.planroot_line.specs.inner.Contract.{SomeInput};
+ghost use Rattle.planroot.specs.inner.Known.{KnownInput};
 
-// Passes standard input to its end. Nothing says that it ends, so the turns are counted: 2^64 - 1 of them suffice.
-fn pass_input(masks: &mut [u64], text: &mut [u8]) -> Scan
+// Standard input as far as it is passed: to its end, or as far as bytes can change the line; or a read failed.
+enum Input {
+    Whole(Scan),
+    Enough(Scan),
+    Failed,
+}
+
+// Passes standard input. Nothing says that it ends, so the turns are counted: 2^64 - 1 of them suffice.
+fn pass_input(masks: &mut [u64], text: &mut [u8]) -> Input
     requires { ⌜ InputRoom (now masks) (now text) ⌝ }
-    ensures { λ r. ⌜ Known r (now (masks .exit)) (now (text .exit)) ⌝ }
+    ensures { λ r. ⌜ KnownInput r (now (masks .exit)) (now (text .exit)) ⌝ }
 {
     let mut s = start();
     let mut piece = io::buffer();
     let mut left: u64 = 18446744073709551615;
     while 0 < left {
-        let n = io::read_full(0, &mut piece);
+        let got = libc::read(libc::STDIN_FILENO, &mut piece);
+        if got < 0 {
+            return Input::Failed;
+        }
+        let n = io::count(got, &piece);
         if n == 0 {
-            return s;
+            return Input::Whole(s);
         }
         s = step(s, &piece[..n], masks, text);
+        if decided(s) {
+            return Input::Enough(s);
+        }
         left -= 1;
     }
-    s
+    Input::Failed
 }
 
-// `penalty P cells C`.
-fn penalty(root: u32, cells: u32) {
-    io::write_all(1, b"penalty ");
-    io::print_decimal(1, root as u64);
-    io::write_all(1, b" cells ");
-    io::print_decimal(1, cells as u64);
-    io::write_all(1, b"\n");
-}
-
-// `refused N`.
-fn refused(number: u8) {
-    io::write_all(1, b"refused ");
-    io::print_decimal(1, number as u64);
-    io::write_all(1, b"\n");
-}
-
-// Prints a line.
-fn say(line: Line) {
-    match line {
-        Line::Penalty { root, cells } => penalty(root, cells),
-        Line::Refusal(n) => refused(n),
+// Prints the line for the input that is passed, by one write if the system takes it whole.
+fn say(s: Scan, masks: &mut [u64], text: &[u8])
+    requires { ⌜ SomeInput s (now masks) (now text) ⌝ }
+{
+    let mut out = [0u8; 36];
+    let n = answer(s, masks, text, &mut out);
+    if !io::write_all(libc::STDOUT_FILENO, &out[..n]) {
+        os::fail(b"planroot: standard output");
     }
 }
 
-// "It holds 16,384 cells."
-fn room() -> [u32; 16384] {
-    [0; 16384]
-}
-
-// A text of 4,097 bytes is one too long, so more of it need not be kept.
+// A text of 4,097 bytes is one too long, so more of it need not be kept. Where a read fails, nothing is printed but a line on
+// standard error: half an input is no input.
 fn main() {
     let mut masks = [0u64; 16];
     let mut text = [0u8; 4097];
-    let s = pass_input(&mut masks, &mut text);
-    let mut table = [0u8; 4105];
-    let mut cells = room();
-    say(finish(s, &mut masks, &text, &mut table, &mut cells));
+    let input = pass_input(&mut masks, &mut text);
+    match input {
+        Input::Whole(s) => say(s, &mut masks, &text),
+        Input::Enough(s) => say(s, &mut masks, &text),
+        Input::Failed => os::fail(b"planroot: standard input"),
+    }
 }

@@ -26,7 +26,7 @@ pub high-no-digit : (b : ℕ) → 57 < b → isDigit b ≡ false
 high-no-digit b h = and-no (leb 48 b) _ (lt-leb b 57 h)
 
 -- digits one behind the other
-digits-snoc : (v : List ℕ) (b : ℕ) → digitsOnly v ≡ true → isDigit b ≡ true → digitsOnly (v ++ (b ∷ [])) ≡ true
+pub digits-snoc : (v : List ℕ) (b : ℕ) → digitsOnly v ≡ true → isDigit b ≡ true → digitsOnly (v ++ (b ∷ [])) ≡ true
 unfolding digitsOnly
 digits-snoc [] b h d = and-true _ _ d refl
 digits-snoc (c ∷ v) b h d = and-true _ _ (and-left (isDigit c) _ h) (digits-snoc v b (and-right (isDigit c) _ h) d)
@@ -36,7 +36,7 @@ unfolding digitsOnly
 no-digits [] b x d = rw d
 no-digits (c ∷ v) b x d = and-no (isDigit c) _ (no-digits v b x d)
 
-number-snoc : (n : ℕ) (v : List ℕ) (b : ℕ) → digitsOnly v ≡ true → isDigit b ≡ true → numberOf n (v ++ (b ∷ [])) ≡ 10 * numberOf n v + (b - 48)
+pub number-snoc : (n : ℕ) (v : List ℕ) (b : ℕ) → digitsOnly v ≡ true → isDigit b ≡ true → numberOf n (v ++ (b ∷ [])) ≡ 10 * numberOf n v + (b - 48)
 unfolding digitsOnly numberOf
 number-snoc n [] b h d = rw d
 number-snoc n (c ∷ v) b h d = rw (and-left (isDigit c) _ h) (number-snoc (10 * n + (c - 48)) v b (and-right (isDigit c) _ h) d)
@@ -55,12 +55,12 @@ number-grows n [] x h = at-least n x
         go false q = omega arith
 number-grows n (c ∷ v) x h = rw (and-left (isDigit c) _ h) (number-grows (10 * n + (c - 48)) v x (and-right (isDigit c) _ h))
 
-leads-on : (v x : List ℕ) → leads v ≡ true → leads (v ++ x) ≡ true
+pub leads-on : (v x : List ℕ) → leads v ≡ true → leads (v ++ x) ≡ true
 unfolding leads
 leads-on [] x h = absurd (false≢true h)
 leads-on (b ∷ v) x h = h
 
-leads-well : (v : List ℕ) → leads v ≡ true → beginsWell v ≡ true
+pub leads-well : (v : List ℕ) → leads v ≡ true → beginsWell v ≡ true
 unfolding leads beginsWell
 leads-well [] h = absurd (false≢true h)
 leads-well (b ∷ []) h = refl

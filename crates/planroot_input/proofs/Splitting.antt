@@ -37,6 +37,12 @@ unfolding ends line
 line-all [] h = refl
 line-all (c ∷ x) h = rw (or-left (eqb c 10) _ h) (ap (λ (l : List ℕ). c ∷ l) (line-all x (or-right (eqb c 10) _ h)))
 
+-- a line that has not ended goes on
+pub line-open : (x y : List ℕ) → ends x ≡ false → line (x ++ y) ≡ x ++ line y
+unfolding ends line
+line-open [] y h = refl
+line-open (c ∷ x) y h = rw (or-left (eqb c 10) _ h) (ap (λ (l : List ℕ). c ∷ l) (line-open x y (or-right (eqb c 10) _ h)))
+
 pub behind-none : (x : List ℕ) → ends x ≡ false → behind x ≡ []
 unfolding ends behind
 behind-none [] h = refl

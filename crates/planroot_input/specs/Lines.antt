@@ -1,9 +1,11 @@
 -- The input of planroot: "reads from standard input u on line 1, masks separated by one space on line 2, then the text" (paper 01,
 -- section Known plans).
+use mathlib.Core.Path.{_≡_}
 use mathlib.Core.Bool.{Bool, true, false, not, _&&_, _||_}
-use mathlib.Core.List.{List, [], _∷_}
-use Prim.Native.Nat.{ℕ}
+use mathlib.Core.List.{List, [], _∷_, _++_}
+use Prim.Native.Nat.{ℕ, _<_}
 use lib.Dec.{eqb, ltb}
+use lib.ListN.{length}
 use Rattle.text_tokens.specs.Tokens.{pick, isDigit, numberOf}
 
 -- The bytes before the first line end (byte 10), those behind it, and whether there is one.
@@ -64,3 +66,9 @@ masks input = values (words (line (behind input)))
 
 unfoldable pub text : List ℕ → List ℕ
 text input = behind (behind input)
+
+-- Bytes of an input behind which nothing changes the line: "N is 0, before all else", since the first two lines are wrong whatever
+-- follows, or "text over 4,096 bytes".
+pub data Settled (input : List ℕ) : Type 0 where
+  wrong : ((more : List ℕ) → sound (input ++ more) ≡ false) → Settled input
+  long : 4096 < length (text input) → Settled input

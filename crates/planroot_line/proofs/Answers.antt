@@ -9,12 +9,11 @@ use lib.Dec.{leb}
 use lib.ListN.{length, take, drop}
 use lib.Seq.{take-all, length-take-le}
 use borrow.Author.Tests.{eq-eqb, ne-eqb, lt-ltb}
-use Rattle.logic.specs.Formula.{Plan}
 use Rattle.logic.specs.Moves.{refusal}
 use Rattle.text_tokens.specs.Tokens.{pick}
 use Rattle.text_grammar.specs.Parser.{Result, parsed}
 use Rattle.text_core.specs.Core.{planOf}
-use Rattle.table_format.specs.Bytes.{setsField, wordBytes, header, encoding}
+use Rattle.table_format.specs.Bytes.{setsField, encoding}
 use Rattle.table_format.specs.Decode.{decode}
 use Rattle.contracts.specs.declared.Answer.{Answer}
 use Rattle.contracts.specs.declared.Answer.the-variants.{Accepted, Refused}
@@ -25,11 +24,12 @@ use Rattle.contracts.proofs.Reading.{accepted-admitted, admitted-read}
 use Rattle.contracts.specs.declared.Loaded.{Loaded}
 use Rattle.contracts.specs.State.{State, tables}
 use Rattle.contracts.specs.Load.{loads}
-use Rattle.planroot_line.specs.declared.Line.{Line}
-use Rattle.planroot_line.specs.declared.Line.the-variants.{Refusal}
+use Rattle.planroot_print.specs.declared.Line.{Line}
+use Rattle.planroot_print.specs.declared.Line.the-variants.{Refusal}
 use Rattle.planroot_line.specs.Loading.{loadLine}
 use Rattle.planroot_line.specs.Line.{readLine, textLine}
 use Rattle.planroot_line.specs.inner.Contract.{LinesPlan, LinesText}
+use Rattle.planroot_line.proofs.Tables.{header-sets}
 
 -- a text that is too long is refused by its length, whatever follows
 too-long : (u : ℕ) (s B : List ℕ) → 4096 < length s → reads u s B ≡ (Refused (cond (leb 1 u && leb u 64) 1 10), B)
@@ -50,10 +50,6 @@ same-start u t B = go (decLe (length t) 4097)
         let long : length (take 4097 t) ≡ 4097 = length-take-le 4097 t (omega arith) in
         too-long u (take 4097 t) B (omega arith) ∙ sym (too-long u t B (omega arith))
 
-header-sets : (u : ℕ) (P : Plan) (rest : List ℕ) → setsField (encoding P ++ rest) ≡ P .sets
-unfolding setsField encoding header wordBytes
-header-sets u P rest = refl
-
 -- a table that reading left has at most 16 sets
 pub read-sets : (u : ℕ) (s B O : List ℕ) (x : Answer) (nodes total : ℕ) → (x, O) ≡ reads u s B → x ≡ Accepted nodes total → setsField O ≤ 16
 unfolding readNumber admittedPlan planOf
@@ -62,7 +58,7 @@ read-sets u s B O x nodes total e y =
     let A = accepted-admitted u s B z in
     let P = admittedPlan A in
     let bytes : O ≡ encoding P ++ drop (tableLength P) B = ap (λ (q : Answer × List ℕ). q .1) (e ∙ admitted-read u s B A) in
-    let n : setsField O ≡ length (A .sets) = ap setsField bytes ∙ header-sets u P (drop (tableLength P) B) in
+    let n : setsField O ≡ length (A .sets) = ap setsField bytes ∙ header-sets P (drop (tableLength P) B) in
     omega (arith, few-sets (A .sets) (A .tree) (A .names))
 
 module _ (count : ℕ) (ms table cells : List ℕ) (n : ℕ) (N : n ≡ setsField table) (few : setsField table ≤ 16) where

@@ -2,3 +2,5 @@
 pub mod Answers
 pub mod Finishing
 pub mod Pieces
+pub mod Stopping
+pub mod Tables

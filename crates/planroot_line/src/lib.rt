@@ -5,15 +5,15 @@ use contracts::Answer;
 use contracts::Loaded;
 use planroot_input::Scan;
 use planroot_input::close;
+use planroot_print::Line;
+use planroot_print::put_line;
 use table_format::sets_of;
 ghost use mathlib.Core.Path.{_≡_};
+ghost use Prim.Native.Nat.{_≤_};
+ghost use lib.ListN.{length};
+ghost use Rattle.planroot_print.specs.Line.{lineRoom};
 ghost use Rattle.planroot_line.specs.Loading.{loadLine};
-ghost use Rattle.planroot_line.specs.inner.Contract.{Tables, PlanTables, LinesPlan, LinesText, SomeInput, LinesInput};
-
-pub enum Line {
-    Penalty { root: u32, cells: u32 },
-    Refusal(u8),
-}
+ghost use Rattle.planroot_line.specs.inner.Contract.{Tables, PlanTables, LinesPlan, LinesText, SomeInput, LinesInput, ShowsInput};
 
 // Load's answer as a line.
 fn load_line(answer: Loaded) -> Line
@@ -59,15 +59,33 @@ fn text_line(
     }
 }
 
-// The line for an input that is passed: `close` ends it.
-pub fn finish(s: Scan, masks: &mut [u64], text: &[u8], table: &mut [u8], cells: &mut [u32]) -> Line
-    requires { ⌜ SomeInput s (now masks) (now text) (now table) ⌝ }
-    ensures { λ r. ⌜ LinesInput s (now (masks .entry)) (now (text .entry)) (now (table .entry)) (now (cells .entry)) r ⌝ }
+// The line for an input that is passed: `close` ends it. "It holds 16,384 cells."
+fn finish(s: Scan, masks: &mut [u64], text: &[u8]) -> Line
+    requires { ⌜ SomeInput s (now masks) (now text) ⌝ }
+    ensures { λ r. ⌜ LinesInput s (now (masks .entry)) (now (text .entry)) r ⌝ }
 {
     let e = close(s, masks);
     if !e.ok {
         return Line::Refusal(0);
     }
     let length = e.length;
-    text_line(e.ports, e.masks, &masks[..], &text[0..length], table, cells)
+    let mut table = [0u8; 4105];
+    let mut cells = [0u32; 16384];
+    text_line(
+        e.ports,
+        e.masks,
+        &masks[..],
+        &text[0..length],
+        &mut table,
+        &mut cells,
+    )
+}
+
+// The bytes of the line for an input that is passed, at the front of a table: how many they are.
+pub fn answer(s: Scan, masks: &mut [u64], text: &[u8], out: &mut [u8]) -> usize
+    requires { ⌜ SomeInput s (now masks) (now text) ⌝ }
+    requires { ⌜ lineRoom ≤ length (now out) ⌝ }
+    ensures { λ r. ⌜ ShowsInput s (now (masks .entry)) (now (text .entry)) (now (out .entry)) r (now (out .exit)) ⌝ }
+{
+    put_line(out, finish(s, masks, text))
 }

@@ -1,8 +1,15 @@
+use mathlib.Core.Path.{sym}
 use native.Mathlib.Omega.{arith}
 use borrow.Author.Needs.{needs}
-use Rattle.table_format.specs.Bytes.{headerLength}
+use Rattle.planroot.proofs.Passing.{whole-known, enough-known}
+use borrow.Author.Needs.{needs}
 use Rattle.planroot.proofs.main.Statement.{statement}
 use Rattle.planroot.proofs.main.Tie as tie
+use Rattle.planroot.proofs.main.Reads as reads
+use Rattle.planroot.proofs.main.Lts as lts
+use Rattle.os.proofs.fail.Reads as fail-reads
+use Rattle.planroot.proofs.pass_input.Reads as pass-input-reads
+use Rattle.planroot.proofs.say.Reads as say-reads
 
 slice-aggregate-pass-input : tie.Need-slice-aggregate-pass-input
 slice-aggregate-pass-input c = search needs
@@ -13,31 +20,49 @@ slice-aggregate-pass-input-2 c = search needs
 pass-input-requires : tie.Need-pass-input-requires
 pass-input-requires c κs = search needs
 
-room-requires : tie.Need-room-requires
-room-requires c κs = search needs
+enum-known-input : tie.Need-enum-known-input
+enum-known-input c = search needs
 
-slice-aggregate-finish : tie.Need-slice-aggregate-finish
-slice-aggregate-finish c = search needs
+slice-aggregate-say : tie.Need-slice-aggregate-say
+slice-aggregate-say c = search needs
 
-slice-aggregate-finish-2 : tie.Need-slice-aggregate-finish-2
-slice-aggregate-finish-2 c = search needs
-
-slice-aggregate-finish-3 : tie.Need-slice-aggregate-finish-3
-slice-aggregate-finish-3 c = search needs
-
-slice-aggregate-finish-4 : tie.Need-slice-aggregate-finish-4
-slice-aggregate-finish-4 c = search needs
-
-finish-requires : tie.Need-finish-requires
-unfolding headerLength
-finish-requires c κs =
-    record { masks-room = omega (arith, c .before .before .before .before .before .before .before .pass-input .kept .0); text-room = omega (arith, c .before .before .before .before .before .before .before .pass-input .kept .1 .0); table-room = omega arith; input = c .before .before .before .before .before .before .before .pass-input .ensures .input; scanned = c .before .before .before .before .before .before .before .pass-input .ensures .scanned }
+slice-aggregate-say-2 : tie.Need-slice-aggregate-say-2
+slice-aggregate-say-2 c = search needs
 
 say-requires : tie.Need-say-requires
-say-requires c κs = search needs
+say-requires c κs =
+    let K = whole-known _ _ _ _ (c .before .before .before .before .before .before .before .pass-input .ensures) (c .before .before .before .input .given .1) in record { masks-room = omega (arith, c .before .before .before .before .before .before .before .pass-input .kept .0); text-room = omega (arith, c .before .before .before .before .before .before .before .pass-input .kept .1 .0); input = K .input; scanned = K .scanned }
+
+enum-known-input-2 : tie.Need-enum-known-input-2
+enum-known-input-2 c = search needs
+
+slice-aggregate-say-3 : tie.Need-slice-aggregate-say-3
+slice-aggregate-say-3 c = search needs
+
+slice-aggregate-say-4 : tie.Need-slice-aggregate-say-4
+slice-aggregate-say-4 c = search needs
+
+say-requires-2 : tie.Need-say-requires-2
+say-requires-2 c κs =
+    let K = enough-known _ _ _ _ (c .before .before .before .before .before .before .before .pass-input .ensures) (c .before .before .before .input2 .given .1) in record { masks-room = omega (arith, c .before .before .before .before .before .before .before .pass-input .kept .0); text-room = omega (arith, c .before .before .before .before .before .before .before .pass-input .kept .1 .0); input = K .input; scanned = K .scanned }
+
+enum-told : tie.Need-enum-told
+enum-told c = search needs
+
+slice-aggregate-fail : tie.Need-slice-aggregate-fail
+slice-aggregate-fail c = search needs
+
+fail-requires : tie.Need-fail-requires
+fail-requires c κs = search needs
 
 returns : tie.Need-returns
 returns c = search needs
+
+returns-2 : tie.Need-returns-2
+returns-2 c = search needs
+
+returns-3 : tie.Need-returns-3
+returns-3 c = search needs
 
 pub main-spec : {M : Type 1} → statement M
 main-spec =
@@ -46,11 +71,17 @@ main-spec =
     slice-aggregate-pass-input
     slice-aggregate-pass-input-2
     pass-input-requires
-    room-requires
-    slice-aggregate-finish
-    slice-aggregate-finish-2
-    slice-aggregate-finish-3
-    slice-aggregate-finish-4
-    finish-requires
+    enum-known-input
+    slice-aggregate-say
+    slice-aggregate-say-2
     say-requires
-    returns)
+    enum-known-input-2
+    slice-aggregate-say-3
+    slice-aggregate-say-4
+    say-requires-2
+    enum-told
+    slice-aggregate-fail
+    fail-requires
+    returns
+    returns-2
+    returns-3)

@@ -1,14 +1,14 @@
 -- What is known of an input of which so many bytes are passed. Internal to the crate.
 use mathlib.Core.Path.{_≡_}
-use mathlib.Core.Bool.{true, false, _&&_}
+use mathlib.Core.Bool.{Bool, true, false, _&&_}
 use mathlib.Core.List.{List, [], _∷_, _++_}
-use Prim.Native.Nat.{ℕ, _≤_, min}
+use Prim.Native.Nat.{ℕ, _≤_, _<_, min}
 use lib.Dec.{ltb}
 use lib.ListN.{length, take, set}
 use Rattle.text_tokens.specs.Tokens.{pick}
 use Rattle.planroot_input.specs.declared.Word.{Word}
 use Rattle.planroot_input.specs.declared.Scan.{Scan}
-use Rattle.planroot_input.specs.Lines.{ends, words, value, isRun, allRuns, values, sound, ports, masks, text}
+use Rattle.planroot_input.specs.Lines.{ends, words, value, isRun, allRuns, values, sound, ports, masks, text, Settled}
 use Rattle.planroot_input.specs.inner.Words.{IsWord}
 
 -- The lent tables: a plan has at most 16 masks, and a text of 4,097 bytes is too long, whatever follows.
@@ -120,3 +120,11 @@ pub record Closed (input : List ℕ) (r : Scan) (ms tx : List ℕ) : Type 0 wher
 
 unfoldable pub Closes : Scan → List ℕ → Scan → List ℕ → Type 0
 Closes s ms r ms′ = (input tx : List ℕ) → Scanned input s ms tx → Closed input r ms′ tx
+
+-- Whether the bytes that are passed settle the line: never too early, and at the latest with the 4,097th byte of the text.
+pub record Decided (input : List ℕ) (r : Bool) : Type 0 where
+  pub settled : r ≡ true → Settled input
+  pub in-time : 4096 < length (text input) → r ≡ true
+
+unfoldable pub Decides : Scan → Bool → Type 0
+Decides s r = (input ms tx : List ℕ) → Scanned input s ms tx → Decided input r

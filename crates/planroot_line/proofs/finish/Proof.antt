@@ -1,9 +1,18 @@
+use Rattle.planroot_line.specs.Line.{tableRoom, cellRoom}
 use native.Mathlib.Omega.{arith}
+use Prim.Native.Nat.{ℕ}
+use lib.ListN.{length-replicate}
 use borrow.Author.Tests.{not-true, not-false}
 use borrow.Author.Needs.{needs}
+use Rattle.table_format.specs.Bytes.{headerLength}
 use Rattle.planroot_line.proofs.Finishing.{closed-short, finish-refused, finish-line}
+use borrow.Author.Needs.{needs}
 use Rattle.planroot_line.proofs.finish.Statement.{statement}
 use Rattle.planroot_line.proofs.finish.Tie as tie
+use Rattle.planroot_line.proofs.finish.Reads as reads
+use Rattle.planroot_line.proofs.finish.Lts as lts
+use Rattle.planroot_input.proofs.close.Reads as close-reads
+use Rattle.planroot_line.proofs.text_line.Reads as text-line-reads
 
 close-requires : tie.Need-close-requires
 close-requires c κs = search needs
@@ -13,7 +22,7 @@ same-length c = search needs
 
 returns : tie.Need-returns
 returns c =
-    finish-refused _ _ _ _ _ _ _ (c .before .before .before .before .close .ensures) (not-true _ (c .if1 .taken))
+    finish-refused _ _ _ _ _ (c .before .before .before .before .close .ensures) (not-true _ (c .if1 .taken))
 
 sub-text-line : tie.Need-sub-text-line
 sub-text-line c = search needs
@@ -23,23 +32,25 @@ part-text-line-start c = search needs
 
 part-text-line-end : tie.Need-part-text-line-end
 part-text-line-end c =
-    omega (arith, closed-short (c .before .before .before .before .before .before .before .before .before .before .before .args .s) (c .before .before .before .before .before .close .result) (c .before .before .before .before .before .before .before .before .before .before .before .args .masks .now) (c .before .before .before .before .before .close .last .1 .0) (c .before .before .before .before .before .before .before .before .before .before .before .args .text .now) (c .before .before .before .before .before .before .before .before .before .before .before .args .table .now) (c .before .before .before .before .before .before .before .before .before .before .before .args .cells .now) (c .before .before .before .before .before .close .ensures) (c .before .before .before .before .before .before .before .before .before .before .before .pre .input) (c .before .before .before .before .before .before .before .before .before .before .before .pre .scanned), c .before .before .before .before .before .before .before .before .before .before .before .pre .text-room)
+    omega (arith, closed-short (c .before .before .before .before .before .before .before .before .before .args .s) (c .before .before .before .before .before .close .result) (c .before .before .before .before .before .before .before .before .before .args .masks .now) (c .before .before .before .before .before .close .last .1 .0) (c .before .before .before .before .before .before .before .before .before .args .text .now) (c .before .before .before .before .before .close .ensures) (c .before .before .before .before .before .before .before .before .before .pre .input) (c .before .before .before .before .before .before .before .before .before .pre .scanned), c .before .before .before .before .before .before .before .before .before .pre .text-room)
+
+slice-aggregate-text-line : tie.Need-slice-aggregate-text-line
+slice-aggregate-text-line c = search needs
+
+slice-aggregate-text-line-2 : tie.Need-slice-aggregate-text-line-2
+slice-aggregate-text-line-2 c = search needs
 
 text-line-requires : tie.Need-text-line-requires
-text-line-requires c κs = search needs
+unfolding headerLength
+text-line-requires c κs =
+    search needs
 
 same-length-2 : tie.Need-same-length-2
 same-length-2 c = search needs
 
-same-length-3 : tie.Need-same-length-3
-same-length-3 c = search needs
-
-same-length-4 : tie.Need-same-length-4
-same-length-4 c = search needs
-
 returns-2 : tie.Need-returns-2
 returns-2 c =
-    finish-line _ _ _ _ _ _ _ (c .before .before .before .before .before .before .before .before .before .before .before .before .before .close .ensures) _ (not-false _ (c .before .before .before .before .before .before .before .before .before .if1 .left)) (c .before .before .before .before .text-line .ensures)
+    finish-line _ _ _ _ _ (c .before .before .before .before .before .before .before .before .before .before .before .close .ensures) _ _ _ (length-replicate {A = ℕ} tableRoom 0) (length-replicate {A = ℕ} cellRoom 0) (not-false _ (c .before .before .before .before .before .before .before .if1 .left)) (c .before .before .text-line .ensures)
 
 pub finish-spec : {M : Type 1} → statement M
 finish-spec =
@@ -51,8 +62,8 @@ finish-spec =
     sub-text-line
     part-text-line-start
     part-text-line-end
+    slice-aggregate-text-line
+    slice-aggregate-text-line-2
     text-line-requires
     same-length-2
-    same-length-3
-    same-length-4
     returns-2)

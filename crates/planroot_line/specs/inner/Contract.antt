@@ -11,8 +11,9 @@ use Rattle.contracts.specs.State.{tables}
 use Rattle.contracts.specs.Load.{loads}
 use Rattle.planroot_input.specs.declared.Scan.{Scan}
 use Rattle.planroot_input.specs.inner.Scans.{Scanned}
-use Rattle.planroot_line.specs.declared.Line.{Line}
-use Rattle.planroot_line.specs.declared.Line.the-variants.{Refusal}
+use Rattle.planroot_print.specs.declared.Line.{Line}
+use Rattle.planroot_print.specs.declared.Line.the-variants.{Refusal}
+use Rattle.planroot_print.specs.Line.{Shows}
 use Rattle.planroot_line.specs.Loading.{loadLine}
 use Rattle.planroot_line.specs.Line.{textLine, inputLine}
 
@@ -36,12 +37,15 @@ unfoldable pub LinesText : ℕ → ℕ → List ℕ → List ℕ → List ℕ �
 LinesText u count ms s table cells r = (vs t : List ℕ) → count ≡ min 17 (length vs) → take (min 16 count) ms ≡ take 16 vs → s ≡ take 4097 t → r ≡ textLine u vs t table cells
 
 -- Some input is passed.
-pub record SomeInput (s : Scan) (ms tx table : List ℕ) : Type 0 where
+pub record SomeInput (s : Scan) (ms tx : List ℕ) : Type 0 where
   pub masks-room : 16 ≤ length ms
   pub text-room : 4097 ≤ length tx
-  pub table-room : headerLength ≤ length table
   pub input : List ℕ
   pub scanned : Scanned input s ms tx
 
-unfoldable pub LinesInput : Scan → List ℕ → List ℕ → List ℕ → List ℕ → Line → Type 0
-LinesInput s ms tx table cells r = (input : List ℕ) → Scanned input s ms tx → r ≡ inputLine input table cells
+unfoldable pub LinesInput : Scan → List ℕ → List ℕ → Line → Type 0
+LinesInput s ms tx r = (input : List ℕ) → Scanned input s ms tx → r ≡ inputLine input
+
+-- The bytes of its line.
+unfoldable pub ShowsInput : Scan → List ℕ → List ℕ → List ℕ → ℕ → List ℕ → Type 0
+ShowsInput s ms tx out n out′ = (input : List ℕ) → Scanned input s ms tx → Shows (inputLine input) out n out′

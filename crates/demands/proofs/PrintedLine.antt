@@ -1,0 +1,77 @@
+-- What planroot's line says of the text: `penalty 0` is printed exactly when the text is true. A line that is no penalty says nothing
+-- of it, `refused 0` neither. Assumes nothing.
+use mathlib.Core.Path.{_≡_, refl, sym, _∙_}
+use mathlib.Core.Logic.{_↔_}
+use mathlib.Core.Bool.{Bool, true, false, false≢true}
+use mathlib.Core.List.{List}
+use Prim.Native.Nat.{ℕ}
+use lib.Dec.{eqb}
+use lib.ListN.{length}
+use Rattle.text_tokens.specs.Tokens.{pick}
+use Rattle.table_format.specs.Bytes.{setsField}
+use Rattle.table_format.specs.Decode.{decode}
+use Rattle.contracts.specs.declared.Answer.{Answer}
+use Rattle.contracts.specs.declared.Answer.the-variants.{Accepted, Refused}
+use Rattle.contracts.specs.declared.Loaded.{Loaded}
+use Rattle.contracts.specs.declared.Loaded.the-variants as loading
+use Rattle.contracts.specs.Read.{readNumber, reads}
+use Rattle.contracts.specs.Admitted.{TextTrue}
+use Rattle.contracts.specs.State.{tables}
+use Rattle.contracts.specs.Load.{loadNumber, loadRoot, loads}
+use Rattle.planroot_input.specs.Lines.{sound, ports, masks, text}
+use Rattle.planroot_print.specs.declared.Line.{Line}
+use Rattle.planroot_print.specs.declared.Line.the-variants.{Refusal}
+use Rattle.planroot_print.specs.Line.{isPenalty, lineRoot}
+use Rattle.planroot_line.specs.Loading.{loadLine}
+use Rattle.planroot_line.specs.Line.{readLine, textLine, tableRoom, cellRoom, zeros, inputLine}
+use Rattle.demands.specs.ReadThenLoad.{answer, loaded}
+use Rattle.demands.proofs.Demand2.{zero-when-true}
+
+-- a line that is a penalty is that of an accepted load
+record FromLoad (line : Line) (y : Loaded) : Type 0 where
+  pub accepted : loadNumber y ≡ 0
+  pub root-is : lineRoot line ≡ loadRoot y
+
+load-penalty : (y : Loaded) → isPenalty (loadLine y) ≡ true → FromLoad (loadLine y) y
+unfolding isPenalty lineRoot loadLine loadNumber loadRoot
+load-penalty (loading.Accepted root total) h = record { accepted = refl; root-is = refl }
+load-penalty (loading.Refused number) h = absurd (false≢true h)
+
+counted-penalty : (t : Bool) (y : Loaded) → isPenalty (pick t (loadLine y) (Refusal 0)) ≡ true → FromLoad (pick t (loadLine y) (Refusal 0)) y
+unfolding isPenalty
+counted-penalty true y h = load-penalty y h
+counted-penalty false y h = absurd (false≢true h)
+
+read-penalty : (x : Answer) (table ms cells : List ℕ) → isPenalty (readLine x table ms cells) ≡ true
+    → (readNumber x ≡ 0) × FromLoad (readLine x table ms cells) (loads (decode table) (tables ms cells) .0)
+unfolding isPenalty readLine readNumber
+read-penalty (Accepted nodes total) table ms cells h = (refl, counted-penalty (eqb (length ms) (setsField table)) (loads (decode table) (tables ms cells) .0) h)
+read-penalty (Refused number) table ms cells h = absurd (false≢true h)
+
+module _ (input : List ℕ) where
+  abbrev u : ℕ
+  u = ports input
+
+  abbrev before : List ℕ
+  before = zeros tableRoom
+
+  abbrev cells : List ℕ
+  cells = zeros cellRoom
+
+  penalty-loaded : isPenalty (inputLine input) ≡ true → (readNumber (answer u (text input) before) ≡ 0) × FromLoad (inputLine input) (loaded u (text input) before (masks input) cells)
+  unfolding isPenalty inputLine textLine answer loaded
+  penalty-loaded h = go (sound input) h
+    where
+      line : Line
+      line = readLine (reads u (text input) before .0) (reads u (text input) before .1) (masks input) cells
+
+      go : (t : Bool) → isPenalty (pick t line (Refusal 0)) ≡ true
+          → (readNumber (reads u (text input) before .0) ≡ 0) × FromLoad (pick t line (Refusal 0)) (loads (decode (reads u (text input) before .1)) (tables (masks input) cells) .0)
+      go true k = read-penalty (reads u (text input) before .0) (reads u (text input) before .1) (masks input) cells k
+      go false k = absurd (false≢true k)
+
+  pub zero-printed : isPenalty (inputLine input) ≡ true → lineRoot (inputLine input) ≡ 0 ↔ TextTrue (ports input) (masks input) (text input)
+  zero-printed h =
+      let F = penalty-loaded h in
+      let Z = zero-when-true u (text input) before (F .0) (masks input) cells (F .1 .accepted) in
+      ((λ e. Z .0 (sym (F .1 .root-is) ∙ e)), (λ t. F .1 .root-is ∙ Z .1 t))

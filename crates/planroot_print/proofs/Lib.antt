@@ -1,0 +1,5 @@
+-- Laws.
+pub mod Decimal
+pub mod Digits
+pub mod Lines
+pub mod Putting

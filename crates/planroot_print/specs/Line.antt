@@ -1,0 +1,60 @@
+-- The line that planroot prints: paper 01, section Known plans.
+use mathlib.Core.Path.{_≡_}
+use mathlib.Core.Bool.{Bool, true, false}
+use mathlib.Core.List.{List, [], _∷_, _++_}
+use Prim.Native.Nat.{ℕ, zero, suc, _+_, _/_, _%_, _≤_}
+use lib.Dec.{ltb}
+use lib.ListN.{length, drop}
+use Rattle.text_tokens.specs.Tokens.{pick}
+use Rattle.planroot_print.specs.declared.Line.{Line}
+use Rattle.planroot_print.specs.declared.Line.the-variants.{Penalty, Refusal}
+
+-- Which of the two: `refused 0` has no number of its own to tell it by.
+unfoldable pub isPenalty : Line → Bool
+isPenalty (Penalty root total) = true
+isPenalty (Refusal number) = false
+
+-- The number and the values of each case.
+unfoldable pub lineNumber : Line → ℕ
+lineNumber (Penalty root total) = 0
+lineNumber (Refusal number) = number
+
+unfoldable pub lineRoot : Line → ℕ
+lineRoot (Penalty root total) = root
+lineRoot (Refusal number) = 0
+
+unfoldable pub lineTotal : Line → ℕ
+lineTotal (Penalty root total) = total
+lineTotal (Refusal number) = 0
+
+-- "Numbers are written in decimal": the digits of a number that has at most k of them.
+unfoldable pub digitsOf : ℕ → ℕ → List ℕ
+digitsOf zero n = []
+digitsOf (suc k) n = pick (ltb n 10) [] (digitsOf k (n / 10)) ++ ((48 + n % 10) ∷ [])
+
+-- A number of 32 bits has at most 10 digits.
+unfoldable pub decimal : ℕ → List ℕ
+decimal n = digitsOf 10 n
+
+-- "`penalty P cells C` (root, cell total)", and a line end.
+unfoldable pub penaltyBytes : ℕ → ℕ → List ℕ
+penaltyBytes root total =
+    (112 ∷ 101 ∷ 110 ∷ 97 ∷ 108 ∷ 116 ∷ 121 ∷ 32 ∷ []) ++ (decimal root ++ ((32 ∷ 99 ∷ 101 ∷ 108 ∷ 108 ∷ 115 ∷ 32 ∷ []) ++ (decimal total ++ (10 ∷ []))))
+
+-- "`refused N`", and a line end.
+unfoldable pub refusalBytes : ℕ → List ℕ
+refusalBytes number = (114 ∷ 101 ∷ 102 ∷ 117 ∷ 115 ∷ 101 ∷ 100 ∷ 32 ∷ []) ++ (decimal number ++ (10 ∷ []))
+
+-- "It prints `penalty P cells C` (root, cell total) or `refused N`".
+unfoldable pub lineBytes : Line → List ℕ
+lineBytes line = pick (isPenalty line) (penaltyBytes (lineRoot line) (lineTotal line)) (refusalBytes (lineNumber line))
+
+-- No line has more bytes: two words of 15 bytes, two numbers of 10 digits and the line end.
+abbrev pub lineRoom : ℕ
+lineRoom = 36
+
+-- The bytes of a line, n of them, stand at the front of a table; behind them the table is as it was.
+pub record Shows (line : Line) (out : List ℕ) (n : ℕ) (out′ : List ℕ) : Type 0 where
+  pub count-is : n ≡ length (lineBytes line)
+  pub bytes-are : out′ ≡ lineBytes line ++ drop n out
+  pub few : n ≤ lineRoom
