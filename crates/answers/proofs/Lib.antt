@@ -1,2 +1,3 @@
 -- Laws.
 pub mod Fields
+pub mod OneAnswer

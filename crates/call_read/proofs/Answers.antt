@@ -16,7 +16,7 @@ use Rattle.text_core.specs.Core.{planOf}
 use Rattle.text_core.specs.Grounds.{coreGrounds}
 use Rattle.contracts.specs.declared.Answer.{Answer}
 use Rattle.contracts.specs.declared.Answer.the-variants.{Refused}
-use Rattle.contracts.specs.Read.{tableLength, syntaxGrounds, readGrounds, readOr, reads}
+use Rattle.contracts.specs.Read.{tableLength, syntaxGrounds, textGrounds, readGrounds, readOr, reads}
 use Rattle.call_read.specs.inner.Contract.{TextKept, SomeText, Finishes}
 use Rattle.text_core.proofs.Letters.{parsed-lettered}
 use Rattle.contracts.proofs.Grounds.{ports-in}
@@ -30,23 +30,23 @@ module _ (u : ℕ) (s B : List ℕ) where
   refused-by g e = sym (ap (λ (x : ℕ). readOr x u (parsed s) B) e)
 
   pub read-10 : (leb 1 u && leb u 64) ≡ false → _≡_ {A = Answer × List ℕ} (Refused 10, B) (reads u s B)
-  unfolding readGrounds refusal
+  unfolding textGrounds readGrounds refusal
   read-10 p = refused-by 9 (rw p)
 
   module _ (ports : (leb 1 u && leb u 64) ≡ true) where
     pub read-1 : 4096 < length s → _≡_ {A = Answer × List ℕ} (Refused 1, B) (reads u s B)
-    unfolding readGrounds refusal
+    unfolding textGrounds readGrounds refusal
     read-1 h = refused-by 0 (rw (ports, lt-ltb 4096 (length s) h))
 
     module _ (short : length s ≤ 4096) where
       pub read-2 : knownBytes s ≡ false → _≡_ {A = Answer × List ℕ} (Refused 2, B) (reads u s B)
-      unfolding readGrounds refusal
+      unfolding textGrounds readGrounds refusal
       read-2 k = refused-by 1 (rw (ports, le-ltb 4096 (length s) short, k))
 
       module _ (known : knownBytes s ≡ true) where
         -- grounds 10, 1 and 2 do not apply
         opened : refusal grounds ≡ refusal (syntaxGrounds u (length B) (parsed s))
-        unfolding readGrounds refusal
+        unfolding textGrounds readGrounds refusal
         opened = rw (ports, le-ltb 4096 (length s) short, known)
 
         pub read-3 : parsed s ≡ failed → _≡_ {A = Answer × List ℕ} (Refused 3, B) (reads u s B)

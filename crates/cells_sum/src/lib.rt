@@ -64,7 +64,7 @@ pub fn join(add: bool, acc: Sum, x: After) -> Sum
 }
 
 // What the cells below have come to is a cell's new number; the cell itself is counted if it differs.
-pub fn close(old: u32, s: Sum) -> After
+pub fn outcome(old: u32, s: Sum) -> After
     ensures { λ r. ⌜ (r .old ≡ old) × (r .value ≡ s .value) × (r .changed ≡ (indicator (not (eqb (s .value) old)) + s .changed) % 4294967296) ⌝ }
 {
     After {

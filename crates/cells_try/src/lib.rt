@@ -3,8 +3,8 @@ use cells_sum::After;
 use cells_sum::Sum;
 use cells_sum::adds_of;
 use cells_sum::begin;
-use cells_sum::close;
 use cells_sum::join;
+use cells_sum::outcome;
 use cells_touch::Changed;
 use cells_touch::first_word;
 use cells_touch::meet;
@@ -51,7 +51,7 @@ fn cell_after(
     let kind = kind_at(table, i);
     if 5 <= kind {
         let value = literal_at(table, i, ports, sets, depth, masks, digits);
-        return close(
+        return outcome(
             old,
             Sum {
                 value: value,
@@ -82,7 +82,7 @@ fn cell_after(
             add,
             begun,
         );
-        return close(old, r);
+        return outcome(old, r);
     }
     let r = trees_after(
         table,
@@ -103,7 +103,7 @@ fn cell_after(
         add,
         begun,
     );
-    close(old, r)
+    outcome(old, r)
 }
 
 // The trees of a forest at a tuple, gone into a sum or a minimum.

@@ -3,8 +3,8 @@ use cells_sum::After;
 use cells_sum::Sum;
 use cells_sum::adds_of;
 use cells_sum::begin;
-use cells_sum::close;
 use cells_sum::join;
+use cells_sum::outcome;
 use cells_touch::Changed;
 use cells_touch::first_word;
 use cells_touch::meet;
@@ -65,7 +65,7 @@ fn cell_written(
     if 5 <= kind {
         let value = literal_at(table, i, ports, sets, depth, masks, digits);
         put_cell(firsts, i, place, value, cells);
-        return close(
+        return outcome(
             old,
             Sum {
                 value: value,
@@ -97,7 +97,7 @@ fn cell_written(
             begun,
         );
         put_cell(firsts, i, place, r.value, cells);
-        return close(old, r);
+        return outcome(old, r);
     }
     let r = trees_written(
         table,
@@ -119,7 +119,7 @@ fn cell_written(
         begun,
     );
     put_cell(firsts, i, place, r.value, cells);
-    close(old, r)
+    outcome(old, r)
 }
 
 // The trees of a forest at a tuple, written one after the other and gone into a sum or a minimum.

@@ -1,6 +1,6 @@
 -- Laws of any call over a plan's tables: what it leaves past the plan's own parts, and that it reads nothing there. Assumes nothing.
 use mathlib.Core.Path.{_≡_, refl, sym, ap, _∙_}
-use mathlib.Core.Bool.{Bool, true, false, cond, not, _||_}
+use mathlib.Core.Bool.{Bool, true, not, _||_}
 use mathlib.Core.List.{List, [], _∷_, _++_, append-nil}
 use Prim.Native.Nat.{ℕ, zero, suc, _≤_}
 use native.Mathlib.Decide.{decLe}
@@ -19,11 +19,7 @@ use Rattle.table_format.specs.Decode.{Decoded, broken, sound}
 use Rattle.contracts.specs.State.{State, tables, ownTables, withRest}
 use Rattle.contracts.specs.Call.{planGrounds, tableGrounds, callGrounds, callOr, call}
 use Rattle.contracts.specs.OwnParts.{SameTables}
-
--- grounds answer 0 only if the first does not apply and the rest answer 0
-pub either-ground : (a : Bool) (i g : ℕ) → cond a (suc i) g ≡ 0 → (a ≡ false) × (g ≡ 0)
-either-ground true i g h = absurd (omega arith)
-either-ground false i g h = (refl, h)
+use Rattle.contracts.proofs.Grounds.{passes}
 
 -- What no ground of 11 to 13 leaves of a plan's tables: they are long enough, and no own mask has a port of u or more.
 pub record LentEnough (P : Plan) (s : State) : Type 0 where
@@ -37,8 +33,8 @@ unfolding callGrounds planGrounds tableGrounds refusal someOf
 lent-enough P s lengths more e =
     let few = ltb (length (s .masks)) (ownMasks P) in
     let short = ltb (length (s .cells)) (ownCells P) in
-    let g = either-ground (few || (short || someOf (λ l. ltb l (ownCells P)) lengths)) 11 _ e in
-    let w = either-ground (not (allWithin (P .ports) (take (ownMasks P) (s .masks)))) 12 _ (g .1) in
+    let g = passes (few || (short || someOf (λ l. ltb l (ownCells P)) lengths)) 11 _ e in
+    let w = passes (not (allWithin (P .ports) (take (ownMasks P) (s .masks)))) 12 _ (g .1) in
     record {
       masks-enough = ltb-false (length (s .masks)) (ownMasks P) (or-left few _ (g .0));
       cells-enough = ltb-false (length (s .cells)) (ownCells P) (or-left short _ (or-right few _ (g .0)));

@@ -1,6 +1,6 @@
 -- What reading means: it accepts exactly the admitted texts, and the table of an accepted text is a plan's. Assumes nothing.
-use mathlib.Core.Path.{_≡_, refl, ap}
-use mathlib.Core.Bool.{true, not, _&&_}
+use mathlib.Core.Path.{_≡_, refl, sym, ap, _∙_}
+use mathlib.Core.Bool.{Bool, true, false, cond, not, _&&_}
 use mathlib.Core.List.{List, [], _++_}
 use Prim.Native.Nat.{ℕ, zero, suc, _≤_}
 use native.Mathlib.Omega.{arith}
@@ -11,8 +11,9 @@ use Rattle.logic.specs.Formula.{Forest, none, tree, kindNumber, nodeCount}
 use Rattle.logic.specs.Cells.{cellCount, ownCells}
 use Rattle.logic.specs.Moves.{refusal}
 use Rattle.logic.proofs.Lists.{and-left, and-right, and-true}
-use Rattle.text_tree.specs.Tree.{Tree, lettersOf, tooDeep}
+use Rattle.text_tree.specs.Tree.{Tree, Declared, lettersOf, tooDeep}
 use Rattle.text_tokens.specs.Tokens.{knownBytes}
+use Rattle.text_grammar.specs.Grammar.{Text, symbols}
 use Rattle.text_grammar.specs.Parser.{Result, failed, read, parsed}
 use Rattle.text_grammar.proofs.Theorems.{parsed-sound, parsed-complete}
 use Rattle.text_core.specs.Names.{ground5, ground6, ground7}
@@ -25,7 +26,7 @@ use Rattle.table_format.specs.Decode.{sound, decode}
 use Rattle.table_format.proofs.Encoding.{decode-complete}
 use Rattle.contracts.specs.declared.Answer.{Answer}
 use Rattle.contracts.specs.declared.Answer.the-variants.{Accepted}
-use Rattle.contracts.specs.Read.{readNumber, tableLength, syntaxGrounds, readGrounds, readOr, reads}
+use Rattle.contracts.specs.Read.{readNumber, tableLength, syntaxGrounds, textGrounds, readGrounds, readOr, reads}
 use Rattle.contracts.specs.Admitted.{Admitted, admittedPlan}
 use Rattle.text_core.proofs.Letters.{parsed-sets}
 use Rattle.contracts.proofs.Grounds.{passes, few-sets, ports-in}
@@ -42,15 +43,37 @@ two-nodes n sets a h =
     let one : treeCount c ≡ 1 = eqb-true _ _ (and-right (eqb 0 0 && eqb 0 0) _ (and-left (eqb 0 0 && eqb 0 0 && eqb (treeCount c) 1) _ h)) in
     omega (arith, some-node c one)
 
+-- 3 is a ground of a text outside the grammar, so one of 10, 1, 2 and 3 applies
+outside-not : (a b c : Bool) → _≡_ {A = ℕ} (cond a 10 (cond b 1 (cond c 2 3))) 0 → ⊥
+outside-not true b c q = omega arith
+outside-not false true c q = omega arith
+outside-not false false true q = omega arith
+outside-not false false false q = omega arith
+
 module _ (u : ℕ) (s B : List ℕ) where
-  -- no ground applies to an accepted text
-  accepted-none : readNumber (reads u s B .0) ≡ 0 → refusal (readGrounds u s (length B)) ≡ 0
-  unfolding reads
-  accepted-none e = go (refusal (readGrounds u s (length B))) (parsed s) e
+  -- the number that reading answers
+  pub read-number : readNumber (reads u s B .0) ≡ refusal (readGrounds u s (length B))
+  unfolding reads readGrounds
+  read-number = go (parsed s) (refusal (readGrounds u s (length B))) refl
     where
-      go : (g : ℕ) (r : Result) → readNumber (readOr g u r B .0) ≡ 0 → g ≡ 0
-      go zero r q = refl
-      go (suc g) r q = unfold readNumber readOr in absurd (omega arith)
+      go : (r : Result) (g : ℕ) → refusal (textGrounds u s (length B) r) ≡ g → readNumber (readOr g u r B .0) ≡ g
+      go failed zero e = unfold textGrounds syntaxGrounds refusal in absurd (outside-not (not (leb 1 u && leb u 64)) (ltb 4096 (length s)) (not (knownBytes s)) e)
+      go (read sets a) zero e = unfold readNumber readOr in refl
+      go r (suc g) e = unfold readNumber readOr in refl
+
+  -- By the grammar and not by the parser: of a text that the grammar derives, the grounds by its sets and its tree; of any other, 3 if
+  -- none of 10, 1 and 2 applies.
+  pub read-derived : (sets : List Declared) (a : Tree) → Text (symbols s) sets a → readNumber (reads u s B .0) ≡ refusal (textGrounds u s (length B) (read sets a))
+  unfolding readGrounds
+  read-derived sets a D = read-number ∙ ap (λ (r : Result). refusal (textGrounds u s (length B) r)) (parsed-complete s sets a D)
+
+  pub read-outside : ((sets : List Declared) (a : Tree) → Text (symbols s) sets a → ⊥) → readNumber (reads u s B .0) ≡ refusal (textGrounds u s (length B) failed)
+  unfolding readGrounds
+  read-outside never = read-number ∙ ap (λ (r : Result). refusal (textGrounds u s (length B) r)) (go (parsed s) refl)
+    where
+      go : (r : Result) → parsed s ≡ r → r ≡ failed
+      go failed e = refl
+      go (read sets a) e = absurd (never sets a (parsed-sound s sets a e))
 
   admitted-by : (r : Result) → parsed s ≡ r → (leb 1 u && leb u 64) ≡ true → length s ≤ 4096 → knownBytes s ≡ true
       → refusal (syntaxGrounds u (length B) r) ≡ 0 → Admitted u s (length B)
@@ -84,9 +107,9 @@ module _ (u : ℕ) (s B : List ℕ) where
 
   -- an accepted text is admitted
   pub accepted-admitted : readNumber (reads u s B .0) ≡ 0 → Admitted u s (length B)
-  unfolding readGrounds refusal
+  unfolding textGrounds readGrounds refusal
   accepted-admitted e =
-      let p10 = passes (not (leb 1 u && leb u 64)) 9 _ (accepted-none e) in
+      let p10 = passes (not (leb 1 u && leb u 64)) 9 _ (sym read-number ∙ e) in
       let p1 = passes (ltb 4096 (length s)) 0 _ (p10 .1) in
       let p2 = passes (not (knownBytes s)) 1 _ (p1 .1) in
       admitted-by (parsed s) refl (not-false _ (p10 .0)) (ltb-false 4096 _ (p1 .0)) (not-false _ (p2 .0)) (p2 .1)
@@ -96,7 +119,7 @@ module _ (u : ℕ) (s B : List ℕ) where
     admitted-parsed = parsed-complete s (A .sets) (A .tree) (A .derived)
 
     no-ground : refusal (readGrounds u s (length B)) ≡ 0
-    unfolding readGrounds syntaxGrounds coreGrounds refusal planOf ownCells
+    unfolding textGrounds readGrounds syntaxGrounds coreGrounds refusal planOf ownCells
     no-ground = rw (
       ports-in u (A .ports1) (A .ports64),
       le-ltb 4096 (length s) (A .short),

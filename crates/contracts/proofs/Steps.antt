@@ -30,7 +30,8 @@ use Rattle.contracts.specs.TrialCall.{trialsOwn, trials}
 use Rattle.contracts.specs.ImproveCall.{improveGrounds, rootNow, rootAfter, MadeBest, NoneBetter, Chosen, ImprovesOr, Improves}
 use Rattle.contracts.specs.Book.{Book, fedMove, bookMade, movedBook, chosenStep, bookStep}
 use Rattle.contracts.specs.Lists.{Exchange, moveCall, trialCall, improveCall, Step, feed, bookRoot, bookCells, NumbersRight, MovedRight, scratchGround, BestMade, NoneLowers, ImprovedRight, Right, AsBook}
-use Rattle.contracts.proofs.Calls.{either-ground, LentEnough, tables-pass}
+use Rattle.contracts.proofs.Calls.{LentEnough, tables-pass}
+use Rattle.contracts.proofs.Grounds.{passes}
 use Rattle.contracts.proofs.Within.{move-within, move-length}
 use Rattle.logic.proofs.Changed as changed
 use Rattle.contracts.specs.declared.Improved.the-variants as improved
@@ -54,12 +55,12 @@ pub record OwnKept (P : Plan) (b : Book) (own : State) : Type 0 where
 pub grounds-legal : (P : Plan) (k : Sets) (m : Move) → refusal (moveGrounds P k m) ≡ 0 → legal P k m ≡ true
 unfolding refusal moveGrounds
 grounds-legal P k m h =
-    let r = either-ground (not (known P m)) 13 (cond (not (legal P k m)) 15 0) h in
-    not-false _ (either-ground (not (legal P k m)) 14 0 (r .1) .0)
+    let r = passes (not (known P m)) 13 (cond (not (legal P k m)) 15 0) h in
+    not-false _ (passes (not (legal P k m)) 14 0 (r .1) .0)
 
 later-ground : (i : ℕ) (b : Bool) (gs : List Ground) → refusal ((suc i, b) ∷ gs) ≡ 0 → refusal gs ≡ 0
 unfolding refusal
-later-ground i b gs h = either-ground b i (refusal gs) h .1
+later-ground i b gs h = passes b i (refusal gs) h .1
 
 or-nothing : (b : Bool) → (b || false) ≡ b
 or-nothing true = refl

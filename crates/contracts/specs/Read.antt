@@ -40,10 +40,13 @@ syntaxGrounds u room (read sets a) =
     (3, false) ∷ (4, tooDeep 0 a) ∷ (coreGrounds u sets a ++ ((12, ltb room (tableLength (planOf u sets a))) ∷ []))
 
 -- "10 u outside 1 to 64"; "1 text over 4,096 bytes; 2 a byte of no token, space or line end".
--- "Reading tries 10, then 1 to 9, each over the whole text, then 12."
+-- "Reading tries 10, then 1 to 9, each over the whole text, then 12.": of a text that is read so.
+unfoldable pub textGrounds : ℕ → List ℕ → ℕ → Result → List Ground
+textGrounds u s room r =
+    (10, not (leb 1 u && leb u 64)) ∷ (1, ltb 4096 (length s)) ∷ (2, not (knownBytes s)) ∷ syntaxGrounds u room r
+
 unfoldable pub readGrounds : ℕ → List ℕ → ℕ → List Ground
-readGrounds u s room =
-    (10, not (leb 1 u && leb u 64)) ∷ (1, ltb 4096 (length s)) ∷ (2, not (knownBytes s)) ∷ syntaxGrounds u room (parsed s)
+readGrounds u s room = textGrounds u s room (parsed s)
 
 -- The answer and every byte of the output table afterwards, where the first ground that applies is given, 0 for none. "Reading
 -- returns node count and cell total and writes the plan table." A text outside the grammar meets ground 3.

@@ -1,2 +1,3 @@
 pub mod KnownTexts
 pub mod ReadThenLoad
+pub mod TextToPlan

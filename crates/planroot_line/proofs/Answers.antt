@@ -17,7 +17,7 @@ use Rattle.table_format.specs.Bytes.{setsField, encoding}
 use Rattle.table_format.specs.Decode.{decode}
 use Rattle.contracts.specs.declared.Answer.{Answer}
 use Rattle.contracts.specs.declared.Answer.the-variants.{Accepted, Refused}
-use Rattle.contracts.specs.Read.{readNumber, tableLength, readGrounds, readOr, reads}
+use Rattle.contracts.specs.Read.{readNumber, tableLength, textGrounds, readGrounds, readOr, reads}
 use Rattle.contracts.specs.Admitted.{admittedPlan}
 use Rattle.contracts.proofs.Grounds.{few-sets}
 use Rattle.contracts.proofs.Reading.{accepted-admitted, admitted-read}
@@ -33,7 +33,7 @@ use Rattle.planroot_line.proofs.Tables.{header-sets}
 
 -- a text that is too long is refused by its length, whatever follows
 too-long : (u : ℕ) (s B : List ℕ) → 4096 < length s → reads u s B ≡ (Refused (cond (leb 1 u && leb u 64) 1 10), B)
-unfolding reads readGrounds refusal readOr
+unfolding reads textGrounds readGrounds refusal readOr
 too-long u s B h = rw (lt-ltb 4096 (length s) h) (go (leb 1 u && leb u 64) (parsed s))
   where
     go : (p : Bool) (r : Result) → readOr (cond (not p) 10 1) u r B ≡ (Refused (cond p 1 10), B)

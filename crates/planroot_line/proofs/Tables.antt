@@ -15,7 +15,7 @@ use Rattle.table_format.specs.Decode.{Decoded, sound, decode}
 use Rattle.contracts.specs.declared.Answer.{Answer}
 use Rattle.contracts.specs.declared.Answer.the-variants.{Accepted, Refused}
 use Rattle.contracts.specs.declared.Loaded.{Loaded}
-use Rattle.contracts.specs.Read.{readNumber, tableLength, readGrounds, readOr, reads}
+use Rattle.contracts.specs.Read.{readNumber, tableLength, textGrounds, readGrounds, readOr, reads}
 use Rattle.contracts.specs.Admitted.{Admitted, admittedPlan}
 use Rattle.contracts.specs.State.{tables, ownTables}
 use Rattle.contracts.specs.Load.{loadGrounds, loadOr, loadPlan, loads}

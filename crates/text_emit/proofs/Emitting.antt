@@ -23,7 +23,7 @@ use Rattle.text_emit.specs.inner.Fields.{Shows, boundLetters, BindsLette
 use Rattle.table_format.specs.inner.Written.{fieldBytes, Written, Records}
 use Rattle.text_emit.specs.inner.Emits.{aboveOf, jointAt, leftAt, rightAt, JointIs, LeftIs, RightIs, rowOf, EmitsLiteral, Emittable, Emits, core, EmitsJoin, EmitsRow}
 use Rattle.text_emit.proofs.Forests.{shown, records-both, records-tree, records-full, records-none}
-use Rattle.text_emit.proofs.Joints.{join-row, row-two, above-joint, joint-merged, joint-own, above-quantifier}
+use Rattle.text_emit.proofs.Joints.{join-operands, operands-two, above-joint, joint-merged, joint-own, above-quantifier}
 
 -- a record written from a node's own bytes
 pub recorded : (f : Fields) (n : Node) (at parent end : ℕ) (M O : List ℕ) → Shows f n → Written at (fieldBytes f parent end) M O
@@ -144,7 +144,7 @@ module _ (t : List ℕ) (m e operator : ℕ) (sets : List ℕ) (b : Bound) (p : 
     placed = E .placed;
     writes = λ j o x y X Y.
         let above : aboveOf (up .kind) ≡ inside (jointAt j p) = ap aboveOf (sym h ∙ J j o) ∙ above-joint (jointAt j p) in
-        rw (join-row, above, joint-merged) (E .writes j o above x y X Y);
+        rw (join-operands, above, joint-merged) (E .writes j o above x y X Y);
   }
 
   pub join-full : (k r : ℕ) → JointIs operator p k → (k ≡ up .kind → ⊥) → recordLength * r ≤ length B → length B < recordLength * (i + 1)
@@ -153,7 +153,7 @@ module _ (t : List ℕ) (m e operator : ℕ) (sets : List ℕ) (b : Bound) (p : 
   join-full k r J h g l = record {
     placed = g;
     writes = λ j o x y X Y.
-        rw (join-row, joint-own (jointAt j p) (up .kind) _ none (λ q. h (J j o ∙ q))) (records-full _ _ none (up .number) i r B O l);
+        rw (join-operands, joint-own (jointAt j p) (up .kind) _ none (λ q. h (J j o ∙ q))) (records-full _ _ none (up .number) i r B O l);
   }
 
   pub join-own : (M : List ℕ) (k r : ℕ) (F : Fields) → JointIs operator p k → (k ≡ up .kind → ⊥)
@@ -165,30 +165,30 @@ module _ (t : List ℕ) (m e operator : ℕ) (sets : List ℕ) (b : Bound) (p : 
     writes = λ j o x y X Y.
         let kind : k ≡ kindNumber (jointNode (jointAt j p)) = J j o in
         let above : aboveOf k ≡ inside (jointAt j p) = ap aboveOf kind ∙ above-joint (jointAt j p) in
-        rw (join-row, joint-own (jointAt j p) (up .kind) _ none (λ q. h (kind ∙ q)))
+        rw (join-operands, joint-own (jointAt j p) (up .kind) _ none (λ q. h (kind ∙ q)))
         (records-tree _ _ (up .number) i r B M O (E .writes j o above x y X Y)
         (recorded F _ _ (up .number) r M O (plain-shows k F _ P kind (plain-joint (jointAt j p))) W));
   }
 
-  -- the row: two parts
-  pub row-parts : (M : List ℕ) (n r : ℕ) (x y : Bool) → operator < 9 → length M ≡ length B → LeftIs operator p x → RightIs operator p y
+  -- the operands: two parts
+  pub operands-parts : (M : List ℕ) (n r : ℕ) (x y : Bool) → operator < 9 → length M ≡ length B → LeftIs operator p x → RightIs operator p y
       → Emits t m sets b x up i B M n → Emits t e sets b y up n M O r → EmitsRow t m e operator sets b p up i B O r
   unfolding LeftIs RightIs
-  row-parts M n r x y low same L R E F = record {
+  operands-parts M n r x y low same L R E F = record {
     placed = rw (← same) (F .placed);
     writes = λ j o above v w X Y.
-        let two = row-two j p (core sets b v) (core sets b w) (omega (arith, o)) in
+        let two = operands-two j p (core sets b v) (core sets b w) (omega (arith, o)) in
         let G : Records (core sets b v (leftAt j p) (inside (jointAt j p)) none) (up .number) i B M n = rw (← above, ← L j o) (E .writes v X) in
         let H : Records (core sets b w (rightAt j p) (inside (jointAt j p)) none) (up .number) n M O r = rw (← above, ← R j o) (F .writes w Y) in
         rw (two, place-before sets (boundLetters b) (leftAt j p) v (inside (jointAt j p)) (core sets b w (rightAt j p) (inside (jointAt j p)) none))
         (records-both _ _ (up .number) i n r B M O G H same);
   }
 
-  -- the row of `<->`
-  pub row-arrows : (M : List ℕ) (n r : ℕ) → 9 ≤ operator → length M ≡ length B → EmitsJoin t m e 7 sets b p up i B M n → EmitsJoin t m e 8 sets b p up n M O r
+  -- the operands of `<->`
+  pub operands-arrows : (M : List ℕ) (n r : ℕ) → 9 ≤ operator → length M ≡ length B → EmitsJoin t m e 7 sets b p up i B M n → EmitsJoin t m e 8 sets b p up n M O r
       → EmitsRow t m e operator sets b p up i B O r
   unfolding joinOperator
-  row-arrows M n r high same E F = record { placed = rw (← same) (F .placed); writes = go }
+  operands-arrows M n r high same E F = record { placed = rw (← same) (F .placed); writes = go }
     where
       go : (j : Join) → operator ≡ joinOperator j → aboveOf (up .kind) ≡ inside (jointAt j p) → (x y : Tree) → Emittable t m (b .count) x → Emittable t e (b .count) y
           → Records (rowOf j p (core sets b x) (core sets b y) none) (up .number) i B O r

@@ -74,25 +74,25 @@ module _ (operator : ℕ) (p : Bool) where
   right-kept h rev o = absurd (h o)
   right-kept h iff o = refl
 
--- a join is a joint of its row
-pub join-row : (j : Join) (p : Bool) (F G : Bool → Part) (above : Above) (s : Forest)
+-- a join is a joint of its operands
+pub join-operands : (j : Join) (p : Bool) (F G : Bool → Part) (above : Above) (s : Forest)
     → joinWith two j p F G above s ≡ joint (jointAt j p) (rowOf j p F G) above s
 unfolding joinWith two jointAt rowOf
-join-row conj p F G above s = refl
-join-row disj p F G above s = refl
-join-row imp p F G above s = refl
-join-row rev p F G above s = refl
-join-row iff p F G above s = refl
+join-operands conj p F G above s = refl
+join-operands disj p F G above s = refl
+join-operands imp p F G above s = refl
+join-operands rev p F G above s = refl
+join-operands iff p F G above s = refl
 
--- the row of any join but `<->`
-pub row-two : (j : Join) (p : Bool) (F G : Bool → Part) → joinOperator j < 9
+-- the operands of any join but `<->`
+pub operands-two : (j : Join) (p : Bool) (F G : Bool → Part) → joinOperator j < 9
     → rowOf j p F G none ≡ F (leftAt j p) (inside (jointAt j p)) (G (rightAt j p) (inside (jointAt j p)) none)
 unfolding joinOperator rowOf leftAt rightAt jointAt
-row-two conj p F G h = refl
-row-two disj p F G h = refl
-row-two imp p F G h = refl
-row-two rev p F G h = refl
-row-two iff p F G h = absurd (omega arith)
+operands-two conj p F G h = refl
+operands-two disj p F G h = refl
+operands-two imp p F G h = refl
+operands-two rev p F G h = refl
+operands-two iff p F G h = absurd (omega arith)
 
 -- a joint inside its like, and any other
 pub above-joint : (j : Bool) → aboveOf (kindNumber (jointNode j)) ≡ inside j

@@ -220,7 +220,7 @@ fn put_literal(
 }
 
 // The kind of "and" where j is true, else of "or".
-fn kind_of(j: bool) -> u8
+fn joint_node(j: bool) -> u8
     ensures { λ r. ⌜ r ≡ kindNumber (jointNode j) ⌝ }
 {
     if j {
@@ -234,12 +234,12 @@ fn joint_kind(operator: u16, p: bool) -> u8
     ensures { λ r. ⌜ JointIs operator p r ⌝ }
 {
     if operator == 5 {
-        return kind_of(p);
+        return joint_node(p);
     }
     if operator == 9 {
-        return kind_of(p);
+        return joint_node(p);
     }
-    kind_of(flip(p))
+    joint_node(flip(p))
 }
 
 // The polarities of an operator's two parts.
@@ -330,7 +330,7 @@ fn joined(
 {
     let kind = joint_kind(operator, p);
     if kind == up.kind {
-        return row(t, m, e, operator, sets, bound, p, up, i, out);
+        return operands(t, m, e, operator, sets, bound, p, up, i, out);
     }
     if out.len() < RECORD * (i + 1) {
         return i;
@@ -339,13 +339,13 @@ fn joined(
         kind: kind,
         number: i as u16,
     };
-    let end = row(t, m, e, operator, sets, bound, p, below, i + 1, out);
+    let end = operands(t, m, e, operator, sets, bound, p, below, i + 1, out);
     put_record(out, i, plain(kind), up.number, end);
     end
 }
 
 // What the joint holds: its two parts, or for `<->` the joints of `->` and `<-`.
-fn row(
+fn operands(
     t: &[u16],
     m: usize,
     e: usize,

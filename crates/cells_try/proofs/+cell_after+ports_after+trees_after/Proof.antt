@@ -25,7 +25,7 @@ use Rattle.cells_touch.proofs.port_word.Reads as port-word-reads
 use Rattle.cells_sum.proofs.adds_of.Reads as adds-of-reads
 use Rattle.cells_sum.proofs.begin.Reads as begin-reads
 use Rattle.cells_walk.proofs.cell_at.Reads as cell-at-reads
-use Rattle.cells_sum.proofs.close.Reads as close-reads
+use Rattle.cells_sum.proofs.outcome.Reads as outcome-reads
 use Rattle.cells_walk.proofs.end_at.Reads as end-at-reads
 use Rattle.cells_sum.proofs.join.Reads as join-reads
 use Rattle.cells_walk.proofs.kept.Reads as kept-reads
@@ -73,7 +73,7 @@ trees-after-below t =
 
 -- what the callees of `cell-after` ask and give
 abbrev cell-after-claims : ℕ → cell-after-lts.Claims
-cell-after-claims t = (cell-at-reads.Asked, cell-at-reads.Learnt, uses-at-reads.Asked, uses-at-reads.Learnt, meet-reads.Asked, meet-reads.Learnt, kept-reads.Asked, kept-reads.Learnt, kind-at-reads.Asked, kind-at-reads.Learnt, literal-at-reads.Asked, literal-at-reads.Learnt, close-reads.Asked, close-reads.Learnt, adds-of-reads.Asked, adds-of-reads.Learnt, begin-reads.Asked, begin-reads.Learnt, end-at-reads.Asked, end-at-reads.Learnt, is-quantifier-reads.Asked, is-quantifier-reads.Learnt, ports-after-below t, ports-after.Post, trees-after-below t, trees-after.Post)
+cell-after-claims t = (cell-at-reads.Asked, cell-at-reads.Learnt, uses-at-reads.Asked, uses-at-reads.Learnt, meet-reads.Asked, meet-reads.Learnt, kept-reads.Asked, kept-reads.Learnt, kind-at-reads.Asked, kind-at-reads.Learnt, literal-at-reads.Asked, literal-at-reads.Learnt, outcome-reads.Asked, outcome-reads.Learnt, adds-of-reads.Asked, adds-of-reads.Learnt, begin-reads.Asked, begin-reads.Learnt, end-at-reads.Asked, end-at-reads.Learnt, is-quantifier-reads.Asked, is-quantifier-reads.Learnt, ports-after-below t, ports-after.Post, trees-after-below t, trees-after.Post)
 
 -- what the callees of `ports-after` ask and give
 abbrev ports-after-claims : ℕ → ports-after-lts.Claims
@@ -111,13 +111,13 @@ cell-after-literal-at-requires : (t : ℕ) → cell-after-lts.Need-literal-at-re
 cell-after-literal-at-requires t c κs =
     literal-ready _ _ _ _ _ _ _ _ _ _ _ _ _ _ (c .before .before .before .before .before .before .before .before .before .before .before .before .pre .1) _ (c .before .kind-at .ensures) (c .if2 .taken)
 
-cell-after-close-requires : (t : ℕ) → cell-after-lts.Need-close-requires (cell-after-claims t) (cell-after-at t) cell-after.Post
-cell-after-close-requires t c κs =
+cell-after-outcome-requires : (t : ℕ) → cell-after-lts.Need-outcome-requires (cell-after-claims t) (cell-after-at t) cell-after.Post
+cell-after-outcome-requires t c κs =
     search needs
 
 cell-after-returns-2 : (t : ℕ) → cell-after-lts.Need-returns-2 (cell-after-claims t) (cell-after-at t) cell-after.Post
 cell-after-returns-2 t c =
-    gives-literal _ _ _ _ _ _ _ _ _ _ _ _ _ _ _ _ (c .before .before .before .before .before .before .before .cell-at .ensures) (c .before .before .before .before .before .before .uses-at .ensures) _ (sym (c .before .before .before .before .before .meet .ensures) ∙ not-false _ (c .before .before .before .before .if1 .left)) (c .before .before .before .kind-at .ensures) _ _ (c .before .before .if2 .taken) (c .before .literal-at .ensures) (c .close .ensures)
+    gives-literal _ _ _ _ _ _ _ _ _ _ _ _ _ _ _ _ (c .before .before .before .before .before .before .before .cell-at .ensures) (c .before .before .before .before .before .before .uses-at .ensures) _ (sym (c .before .before .before .before .before .meet .ensures) ∙ not-false _ (c .before .before .before .before .if1 .left)) (c .before .before .before .kind-at .ensures) _ _ (c .before .before .if2 .taken) (c .before .literal-at .ensures) (c .outcome .ensures)
 
 cell-after-adds-of-requires : (t : ℕ) → cell-after-lts.Need-adds-of-requires (cell-after-claims t) (cell-after-at t) cell-after.Post
 cell-after-adds-of-requires t c κs =
@@ -147,13 +147,13 @@ cell-after-ports-after-requires : (t : ℕ) → cell-after-lts.Need-ports-after-
 cell-after-ports-after-requires t c κs =
     (omega (arith, c .before .before .before .before .before .before .before .before .before .before .before .before .before .before .before .before .before .pre .0, node-low _ _ _ _ _ _ _ _ _ _ _ _ _ _ (c .before .before .before .before .before .before .before .before .before .before .before .before .before .before .before .before .before .pre .1)), ports-ready _ _ _ _ _ _ _ _ _ _ _ _ _ _ (c .before .before .before .before .before .before .before .before .before .before .before .before .before .before .before .before .before .pre .1) _ _ _ _ _ _ (c .before .before .before .before .before .before .before .before .before .before .cell-at .ensures) (c .before .before .before .before .before .before .before .before .before .uses-at .ensures) (c .before .before .before .before .before .before .kind-at .ensures) (c .before .before .end-at .ensures) (c .before .before .before .before .adds-of .ensures) (c .before .before .before .begin .ensures) (sym (c .before .is-quantifier .ensures) ∙ c .if3 .taken))
 
-cell-after-close-requires-2 : (t : ℕ) → cell-after-lts.Need-close-requires-2 (cell-after-claims t) (cell-after-at t) cell-after.Post
-cell-after-close-requires-2 t c κs =
+cell-after-outcome-requires-2 : (t : ℕ) → cell-after-lts.Need-outcome-requires-2 (cell-after-claims t) (cell-after-at t) cell-after.Post
+cell-after-outcome-requires-2 t c κs =
     search needs
 
 cell-after-returns-3 : (t : ℕ) → cell-after-lts.Need-returns-3 (cell-after-claims t) (cell-after-at t) cell-after.Post
 cell-after-returns-3 t c =
-    gives-ports _ _ _ _ _ _ _ _ _ _ _ _ _ _ _ _ (c .before .before .before .before .before .before .before .before .before .before .before .before .cell-at .ensures) (c .before .before .before .before .before .before .before .before .before .before .before .uses-at .ensures) _ (sym (c .before .before .before .before .before .before .before .before .before .before .meet .ensures) ∙ not-false _ (c .before .before .before .before .before .before .before .before .before .if1 .left)) (c .before .before .before .before .before .before .before .before .kind-at .ensures) _ _ _ _ _ (c .before .before .before .before .end-at .ensures) (c .before .before .before .before .before .before .adds-of .ensures) (c .before .before .before .before .before .before .before .if2 .left) (c .before .before .before .before .before .begin .ensures) (c .close2 .ensures) (sym (c .before .before .before .is-quantifier .ensures) ∙ c .before .before .if3 .taken) (c .before .ports-after .ensures)
+    gives-ports _ _ _ _ _ _ _ _ _ _ _ _ _ _ _ _ (c .before .before .before .before .before .before .before .before .before .before .before .before .cell-at .ensures) (c .before .before .before .before .before .before .before .before .before .before .before .uses-at .ensures) _ (sym (c .before .before .before .before .before .before .before .before .before .before .meet .ensures) ∙ not-false _ (c .before .before .before .before .before .before .before .before .before .if1 .left)) (c .before .before .before .before .before .before .before .before .kind-at .ensures) _ _ _ _ _ (c .before .before .before .before .end-at .ensures) (c .before .before .before .before .before .before .adds-of .ensures) (c .before .before .before .before .before .before .before .if2 .left) (c .before .before .before .before .before .begin .ensures) (c .outcome2 .ensures) (sym (c .before .before .before .is-quantifier .ensures) ∙ c .before .before .if3 .taken) (c .before .ports-after .ensures)
 
 cell-after-add-trees-after : (t : ℕ) → cell-after-lts.Need-add-trees-after (cell-after-claims t) (cell-after-at t) cell-after.Post
 cell-after-add-trees-after t c =
@@ -163,13 +163,13 @@ cell-after-trees-after-requires : (t : ℕ) → cell-after-lts.Need-trees-after-
 cell-after-trees-after-requires t c κs =
     (omega (arith, c .before .before .before .before .before .before .before .before .before .before .before .before .before .before .before .before .before .pre .0, node-low _ _ _ _ _ _ _ _ _ _ _ _ _ _ (c .before .before .before .before .before .before .before .before .before .before .before .before .before .before .before .before .before .pre .1)), trees-ready _ _ _ _ _ _ _ _ _ _ _ _ _ _ (c .before .before .before .before .before .before .before .before .before .before .before .before .before .before .before .before .before .pre .1) _ _ _ _ _ _ (c .before .before .before .before .before .before .before .before .before .before .cell-at .ensures) (c .before .before .before .before .before .before .before .before .before .uses-at .ensures) (c .before .before .before .before .before .before .kind-at .ensures) (c .before .before .end-at .ensures) (c .before .before .before .before .adds-of .ensures) (c .before .before .before .begin .ensures) (c .before .before .before .before .before .if2 .left) (sym (c .before .is-quantifier .ensures) ∙ c .if3 .left))
 
-cell-after-close-requires-3 : (t : ℕ) → cell-after-lts.Need-close-requires-3 (cell-after-claims t) (cell-after-at t) cell-after.Post
-cell-after-close-requires-3 t c κs =
+cell-after-outcome-requires-3 : (t : ℕ) → cell-after-lts.Need-outcome-requires-3 (cell-after-claims t) (cell-after-at t) cell-after.Post
+cell-after-outcome-requires-3 t c κs =
     search needs
 
 cell-after-returns-4 : (t : ℕ) → cell-after-lts.Need-returns-4 (cell-after-claims t) (cell-after-at t) cell-after.Post
 cell-after-returns-4 t c =
-    gives-trees _ _ _ _ _ _ _ _ _ _ _ _ _ _ _ _ (c .before .before .before .before .before .before .before .before .before .before .before .before .cell-at .ensures) (c .before .before .before .before .before .before .before .before .before .before .before .uses-at .ensures) _ (sym (c .before .before .before .before .before .before .before .before .before .before .meet .ensures) ∙ not-false _ (c .before .before .before .before .before .before .before .before .before .if1 .left)) (c .before .before .before .before .before .before .before .before .kind-at .ensures) _ _ _ _ _ (c .before .before .before .before .end-at .ensures) (c .before .before .before .before .before .before .adds-of .ensures) (c .before .before .before .before .before .before .before .if2 .left) (c .before .before .before .before .before .begin .ensures) (c .close3 .ensures) (sym (c .before .before .before .is-quantifier .ensures) ∙ c .before .before .if3 .left) (c .before .trees-after .ensures)
+    gives-trees _ _ _ _ _ _ _ _ _ _ _ _ _ _ _ _ (c .before .before .before .before .before .before .before .before .before .before .before .before .cell-at .ensures) (c .before .before .before .before .before .before .before .before .before .before .before .uses-at .ensures) _ (sym (c .before .before .before .before .before .before .before .before .before .before .meet .ensures) ∙ not-false _ (c .before .before .before .before .before .before .before .before .before .if1 .left)) (c .before .before .before .before .before .before .before .before .kind-at .ensures) _ _ _ _ _ (c .before .before .before .before .end-at .ensures) (c .before .before .before .before .before .before .adds-of .ensures) (c .before .before .before .before .before .before .before .if2 .left) (c .before .before .before .before .before .begin .ensures) (c .outcome3 .ensures) (sym (c .before .before .before .is-quantifier .ensures) ∙ c .before .before .if3 .left) (c .before .trees-after .ensures)
 
 abbrev ports-after-Inv-loop : ports-after-lts.InvT-loop
 ports-after-Inv-loop table firsts ends uses masks cells ports sets c i depth row digits word used add all sum₀ x₀ sum x =
@@ -316,7 +316,7 @@ pub +cell-after+ports-after+trees-after-spec : {M : Type 1} → statement M
     (cell-after-returns t)
     (cell-after-kind-at-requires t)
     (cell-after-literal-at-requires t)
-    (cell-after-close-requires t)
+    (cell-after-outcome-requires t)
     (cell-after-returns-2 t)
     (cell-after-adds-of-requires t)
     (cell-after-begin-requires t)
@@ -325,11 +325,11 @@ pub +cell-after+ports-after+trees-after-spec : {M : Type 1} → statement M
     (cell-after-add-ports-after t)
     (cell-after-mul-ports-after t)
     (cell-after-ports-after-requires t)
-    (cell-after-close-requires-2 t)
+    (cell-after-outcome-requires-2 t)
     (cell-after-returns-3 t)
     (cell-after-add-trees-after t)
     (cell-after-trees-after-requires t)
-    (cell-after-close-requires-3 t)
+    (cell-after-outcome-requires-3 t)
     (cell-after-returns-4 t))
     (λ t. ports-after-lts.spec (ports-after-claims t)
     (ports-after-at t)

@@ -25,7 +25,7 @@ use Rattle.cells_write.proofs.put_cell.Reads as put-cell-reads
 use Rattle.cells_sum.proofs.adds_of.Reads as adds-of-reads
 use Rattle.cells_sum.proofs.begin.Reads as begin-reads
 use Rattle.cells_walk.proofs.cell_at.Reads as cell-at-reads
-use Rattle.cells_sum.proofs.close.Reads as close-reads
+use Rattle.cells_sum.proofs.outcome.Reads as outcome-reads
 use Rattle.cells_walk.proofs.end_at.Reads as end-at-reads
 use Rattle.cells_sum.proofs.join.Reads as join-reads
 use Rattle.cells_walk.proofs.kept.Reads as kept-reads
@@ -85,7 +85,7 @@ trees-written-below t =
 
 -- what the callees of `cell-written` ask and give
 abbrev cell-written-claims : ℕ → cell-written-lts.Claims
-cell-written-claims t = (cell-at-reads.Asked, cell-at-reads.Learnt, uses-at-reads.Asked, uses-at-reads.Learnt, meet-reads.Asked, meet-reads.Learnt, kept-reads.Asked, kept-reads.Learnt, kind-at-reads.Asked, kind-at-reads.Learnt, literal-at-reads.Asked, literal-at-reads.Learnt, put-cell-reads.Asked, put-cell-reads.Learnt, close-reads.Asked, close-reads.Learnt, adds-of-reads.Asked, adds-of-reads.Learnt, begin-reads.Asked, begin-reads.Learnt, end-at-reads.Asked, end-at-reads.Learnt, is-quantifier-reads.Asked, is-quantifier-reads.Learnt, ports-written-below t, ports-written.Post, trees-written-below t, trees-written.Post)
+cell-written-claims t = (cell-at-reads.Asked, cell-at-reads.Learnt, uses-at-reads.Asked, uses-at-reads.Learnt, meet-reads.Asked, meet-reads.Learnt, kept-reads.Asked, kept-reads.Learnt, kind-at-reads.Asked, kind-at-reads.Learnt, literal-at-reads.Asked, literal-at-reads.Learnt, put-cell-reads.Asked, put-cell-reads.Learnt, outcome-reads.Asked, outcome-reads.Learnt, adds-of-reads.Asked, adds-of-reads.Learnt, begin-reads.Asked, begin-reads.Learnt, end-at-reads.Asked, end-at-reads.Learnt, is-quantifier-reads.Asked, is-quantifier-reads.Learnt, ports-written-below t, ports-written.Post, trees-written-below t, trees-written.Post)
 
 -- what the callees of `ports-written` ask and give
 abbrev ports-written-claims : ℕ → ports-written-lts.Claims
@@ -131,8 +131,8 @@ cell-written-put-cell-requires : (t : ℕ) → cell-written-lts.Need-put-cell-re
 cell-written-put-cell-requires t c κs =
     (firsts-room _ _ _ _ _ _ _ _ _ _ _ _ _ _ (c .before .before .before .before .before .before .before .before .before .before .before .before .before .before .before .pre .1), cell-room _ _ _ _ _ _ _ _ _ _ _ _ _ _ (c .before .before .before .before .before .before .before .before .before .before .before .before .before .before .before .pre .1))
 
-cell-written-close-requires : (t : ℕ) → cell-written-lts.Need-close-requires (cell-written-claims t) (cell-written-at t) cell-written.Post
-cell-written-close-requires t c κs =
+cell-written-outcome-requires : (t : ℕ) → cell-written-lts.Need-outcome-requires (cell-written-claims t) (cell-written-at t) cell-written.Post
+cell-written-outcome-requires t c κs =
     search needs
 
 cell-written-same-length-2 : (t : ℕ) → cell-written-lts.Need-same-length-2 (cell-written-claims t) (cell-written-at t) cell-written.Post
@@ -141,7 +141,7 @@ cell-written-same-length-2 t c =
 
 cell-written-returns-2 : (t : ℕ) → cell-written-lts.Need-returns-2 (cell-written-claims t) (cell-written-at t) cell-written.Post
 cell-written-returns-2 t c =
-    literal-moved _ _ _ _ _ _ _ _ _ _ _ _ _ _ _ (c .before .before .before .before .before .before .before .before .before .before .uses-at .ensures) (sym (c .before .before .before .before .before .before .before .before .before .meet .ensures) ∙ not-false _ (c .before .before .before .before .before .before .before .before .if1 .left)) _ (c .before .before .before .before .before .before .before .kind-at .ensures) _ (gives-literal _ _ _ _ _ _ _ _ _ _ _ _ _ _ _ _ (c .before .before .before .before .before .before .before .before .before .before .before .cell-at .ensures) (c .before .before .before .before .before .before .before .before .before .before .uses-at .ensures) _ (sym (c .before .before .before .before .before .before .before .before .before .meet .ensures) ∙ not-false _ (c .before .before .before .before .before .before .before .before .if1 .left)) (c .before .before .before .before .before .before .before .kind-at .ensures) _ _ (c .before .before .before .before .before .before .if2 .taken) (c .before .before .before .before .before .literal-at .ensures) (c .close .ensures)) _ (c .close .ensures .1) _ _ (c .before .before .before .put-cell .ensures) (c .before .before .before .before .before .before .if2 .taken) refl
+    literal-moved _ _ _ _ _ _ _ _ _ _ _ _ _ _ _ (c .before .before .before .before .before .before .before .before .before .before .uses-at .ensures) (sym (c .before .before .before .before .before .before .before .before .before .meet .ensures) ∙ not-false _ (c .before .before .before .before .before .before .before .before .if1 .left)) _ (c .before .before .before .before .before .before .before .kind-at .ensures) _ (gives-literal _ _ _ _ _ _ _ _ _ _ _ _ _ _ _ _ (c .before .before .before .before .before .before .before .before .before .before .before .cell-at .ensures) (c .before .before .before .before .before .before .before .before .before .before .uses-at .ensures) _ (sym (c .before .before .before .before .before .before .before .before .before .meet .ensures) ∙ not-false _ (c .before .before .before .before .before .before .before .before .if1 .left)) (c .before .before .before .before .before .before .before .kind-at .ensures) _ _ (c .before .before .before .before .before .before .if2 .taken) (c .before .before .before .before .before .literal-at .ensures) (c .outcome .ensures)) _ (c .outcome .ensures .1) _ _ (c .before .before .before .put-cell .ensures) (c .before .before .before .before .before .before .if2 .taken) refl
 
 cell-written-adds-of-requires : (t : ℕ) → cell-written-lts.Need-adds-of-requires (cell-written-claims t) (cell-written-at t) cell-written.Post
 cell-written-adds-of-requires t c κs =
@@ -175,8 +175,8 @@ cell-written-put-cell-requires-2 : (t : ℕ) → cell-written-lts.Need-put-cell-
 cell-written-put-cell-requires-2 t c κs =
     (firsts-room _ _ _ _ _ _ _ _ _ _ _ _ _ _ (c .before .before .before .before .before .before .before .before .before .before .before .before .before .before .before .before .before .before .before .before .before .before .before .pre .1), room-kept _ (c .before .before .before .before .before .before .before .before .before .before .before .before .before .before .before .before .before .before .before .before .before .before .before .args .cells .now) (c .before .before .before .ports-written .last .1 .1 .1 .1 .1 .0) (c .before .before .before .ports-written .kept .1 .1 .1 .1 .1 .0) (cell-room _ _ _ _ _ _ _ _ _ _ _ _ _ _ (c .before .before .before .before .before .before .before .before .before .before .before .before .before .before .before .before .before .before .before .before .before .before .before .pre .1)))
 
-cell-written-close-requires-2 : (t : ℕ) → cell-written-lts.Need-close-requires-2 (cell-written-claims t) (cell-written-at t) cell-written.Post
-cell-written-close-requires-2 t c κs =
+cell-written-outcome-requires-2 : (t : ℕ) → cell-written-lts.Need-outcome-requires-2 (cell-written-claims t) (cell-written-at t) cell-written.Post
+cell-written-outcome-requires-2 t c κs =
     search needs
 
 cell-written-same-length-3 : (t : ℕ) → cell-written-lts.Need-same-length-3 (cell-written-claims t) (cell-written-at t) cell-written.Post
@@ -185,7 +185,7 @@ cell-written-same-length-3 t c =
 
 cell-written-returns-3 : (t : ℕ) → cell-written-lts.Need-returns-3 (cell-written-claims t) (cell-written-at t) cell-written.Post
 cell-written-returns-3 t c =
-    ports-moved _ _ _ _ _ _ _ _ _ _ _ _ _ _ _ (c .before .before .before .before .before .before .before .before .before .before .before .before .before .before .before .before .before .before .uses-at .ensures) (sym (c .before .before .before .before .before .before .before .before .before .before .before .before .before .before .before .before .before .meet .ensures) ∙ not-false _ (c .before .before .before .before .before .before .before .before .before .before .before .before .before .before .before .before .if1 .left)) _ (c .before .before .before .before .before .before .before .before .before .before .before .before .before .before .before .kind-at .ensures) _ (gives-ports _ _ _ _ _ _ _ _ _ _ _ _ _ _ _ _ (c .before .before .before .before .before .before .before .before .before .before .before .before .before .before .before .before .before .before .before .cell-at .ensures) (c .before .before .before .before .before .before .before .before .before .before .before .before .before .before .before .before .before .before .uses-at .ensures) _ (sym (c .before .before .before .before .before .before .before .before .before .before .before .before .before .before .before .before .before .meet .ensures) ∙ not-false _ (c .before .before .before .before .before .before .before .before .before .before .before .before .before .before .before .before .if1 .left)) (c .before .before .before .before .before .before .before .before .before .before .before .before .before .before .before .kind-at .ensures) _ _ _ _ _ (c .before .before .before .before .before .before .before .before .before .before .before .end-at .ensures) (c .before .before .before .before .before .before .before .before .before .before .before .before .before .adds-of .ensures) (c .before .before .before .before .before .before .before .before .before .before .before .before .before .before .if2 .left) (c .before .before .before .before .before .before .before .before .before .before .before .before .begin .ensures) (c .close2 .ensures) (sym (c .before .before .before .before .before .before .before .before .before .before .is-quantifier .ensures) ∙ c .before .before .before .before .before .before .before .before .before .if3 .taken) (c .before .before .before .before .before .before .before .ports-written .ensures .0)) _ (c .close2 .ensures .1) _ _ (c .before .before .before .put-cell2 .ensures) _ (c .before .before .before .before .before .before .before .before .before .before .before .end-at .ensures) (sym (c .before .before .before .before .before .before .before .before .before .before .is-quantifier .ensures) ∙ c .before .before .before .before .before .before .before .before .before .if3 .taken) (c .before .before .before .before .before .before .before .ports-written .ensures .1)
+    ports-moved _ _ _ _ _ _ _ _ _ _ _ _ _ _ _ (c .before .before .before .before .before .before .before .before .before .before .before .before .before .before .before .before .before .before .uses-at .ensures) (sym (c .before .before .before .before .before .before .before .before .before .before .before .before .before .before .before .before .before .meet .ensures) ∙ not-false _ (c .before .before .before .before .before .before .before .before .before .before .before .before .before .before .before .before .if1 .left)) _ (c .before .before .before .before .before .before .before .before .before .before .before .before .before .before .before .kind-at .ensures) _ (gives-ports _ _ _ _ _ _ _ _ _ _ _ _ _ _ _ _ (c .before .before .before .before .before .before .before .before .before .before .before .before .before .before .before .before .before .before .before .cell-at .ensures) (c .before .before .before .before .before .before .before .before .before .before .before .before .before .before .before .before .before .before .uses-at .ensures) _ (sym (c .before .before .before .before .before .before .before .before .before .before .before .before .before .before .before .before .before .meet .ensures) ∙ not-false _ (c .before .before .before .before .before .before .before .before .before .before .before .before .before .before .before .before .if1 .left)) (c .before .before .before .before .before .before .before .before .before .before .before .before .before .before .before .kind-at .ensures) _ _ _ _ _ (c .before .before .before .before .before .before .before .before .before .before .before .end-at .ensures) (c .before .before .before .before .before .before .before .before .before .before .before .before .before .adds-of .ensures) (c .before .before .before .before .before .before .before .before .before .before .before .before .before .before .if2 .left) (c .before .before .before .before .before .before .before .before .before .before .before .before .begin .ensures) (c .outcome2 .ensures) (sym (c .before .before .before .before .before .before .before .before .before .before .is-quantifier .ensures) ∙ c .before .before .before .before .before .before .before .before .before .if3 .taken) (c .before .before .before .before .before .before .before .ports-written .ensures .0)) _ (c .outcome2 .ensures .1) _ _ (c .before .before .before .put-cell2 .ensures) _ (c .before .before .before .before .before .before .before .before .before .before .before .end-at .ensures) (sym (c .before .before .before .before .before .before .before .before .before .before .is-quantifier .ensures) ∙ c .before .before .before .before .before .before .before .before .before .if3 .taken) (c .before .before .before .before .before .before .before .ports-written .ensures .1)
 
 cell-written-add-trees-written : (t : ℕ) → cell-written-lts.Need-add-trees-written (cell-written-claims t) (cell-written-at t) cell-written.Post
 cell-written-add-trees-written t c =
@@ -199,8 +199,8 @@ cell-written-put-cell-requires-3 : (t : ℕ) → cell-written-lts.Need-put-cell-
 cell-written-put-cell-requires-3 t c κs =
     (firsts-room _ _ _ _ _ _ _ _ _ _ _ _ _ _ (c .before .before .before .before .before .before .before .before .before .before .before .before .before .before .before .before .before .before .before .before .before .before .before .pre .1), room-kept _ (c .before .before .before .before .before .before .before .before .before .before .before .before .before .before .before .before .before .before .before .before .before .before .before .args .cells .now) (c .before .before .before .trees-written .last .1 .1 .1 .1 .1 .0) (c .before .before .before .trees-written .kept .1 .1 .1 .1 .1 .0) (cell-room _ _ _ _ _ _ _ _ _ _ _ _ _ _ (c .before .before .before .before .before .before .before .before .before .before .before .before .before .before .before .before .before .before .before .before .before .before .before .pre .1)))
 
-cell-written-close-requires-3 : (t : ℕ) → cell-written-lts.Need-close-requires-3 (cell-written-claims t) (cell-written-at t) cell-written.Post
-cell-written-close-requires-3 t c κs =
+cell-written-outcome-requires-3 : (t : ℕ) → cell-written-lts.Need-outcome-requires-3 (cell-written-claims t) (cell-written-at t) cell-written.Post
+cell-written-outcome-requires-3 t c κs =
     search needs
 
 cell-written-same-length-4 : (t : ℕ) → cell-written-lts.Need-same-length-4 (cell-written-claims t) (cell-written-at t) cell-written.Post
@@ -209,7 +209,7 @@ cell-written-same-length-4 t c =
 
 cell-written-returns-4 : (t : ℕ) → cell-written-lts.Need-returns-4 (cell-written-claims t) (cell-written-at t) cell-written.Post
 cell-written-returns-4 t c =
-    trees-moved _ _ _ _ _ _ _ _ _ _ _ _ _ _ _ (c .before .before .before .before .before .before .before .before .before .before .before .before .before .before .before .before .before .before .uses-at .ensures) (sym (c .before .before .before .before .before .before .before .before .before .before .before .before .before .before .before .before .before .meet .ensures) ∙ not-false _ (c .before .before .before .before .before .before .before .before .before .before .before .before .before .before .before .before .if1 .left)) _ (c .before .before .before .before .before .before .before .before .before .before .before .before .before .before .before .kind-at .ensures) _ (gives-trees _ _ _ _ _ _ _ _ _ _ _ _ _ _ _ _ (c .before .before .before .before .before .before .before .before .before .before .before .before .before .before .before .before .before .before .before .cell-at .ensures) (c .before .before .before .before .before .before .before .before .before .before .before .before .before .before .before .before .before .before .uses-at .ensures) _ (sym (c .before .before .before .before .before .before .before .before .before .before .before .before .before .before .before .before .before .meet .ensures) ∙ not-false _ (c .before .before .before .before .before .before .before .before .before .before .before .before .before .before .before .before .if1 .left)) (c .before .before .before .before .before .before .before .before .before .before .before .before .before .before .before .kind-at .ensures) _ _ _ _ _ (c .before .before .before .before .before .before .before .before .before .before .before .end-at .ensures) (c .before .before .before .before .before .before .before .before .before .before .before .before .before .adds-of .ensures) (c .before .before .before .before .before .before .before .before .before .before .before .before .before .before .if2 .left) (c .before .before .before .before .before .before .before .before .before .before .before .before .begin .ensures) (c .close3 .ensures) (sym (c .before .before .before .before .before .before .before .before .before .before .is-quantifier .ensures) ∙ c .before .before .before .before .before .before .before .before .before .if3 .left) (c .before .before .before .before .before .before .before .trees-written .ensures .0)) _ (c .close3 .ensures .1) _ _ (c .before .before .before .put-cell3 .ensures) _ (c .before .before .before .before .before .before .before .before .before .before .before .end-at .ensures) (c .before .before .before .before .before .before .before .before .before .before .before .before .before .before .if2 .left) (sym (c .before .before .before .before .before .before .before .before .before .before .is-quantifier .ensures) ∙ c .before .before .before .before .before .before .before .before .before .if3 .left) (c .before .before .before .before .before .before .before .trees-written .ensures .1)
+    trees-moved _ _ _ _ _ _ _ _ _ _ _ _ _ _ _ (c .before .before .before .before .before .before .before .before .before .before .before .before .before .before .before .before .before .before .uses-at .ensures) (sym (c .before .before .before .before .before .before .before .before .before .before .before .before .before .before .before .before .before .meet .ensures) ∙ not-false _ (c .before .before .before .before .before .before .before .before .before .before .before .before .before .before .before .before .if1 .left)) _ (c .before .before .before .before .before .before .before .before .before .before .before .before .before .before .before .kind-at .ensures) _ (gives-trees _ _ _ _ _ _ _ _ _ _ _ _ _ _ _ _ (c .before .before .before .before .before .before .before .before .before .before .before .before .before .before .before .before .before .before .before .cell-at .ensures) (c .before .before .before .before .before .before .before .before .before .before .before .before .before .before .before .before .before .before .uses-at .ensures) _ (sym (c .before .before .before .before .before .before .before .before .before .before .before .before .before .before .before .before .before .meet .ensures) ∙ not-false _ (c .before .before .before .before .before .before .before .before .before .before .before .before .before .before .before .before .if1 .left)) (c .before .before .before .before .before .before .before .before .before .before .before .before .before .before .before .kind-at .ensures) _ _ _ _ _ (c .before .before .before .before .before .before .before .before .before .before .before .end-at .ensures) (c .before .before .before .before .before .before .before .before .before .before .before .before .before .adds-of .ensures) (c .before .before .before .before .before .before .before .before .before .before .before .before .before .before .if2 .left) (c .before .before .before .before .before .before .before .before .before .before .before .before .begin .ensures) (c .outcome3 .ensures) (sym (c .before .before .before .before .before .before .before .before .before .before .is-quantifier .ensures) ∙ c .before .before .before .before .before .before .before .before .before .if3 .left) (c .before .before .before .before .before .before .before .trees-written .ensures .0)) _ (c .outcome3 .ensures .1) _ _ (c .before .before .before .put-cell3 .ensures) _ (c .before .before .before .before .before .before .before .before .before .before .before .end-at .ensures) (c .before .before .before .before .before .before .before .before .before .before .before .before .before .before .if2 .left) (sym (c .before .before .before .before .before .before .before .before .before .before .is-quantifier .ensures) ∙ c .before .before .before .before .before .before .before .before .before .if3 .left) (c .before .before .before .before .before .before .before .trees-written .ensures .1)
 
 abbrev ports-written-Inv-loop : ports-written-lts.InvT-loop
 ports-written-Inv-loop table firsts ends uses masks cells₀ ports sets c i depth row digits word used add all sum₀ x₀ cells sum x =
@@ -366,7 +366,7 @@ pub +cell-written+ports-written+trees-written-spec : {M : Type 1} → statement 
     (cell-written-kind-at-requires t)
     (cell-written-literal-at-requires t)
     (cell-written-put-cell-requires t)
-    (cell-written-close-requires t)
+    (cell-written-outcome-requires t)
     (cell-written-same-length-2 t)
     (cell-written-returns-2 t)
     (cell-written-adds-of-requires t)
@@ -377,13 +377,13 @@ pub +cell-written+ports-written+trees-written-spec : {M : Type 1} → statement 
     (cell-written-mul-ports-written t)
     (cell-written-ports-written-requires t)
     (cell-written-put-cell-requires-2 t)
-    (cell-written-close-requires-2 t)
+    (cell-written-outcome-requires-2 t)
     (cell-written-same-length-3 t)
     (cell-written-returns-3 t)
     (cell-written-add-trees-written t)
     (cell-written-trees-written-requires t)
     (cell-written-put-cell-requires-3 t)
-    (cell-written-close-requires-3 t)
+    (cell-written-outcome-requires-3 t)
     (cell-written-same-length-4 t)
     (cell-written-returns-4 t))
     (λ t. ports-written-lts.spec (ports-written-claims t)

@@ -5,18 +5,18 @@ use borrow.Author.Needs.{needs}
 use borrow.Fn.Kinds.{In}
 use borrow.Fn.PlainCycle.{Measures, is, falls, and}
 use Rattle.table_format.specs.Bytes.{recordLength}
-use Rattle.text_emit.proofs.Emitting.{emits-early, emits-past, emits-leaf, emits-neg, emits-full, emits-bind, emits-cut, emits-join, join-merged, join-full, join-own, row-parts, row-arrows}
-use Rattle.text_emit.proofs.+emit+joined+row.{statement}
-use Rattle.text_emit.proofs.+emit+joined+row.Tie.{close}
+use Rattle.text_emit.proofs.Emitting.{emits-early, emits-past, emits-leaf, emits-neg, emits-full, emits-bind, emits-cut, emits-join, join-merged, join-full, join-own, operands-parts, operands-arrows}
+use Rattle.text_emit.proofs.+emit+joined+operands.{statement}
+use Rattle.text_emit.proofs.+emit+joined+operands.Tie.{close}
 use Rattle.text_emit.proofs.emit.Reads as emit
 use Rattle.text_emit.proofs.emit.Kinds as emit-kinds
-use Rattle.text_emit.proofs.+emit+joined+row.Lts-emit as emit-lts
+use Rattle.text_emit.proofs.+emit+joined+operands.Lts-emit as emit-lts
 use Rattle.text_emit.proofs.joined.Reads as joined
 use Rattle.text_emit.proofs.joined.Kinds as joined-kinds
-use Rattle.text_emit.proofs.+emit+joined+row.Lts-joined as joined-lts
-use Rattle.text_emit.proofs.row.Reads as row
-use Rattle.text_emit.proofs.row.Kinds as row-kinds
-use Rattle.text_emit.proofs.+emit+joined+row.Lts-row as row-lts
+use Rattle.text_emit.proofs.+emit+joined+operands.Lts-joined as joined-lts
+use Rattle.text_emit.proofs.operands.Reads as operands
+use Rattle.text_emit.proofs.operands.Kinds as operands-kinds
+use Rattle.text_emit.proofs.+emit+joined+operands.Lts-operands as operands-lts
 use Rattle.text_tree.proofs.flip.Reads as flip-reads
 use Rattle.text_tree.proofs.is_literal.Reads as is-literal-reads
 use Rattle.text_tree.proofs.operator_at.Reads as operator-at-reads
@@ -37,8 +37,8 @@ abbrev μ-emit : Measures 3 emit-kinds.ps ℕ
 abbrev μ-joined : Measures 3 joined-kinds.ps ℕ
 μ-joined κs a = 5 * max (a .1 .0) (a .1 .1 .0) + 2 * min 1 (a .1 .1 .1 .0 - 8) + 2
 
-abbrev μ-row : Measures 3 row-kinds.ps ℕ
-μ-row κs a = 5 * max (a .1 .0) (a .1 .1 .0) + 2 * min 1 (a .1 .1 .1 .0 - 8) + 1
+abbrev μ-operands : Measures 3 operands-kinds.ps ℕ
+μ-operands κs a = 5 * max (a .1 .0) (a .1 .1 .0) + 2 * min 1 (a .1 .1 .1 .0 - 8) + 1
 
 abbrev emit-at : ℕ → In 3 emit-kinds.ps
 emit-at t = and 3 emit-kinds.ps (is 3 emit-kinds.ps μ-emit t) emit.Pre
@@ -52,11 +52,11 @@ joined-at t = and 3 joined-kinds.ps (is 3 joined-kinds.ps μ-joined t) joined.Pr
 abbrev joined-below : ℕ → In 3 joined-kinds.ps
 joined-below t = and 3 joined-kinds.ps (falls 3 joined-kinds.ps _<_ μ-joined t) joined.Pre
 
-abbrev row-at : ℕ → In 3 row-kinds.ps
-row-at t = and 3 row-kinds.ps (is 3 row-kinds.ps μ-row t) row.Pre
+abbrev operands-at : ℕ → In 3 operands-kinds.ps
+operands-at t = and 3 operands-kinds.ps (is 3 operands-kinds.ps μ-operands t) operands.Pre
 
-abbrev row-below : ℕ → In 3 row-kinds.ps
-row-below t = and 3 row-kinds.ps (falls 3 row-kinds.ps _<_ μ-row t) row.Pre
+abbrev operands-below : ℕ → In 3 operands-kinds.ps
+operands-below t = and 3 operands-kinds.ps (falls 3 operands-kinds.ps _<_ μ-operands t) operands.Pre
 
 -- what the callees of `emit` ask and give
 abbrev emit-claims : ℕ → emit-lts.Claims
@@ -64,11 +64,11 @@ emit-claims t = (operator-at-reads.Asked, operator-at-reads.Learnt, payload-at-r
 
 -- what the callees of `joined` ask and give
 abbrev joined-claims : ℕ → joined-lts.Claims
-joined-claims t = (joint-kind-reads.Asked, joint-kind-reads.Learnt, row-below t, row.Post, plain-reads.Asked, plain-reads.Learnt, put-record-reads.Asked, put-record-reads.Learnt)
+joined-claims t = (joint-kind-reads.Asked, joint-kind-reads.Learnt, operands-below t, operands.Post, plain-reads.Asked, plain-reads.Learnt, put-record-reads.Asked, put-record-reads.Learnt)
 
--- what the callees of `row` ask and give
-abbrev row-claims : ℕ → row-lts.Claims
-row-claims t = (joined-below t, joined.Post, left-at-reads.Asked, left-at-reads.Learnt, emit-below t, emit.Post, right-at-reads.Asked, right-at-reads.Learnt)
+-- what the callees of `operands` ask and give
+abbrev operands-claims : ℕ → operands-lts.Claims
+operands-claims t = (joined-below t, joined.Post, left-at-reads.Asked, left-at-reads.Learnt, emit-below t, emit.Post, right-at-reads.Asked, right-at-reads.Learnt)
 
 emit-returns : (t : ℕ) → emit-lts.Need-returns (emit-claims t) (emit-at t) emit.Post
 emit-returns t c =
@@ -197,17 +197,17 @@ joined-joint-kind-requires : (t : ℕ) → joined-lts.Need-joint-kind-requires (
 joined-joint-kind-requires t c κs =
     search needs
 
-joined-row-requires : (t : ℕ) → joined-lts.Need-row-requires (joined-claims t) (joined-at t) joined.Post
-joined-row-requires t c κs =
+joined-operands-requires : (t : ℕ) → joined-lts.Need-operands-requires (joined-claims t) (joined-at t) joined.Post
+joined-operands-requires t c κs =
     (omega (arith, c .before .before .before .before .before .before .before .pre .0), c .before .before .before .before .before .before .before .pre .1)
 
 joined-same-length : (t : ℕ) → joined-lts.Need-same-length (joined-claims t) (joined-at t) joined.Post
 joined-same-length t c =
-    c .before .before .row .kept .1 .1 .1 .1 .1 .1 .1 .1 .1 .0
+    c .before .before .operands .kept .1 .1 .1 .1 .1 .1 .1 .1 .1 .0
 
 joined-returns : (t : ℕ) → joined-lts.Need-returns (joined-claims t) (joined-at t) joined.Post
 joined-returns t c =
-    join-merged _ _ _ _ _ _ _ _ _ _ _ _ _ (c .before .before .before .before .before .before .joint-kind .ensures) (c .before .before .before .before .if1 .taken) (c .before .before .row .ensures)
+    join-merged _ _ _ _ _ _ _ _ _ _ _ _ _ (c .before .before .before .before .before .before .joint-kind .ensures) (c .before .before .before .before .if1 .taken) (c .before .before .operands .ensures)
 
 joined-add-if2 : (t : ℕ) → joined-lts.Need-add-if2 (joined-claims t) (joined-at t) joined.Post
 unfolding recordLength
@@ -229,14 +229,14 @@ unfolding recordLength
 joined-cast-t20 t c =
     omega (arith, c .before .before .before .before .before .before .before .pre .1 .placed, c .before .before .before .before .before .before .before .pre .1 .few)
 
-joined-add-row : (t : ℕ) → joined-lts.Need-add-row (joined-claims t) (joined-at t) joined.Post
+joined-add-operands : (t : ℕ) → joined-lts.Need-add-operands (joined-claims t) (joined-at t) joined.Post
 unfolding recordLength
-joined-add-row t c =
+joined-add-operands t c =
     omega (arith, c .before .before .before .before .before .before .before .pre .1 .placed, c .before .before .before .before .before .before .before .pre .1 .few)
 
-joined-row-requires-2 : (t : ℕ) → joined-lts.Need-row-requires-2 (joined-claims t) (joined-at t) joined.Post
+joined-operands-requires-2 : (t : ℕ) → joined-lts.Need-operands-requires-2 (joined-claims t) (joined-at t) joined.Post
 unfolding recordLength
-joined-row-requires-2 t c κs =
+joined-operands-requires-2 t c κs =
     (omega (arith, c .before .before .before .before .before .before .before .before .pre .0), record { few-sets = c .before .before .before .before .before .before .before .before .pre .1 .few-sets; placed = c .before .if2 .left; few = c .before .before .before .before .before .before .before .before .pre .1 .few })
 
 joined-plain-requires : (t : ℕ) → joined-lts.Need-plain-requires (joined-claims t) (joined-at t) joined.Post
@@ -256,48 +256,48 @@ joined-returns-3 : (t : ℕ) → joined-lts.Need-returns-3 (joined-claims t) (jo
 joined-returns-3 t c =
     join-own _ _ _ _ _ _ _ _ _ _ _ _ _ _ _ (c .before .before .before .before .before .before .before .before .before .before .before .before .joint-kind .ensures) (c .before .before .before .before .before .before .before .before .before .before .if1 .left) (c .before .before .before .before .before .before .before .row2 .ensures) (c .before .before .before .plain .ensures) (c .before .before .put-record .ensures)
 
-row-joined-requires : (t : ℕ) → row-lts.Need-joined-requires (row-claims t) (row-at t) row.Post
-row-joined-requires t c κs =
+operands-joined-requires : (t : ℕ) → operands-lts.Need-joined-requires (operands-claims t) (operands-at t) operands.Post
+operands-joined-requires t c κs =
     (omega (arith, c .before .before .before .before .before .pre .0, c .before .if1 .taken), c .before .before .before .before .before .pre .1)
 
-row-joined-requires-2 : (t : ℕ) → row-lts.Need-joined-requires-2 (row-claims t) (row-at t) row.Post
-row-joined-requires-2 t c κs =
+operands-joined-requires-2 : (t : ℕ) → operands-lts.Need-joined-requires-2 (operands-claims t) (operands-at t) operands.Post
+operands-joined-requires-2 t c κs =
     (omega (arith, c .before .before .before .before .before .before .before .before .before .pre .0, c .before .before .before .before .before .if1 .taken), record { few-sets = c .before .before .before .before .before .before .before .before .before .pre .1 .few-sets; placed = rw (c .before .before .before .joined .kept .1 .1 .1 .1 .1 .1 .1 .1 .1 .0) (c .before .before .before .joined .ensures .placed); few = rw (c .before .before .before .joined .kept .1 .1 .1 .1 .1 .1 .1 .1 .1 .0) (c .before .before .before .before .before .before .before .before .before .pre .1 .few) })
 
-row-same-length : (t : ℕ) → row-lts.Need-same-length (row-claims t) (row-at t) row.Post
-row-same-length t c =
+operands-same-length : (t : ℕ) → operands-lts.Need-same-length (operands-claims t) (operands-at t) operands.Post
+operands-same-length t c =
     c .before .before .joined2 .kept .1 .1 .1 .1 .1 .1 .1 .1 .1 .0 ∙ c .before .before .before .before .before .before .joined .kept .1 .1 .1 .1 .1 .1 .1 .1 .1 .0
 
-row-returns : (t : ℕ) → row-lts.Need-returns (row-claims t) (row-at t) row.Post
-row-returns t c =
-    row-arrows _ _ _ _ _ _ _ _ _ _ _ _ _ _ (c .before .before .before .before .before .before .before .before .if1 .taken) (c .before .before .before .before .before .before .joined .kept .1 .1 .1 .1 .1 .1 .1 .1 .1 .0) (c .before .before .before .before .before .before .joined .ensures) (c .before .before .joined2 .ensures)
+operands-returns : (t : ℕ) → operands-lts.Need-returns (operands-claims t) (operands-at t) operands.Post
+operands-returns t c =
+    operands-arrows _ _ _ _ _ _ _ _ _ _ _ _ _ _ (c .before .before .before .before .before .before .before .before .if1 .taken) (c .before .before .before .before .before .before .joined .kept .1 .1 .1 .1 .1 .1 .1 .1 .1 .0) (c .before .before .before .before .before .before .joined .ensures) (c .before .before .joined2 .ensures)
 
-row-left-at-requires : (t : ℕ) → row-lts.Need-left-at-requires (row-claims t) (row-at t) row.Post
-row-left-at-requires t c κs =
+operands-left-at-requires : (t : ℕ) → operands-lts.Need-left-at-requires (operands-claims t) (operands-at t) operands.Post
+operands-left-at-requires t c κs =
     search needs
 
-row-emit-requires : (t : ℕ) → row-lts.Need-emit-requires (row-claims t) (row-at t) row.Post
-row-emit-requires t c κs =
+operands-emit-requires : (t : ℕ) → operands-lts.Need-emit-requires (operands-claims t) (operands-at t) operands.Post
+operands-emit-requires t c κs =
     (omega (arith, c .before .before .before .before .before .before .pre .0), c .before .before .before .before .before .before .pre .1)
 
-row-right-at-requires : (t : ℕ) → row-lts.Need-right-at-requires (row-claims t) (row-at t) row.Post
-row-right-at-requires t c κs =
+operands-right-at-requires : (t : ℕ) → operands-lts.Need-right-at-requires (operands-claims t) (operands-at t) operands.Post
+operands-right-at-requires t c κs =
     search needs
 
-row-emit-requires-2 : (t : ℕ) → row-lts.Need-emit-requires-2 (row-claims t) (row-at t) row.Post
-row-emit-requires-2 t c κs =
+operands-emit-requires-2 : (t : ℕ) → operands-lts.Need-emit-requires-2 (operands-claims t) (operands-at t) operands.Post
+operands-emit-requires-2 t c κs =
     (omega (arith, c .before .before .before .before .before .before .before .before .before .before .before .pre .0), record { few-sets = c .before .before .before .before .before .before .before .before .before .before .before .pre .1 .few-sets; placed = rw (c .before .before .before .before .emit .kept .1 .1 .1 .1 .1 .1 .1 .0) (c .before .before .before .before .emit .ensures .placed); few = rw (c .before .before .before .before .emit .kept .1 .1 .1 .1 .1 .1 .1 .0) (c .before .before .before .before .before .before .before .before .before .before .before .pre .1 .few) })
 
-row-same-length-2 : (t : ℕ) → row-lts.Need-same-length-2 (row-claims t) (row-at t) row.Post
-row-same-length-2 t c =
+operands-same-length-2 : (t : ℕ) → operands-lts.Need-same-length-2 (operands-claims t) (operands-at t) operands.Post
+operands-same-length-2 t c =
     c .before .before .emit2 .kept .1 .1 .1 .1 .1 .1 .1 .0 ∙ c .before .before .before .before .before .before .before .emit .kept .1 .1 .1 .1 .1 .1 .1 .0
 
-row-returns-2 : (t : ℕ) → row-lts.Need-returns-2 (row-claims t) (row-at t) row.Post
-row-returns-2 t c =
-    row-parts _ _ _ _ _ _ _ _ _ _ _ _ _ _ _ _ (c .before .before .before .before .before .before .before .before .before .before .if1 .left) (c .before .before .before .before .before .before .before .emit .kept .1 .1 .1 .1 .1 .1 .1 .0) (c .before .before .before .before .before .before .before .before .before .left-at .ensures) (c .before .before .before .before .right-at .ensures) (c .before .before .before .before .before .before .before .emit .ensures) (c .before .before .emit2 .ensures)
+operands-returns-2 : (t : ℕ) → operands-lts.Need-returns-2 (operands-claims t) (operands-at t) operands.Post
+operands-returns-2 t c =
+    operands-parts _ _ _ _ _ _ _ _ _ _ _ _ _ _ _ _ (c .before .before .before .before .before .before .before .before .before .before .if1 .left) (c .before .before .before .before .before .before .before .emit .kept .1 .1 .1 .1 .1 .1 .1 .0) (c .before .before .before .before .before .before .before .before .before .left-at .ensures) (c .before .before .before .before .right-at .ensures) (c .before .before .before .before .before .before .before .emit .ensures) (c .before .before .emit2 .ensures)
 
-pub +emit+joined+row-spec : {M : Type 1} → statement M
-+emit+joined+row-spec = close μ-emit μ-joined μ-row (λ t. emit-lts.spec (emit-claims t)
+pub +emit+joined+operands-spec : {M : Type 1} → statement M
++emit+joined+operands-spec = close μ-emit μ-joined μ-operands (λ t. emit-lts.spec (emit-claims t)
     (emit-at t)
     emit.Post
     (emit-returns t)
@@ -333,29 +333,29 @@ pub +emit+joined+row-spec : {M : Type 1} → statement M
     (joined-at t)
     joined.Post
     (joined-joint-kind-requires t)
-    (joined-row-requires t)
+    (joined-operands-requires t)
     (joined-same-length t)
     (joined-returns t)
     (joined-add-if2 t)
     (joined-mul-if2 t)
     (joined-returns-2 t)
     (joined-cast-t20 t)
-    (joined-add-row t)
-    (joined-row-requires-2 t)
+    (joined-add-operands t)
+    (joined-operands-requires-2 t)
     (joined-plain-requires t)
     (joined-put-record-requires t)
     (joined-same-length-2 t)
     (joined-returns-3 t))
-    λ t. row-lts.spec (row-claims t)
-    (row-at t)
-    row.Post
-    (row-joined-requires t)
-    (row-joined-requires-2 t)
-    (row-same-length t)
-    (row-returns t)
-    (row-left-at-requires t)
-    (row-emit-requires t)
-    (row-right-at-requires t)
-    (row-emit-requires-2 t)
-    (row-same-length-2 t)
-    (row-returns-2 t)
+    λ t. operands-lts.spec (operands-claims t)
+    (operands-at t)
+    operands.Post
+    (operands-joined-requires t)
+    (operands-joined-requires-2 t)
+    (operands-same-length t)
+    (operands-returns t)
+    (operands-left-at-requires t)
+    (operands-emit-requires t)
+    (operands-right-at-requires t)
+    (operands-emit-requires-2 t)
+    (operands-same-length-2 t)
+    (operands-returns-2 t)
