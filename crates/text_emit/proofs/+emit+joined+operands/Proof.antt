@@ -246,15 +246,15 @@ joined-plain-requires t c κs =
 joined-put-record-requires : (t : ℕ) → joined-lts.Need-put-record-requires (joined-claims t) (joined-at t) joined.Post
 unfolding recordLength
 joined-put-record-requires t c κs =
-    (omega (arith, c .before .before .before .before .before .before .if2 .left, c .before .before .before .before .row2 .kept .1 .1 .1 .1 .1 .1 .1 .1 .1 .0), omega (arith, c .before .before .before .before .row2 .ensures .placed, c .before .before .before .before .before .before .before .before .before .before .before .before .before .pre .1 .few))
+    (omega (arith, c .before .before .before .before .before .before .if2 .left, c .before .before .before .before .operands2 .kept .1 .1 .1 .1 .1 .1 .1 .1 .1 .0), omega (arith, c .before .before .before .before .operands2 .ensures .placed, c .before .before .before .before .before .before .before .before .before .before .before .before .before .pre .1 .few))
 
 joined-same-length-2 : (t : ℕ) → joined-lts.Need-same-length-2 (joined-claims t) (joined-at t) joined.Post
 joined-same-length-2 t c =
-    c .before .before .put-record .kept .0 ∙ c .before .before .before .before .before .before .before .row2 .kept .1 .1 .1 .1 .1 .1 .1 .1 .1 .0
+    c .before .before .put-record .kept .0 ∙ c .before .before .before .before .before .before .before .operands2 .kept .1 .1 .1 .1 .1 .1 .1 .1 .1 .0
 
 joined-returns-3 : (t : ℕ) → joined-lts.Need-returns-3 (joined-claims t) (joined-at t) joined.Post
 joined-returns-3 t c =
-    join-own _ _ _ _ _ _ _ _ _ _ _ _ _ _ _ (c .before .before .before .before .before .before .before .before .before .before .before .before .joint-kind .ensures) (c .before .before .before .before .before .before .before .before .before .before .if1 .left) (c .before .before .before .before .before .before .before .row2 .ensures) (c .before .before .before .plain .ensures) (c .before .before .put-record .ensures)
+    join-own _ _ _ _ _ _ _ _ _ _ _ _ _ _ _ (c .before .before .before .before .before .before .before .before .before .before .before .before .joint-kind .ensures) (c .before .before .before .before .before .before .before .before .before .before .if1 .left) (c .before .before .before .before .before .before .before .operands2 .ensures) (c .before .before .before .plain .ensures) (c .before .before .put-record .ensures)
 
 operands-joined-requires : (t : ℕ) → operands-lts.Need-joined-requires (operands-claims t) (operands-at t) operands.Post
 operands-joined-requires t c κs =
