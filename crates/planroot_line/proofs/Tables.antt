@@ -1,6 +1,5 @@
 -- The line does not depend on what the program's own tables held. Assumes nothing.
 use mathlib.Core.Path.{_≡_, refl, sym, ap, _∙_}
-use mathlib.Core.Bool.{Bool}
 use mathlib.Core.List.{List, _++_}
 use Prim.Native.Nat.{ℕ, zero, suc, _≤_}
 use native.Mathlib.Omega.{arith}
@@ -15,7 +14,7 @@ use Rattle.table_format.specs.Decode.{Decoded, sound, decode}
 use Rattle.contracts.specs.declared.Answer.{Answer}
 use Rattle.contracts.specs.declared.Answer.the-variants.{Accepted, Refused}
 use Rattle.contracts.specs.declared.Loaded.{Loaded}
-use Rattle.contracts.specs.Read.{readNumber, tableLength, textGrounds, readGrounds, readOr, reads}
+use Rattle.contracts.specs.Read.{readNumber, tableLength, readGrounds, readOr, reads}
 use Rattle.contracts.specs.Admitted.{Admitted, admittedPlan}
 use Rattle.contracts.specs.State.{tables, ownTables}
 use Rattle.contracts.specs.Load.{loadGrounds, loadOr, loadPlan, loads}
