@@ -5,8 +5,7 @@ use Prim.Native.Nat.{ℕ}
 use Rattle.contracts.specs.State.{State}
 use Rattle.contracts.specs.declared.Answer.{Answer}
 use Rattle.contracts.specs.Read.{readNumber, readNodes, readTotal}
-use Rattle.contracts.specs.declared.Loaded.{Loaded}
-use Rattle.contracts.specs.Load.{loadNumber, loadRoot, loadTotal}
+use Rattle.contracts.specs.Load.{LoadValues}
 use Rattle.answers.specs.declared.ReadAnswer.{ReadAnswer}
 use Rattle.answers.specs.declared.LoadAnswer.{LoadAnswer}
 
@@ -22,11 +21,11 @@ pub record ReadGives (given : Answer × List ℕ) (r : ReadAnswer) (table : List
   pub table-is : table ≡ given .1
 
 -- The same of load, with every mask and every cell afterwards.
-pub record LoadFields (a : Loaded) (r : LoadAnswer) : Type 0 where
-  pub number-is : r .number ≡ loadNumber a
-  pub root-is : r .root ≡ loadRoot a
-  pub cells-are : r .cells ≡ loadTotal a
+pub record LoadFields (v : LoadValues) (r : LoadAnswer) : Type 0 where
+  pub number-is : r .number ≡ v .number
+  pub root-is : r .root ≡ v .root
+  pub cells-are : r .cells ≡ v .cells
 
-pub record LoadGives (given : Loaded × State) (r : LoadAnswer) (s′ : State) : Type 0 where
+pub record LoadGives (given : LoadValues × State) (r : LoadAnswer) (s′ : State) : Type 0 where
   pub fields : LoadFields (given .0) r
   pub tables-are : s′ ≡ given .1

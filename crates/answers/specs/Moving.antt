@@ -6,9 +6,8 @@ use Prim.Native.Nat.{ℕ}
 use lib.ListN.{length}
 use Rattle.table_format.specs.Decode.{Decoded}
 use Rattle.contracts.specs.State.{State}
-use Rattle.contracts.specs.declared.Moved.{Moved}
 use Rattle.contracts.specs.declared.Improved.{Improved}
-use Rattle.contracts.specs.MoveCall.{movedNumber, movedBefore, movedAfter, movedChanged}
+use Rattle.contracts.specs.MoveCall.{MoveValues}
 use Rattle.contracts.specs.TrialCall.{ScratchAfter}
 use Rattle.contracts.specs.ImproveCall.{improvedNumber, improvedFound, improvedMove, improvedBefore, improvedAfter, improvedChanged, Improves}
 use Rattle.answers.specs.declared.MoveAnswer.{MoveAnswer}
@@ -16,19 +15,19 @@ use Rattle.answers.specs.declared.ImproveAnswer.{ImproveAnswer}
 
 -- "The answer is the number with all other fields 0", and the three numbers of an accepted move: each field by the call's own
 -- definitions.
-pub record MoveFields (a : Moved) (r : MoveAnswer) : Type 0 where
-  pub number-is : r .number ≡ movedNumber a
-  pub before-is : r .before ≡ movedBefore a
-  pub after-is : r .after ≡ movedAfter a
-  pub changed-is : r .changed ≡ movedChanged a
+pub record MoveFields (v : MoveValues) (r : MoveAnswer) : Type 0 where
+  pub number-is : r .number ≡ v .number
+  pub before-is : r .before ≡ v .before
+  pub after-is : r .after ≡ v .after
+  pub changed-is : r .changed ≡ v .changed
 
 -- The struct, every mask and every cell afterwards.
-pub record MoveGives (given : Moved × State) (r : MoveAnswer) (s′ : State) : Type 0 where
+pub record MoveGives (given : MoveValues × State) (r : MoveAnswer) (s′ : State) : Type 0 where
   pub fields : MoveFields (given .0) r
   pub tables-are : s′ ≡ given .1
 
 -- The struct, and scratch afterwards: on refusal as it was, and never written past the plan's own cells.
-pub record TrialGives (d : Decoded) (given : Moved) (r : MoveAnswer) (scratch scratch′ : List ℕ) : Type 0 where
+pub record TrialGives (d : Decoded) (given : MoveValues) (r : MoveAnswer) (scratch scratch′ : List ℕ) : Type 0 where
   pub fields : MoveFields given r
   pub scratch-is : ScratchAfter d (r .number) scratch scratch′
 

@@ -9,6 +9,8 @@ use logic::no_move;
 ghost use mathlib.Core.Path.{_≡_};
 ghost use Rattle.contracts.specs.declared.Moved.the-variants.{Accepted};
 ghost use Rattle.contracts.specs.declared.Improved.the-variants.{Made};
+ghost use Rattle.contracts.specs.Load.{loadValues};
+ghost use Rattle.contracts.specs.MoveCall.{moveValues};
 ghost use Rattle.answers.specs.Boundary.{ReadFields, LoadFields};
 ghost use Rattle.answers.specs.Moving.{MoveFields, ImproveFields};
 
@@ -71,7 +73,7 @@ pub fn read_fields(a: Answer) -> ReadAnswer
 
 // Load's answer as its C struct.
 pub fn load_fields(a: Loaded) -> LoadAnswer
-    ensures { λ r. ⌜ LoadFields a r ⌝ }
+    ensures { λ r. ⌜ LoadFields (loadValues a) r ⌝ }
 {
     match a {
         Loaded::Accepted { root, cells } => LoadAnswer {
@@ -109,7 +111,7 @@ pub struct ImproveAnswer {
 
 // A move's or trial's answer as its C struct.
 pub fn move_fields(a: Moved) -> MoveAnswer
-    ensures { λ r. ⌜ MoveFields a r ⌝ }
+    ensures { λ r. ⌜ MoveFields (moveValues a) r ⌝ }
 {
     match a {
         Moved::Accepted {

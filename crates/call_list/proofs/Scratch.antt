@@ -9,7 +9,7 @@ use Rattle.logic.specs.declared.Move.{Move}
 use Rattle.table_format.specs.Decode.{Decoded}
 use Rattle.contracts.specs.TrialCall.{scratchOwn, ScratchAfter}
 use Rattle.contracts.specs.Lists.{Exchange, moveCall}
-use Rattle.contracts.specs.declared.Moved.{Moved}
+use Rattle.contracts.specs.MoveCall.{MoveValues}
 use Rattle.call_list.specs.Scratch.{lentTo, answerNumber, ScratchOne, ScratchRun, kept, passed}
 
 -- a call more at the end
@@ -19,7 +19,7 @@ scratch-snoc d s s′ s″ xs x kept o = passed o kept
 scratch-snoc d s s′ s″ xs x (passed {s′ = t} {xs = rest} y r) o = passed y (scratch-snoc d t s′ s″ rest x r o)
 
 -- a move is lent none and writes none
-pub none-lent : (d : Decoded) (m : Move) (r : Moved) (s : List ℕ) → ScratchOne d (moveCall m r) s s
+pub none-lent : (d : Decoded) (m : Move) (r : MoveValues) (s : List ℕ) → ScratchOne d (moveCall m r) s s
 unfolding lentTo
 none-lent d m r s = record {
   front = refl;

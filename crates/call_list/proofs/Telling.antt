@@ -7,7 +7,7 @@ use lib.ListN.{length, set, drop}
 use Rattle.logic.specs.declared.Move.{Move}
 use Rattle.contracts.specs.declared.Moved.{Moved}
 use Rattle.contracts.specs.declared.Improved.{Improved}
-use Rattle.contracts.specs.MoveCall.{movedNumber, movedBefore, movedAfter, movedChanged}
+use Rattle.contracts.specs.MoveCall.{moveValues}
 use Rattle.logic.specs.Moves.{noMove}
 use Rattle.contracts.specs.ImproveCall.{improvedNumber, improvedFound, improvedMove, improvedBefore, improvedAfter, improvedChanged}
 use Rattle.call_list.specs.Encoding.{tenNumbers, movedNumbers, improvedNumbers}
@@ -30,12 +30,13 @@ ten-set (x0 ∷ x1 ∷ x2 ∷ x3 ∷ x4 ∷ x5 ∷ x6 ∷ x7 ∷ x8 ∷ x9 ∷ x
 
 -- the ten numbers of an answer of either kind, where it is known which
 pub told-moved : (r known : Moved) (m : Move) (xs ys : List ℕ) → r ≡ known → m ≡ noMove
-    → ys ≡ tenNumbers (movedNumber known) 0 m (movedBefore known) (movedAfter known) (movedChanged known) ++ drop 10 xs
-    → ys ≡ movedNumbers r ++ drop 10 xs
+    → (let v = moveValues known in ys ≡ tenNumbers (v .number) 0 m (v .before) (v .after) (v .changed) ++ drop 10 xs)
+    → ys ≡ movedNumbers (moveValues r) ++ drop 10 xs
 unfolding movedNumbers
 told-moved r known m xs ys e f h =
-    h ∙ ap (λ (x : Move). tenNumbers (movedNumber known) 0 x (movedBefore known) (movedAfter known) (movedChanged known) ++ drop 10 xs) f
-    ∙ ap (λ (x : Moved). movedNumbers x ++ drop 10 xs) (sym e)
+    let v = moveValues known in
+    h ∙ ap (λ (x : Move). tenNumbers (v .number) 0 x (v .before) (v .after) (v .changed) ++ drop 10 xs) f
+    ∙ ap (λ (x : Moved). movedNumbers (moveValues x) ++ drop 10 xs) (sym e)
 
 pub told-improved : (r known : Improved) (m : Move) (xs ys : List ℕ) → r ≡ known → m ≡ improvedMove known
     → ys ≡ tenNumbers (improvedNumber known) (improvedFound known) m (improvedBefore known) (improvedAfter known) (improvedChanged known) ++ drop 10 xs

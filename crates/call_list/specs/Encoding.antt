@@ -5,9 +5,8 @@ use mathlib.Core.List.{List, [], _∷_, _++_}
 use Prim.Native.Nat.{ℕ, min}
 use lib.ListN.{length, getD, drop}
 use Rattle.logic.specs.declared.Move.{Move}
-use Rattle.contracts.specs.declared.Moved.{Moved}
 use Rattle.contracts.specs.declared.Improved.{Improved}
-use Rattle.contracts.specs.MoveCall.{movedNumber, movedBefore, movedAfter, movedChanged}
+use Rattle.contracts.specs.MoveCall.{MoveValues}
 use Rattle.logic.specs.Moves.{noMove}
 use Rattle.contracts.specs.ImproveCall.{improvedNumber, improvedFound, improvedMove, improvedBefore, improvedAfter, improvedChanged}
 use Rattle.contracts.specs.Lists.{Exchange, moveCall, trialCall, improveCall}
@@ -52,8 +51,8 @@ tenNumbers number found m before after changed =
     number ∷ found ∷ m .kind ∷ m .s ∷ m .t ∷ m .p ∷ m .q ∷ before ∷ after ∷ changed ∷ []
 
 -- A move and a trial find nothing.
-unfoldable pub movedNumbers : Moved → List ℕ
-movedNumbers r = tenNumbers (movedNumber r) 0 noMove (movedBefore r) (movedAfter r) (movedChanged r)
+unfoldable pub movedNumbers : MoveValues → List ℕ
+movedNumbers v = tenNumbers (v .number) 0 noMove (v .before) (v .after) (v .changed)
 
 unfoldable pub improvedNumbers : Improved → List ℕ
 improvedNumbers r = tenNumbers (improvedNumber r) (improvedFound r) (improvedMove r) (improvedBefore r) (improvedAfter r) (improvedChanged r)

@@ -4,7 +4,6 @@ use mathlib.Core.List.{List, [], _∷_}
 use Prim.Native.Nat.{ℕ}
 use lib.ListN.{length, take, drop}
 use Rattle.table_format.specs.Decode.{Decoded}
-use Rattle.contracts.specs.MoveCall.{movedNumber}
 use Rattle.contracts.specs.TrialCall.{ScratchAfter}
 use Rattle.contracts.specs.ImproveCall.{improvedNumber}
 use Rattle.contracts.specs.Lists.{Exchange, moveCall, trialCall, improveCall}
@@ -17,8 +16,8 @@ lentTo (improveCall kinds scratch r) = scratch
 
 -- The paper's number of an answer.
 unfoldable pub answerNumber : Exchange → ℕ
-answerNumber (moveCall m r) = movedNumber r
-answerNumber (trialCall m scratch r) = movedNumber r
+answerNumber (moveCall m r) = r .number
+answerNumber (trialCall m scratch r) = r .number
 answerNumber (improveCall kinds scratch r) = improvedNumber r
 
 -- "Trial returns the same three numbers and writes only a scratch table of at least as many cells" (paper 01, section One move);

@@ -13,6 +13,7 @@ ghost use mathlib.Core.List.{_++_};
 ghost use Prim.Native.Nat.{_*_, _≤_};
 ghost use lib.ListN.{length, drop};
 ghost use Rattle.contracts.specs.State.{tables};
+ghost use Rattle.contracts.specs.MoveCall.{moveValues};
 ghost use Rattle.call_list.specs.Encoding.{moveOf, tenNumbers, movedNumbers, improvedNumbers};
 ghost use Rattle.call_list.specs.inner.Steps.{OneAfter, NextFits};
 ghost use Rattle.call_list.specs.Working.{Worked, Stopped};
@@ -42,7 +43,7 @@ fn tell(number: u32, found: u32, m: Move, before: u32, after: u32, changed: u32,
 // The answer to a move or a trial: no move is told.
 fn tell_moved(r: Moved, answer: &mut [u32])
     requires { ⌜ 10 ≤ length (now answer) ⌝ }
-    ensures { λ _. ⌜ now (answer .exit) ≡ movedNumbers r ++ drop 10 (now (answer .entry)) ⌝ }
+    ensures { λ _. ⌜ now (answer .exit) ≡ movedNumbers (moveValues r) ++ drop 10 (now (answer .entry)) ⌝ }
 {
     match r {
         Moved::Accepted {

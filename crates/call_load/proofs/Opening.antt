@@ -7,22 +7,21 @@ use lib.ListN.{length}
 use Rattle.logic.specs.Formula.{nodeCount}
 use Rattle.logic.specs.Configuration.{ownMasks}
 use Rattle.table_format.specs.Decode.{Decoded}
-use Rattle.contracts.specs.State.{State, tables}
-use Rattle.contracts.specs.declared.Loaded.{Loaded}
+use Rattle.contracts.specs.State.{tables}
 use Rattle.contracts.specs.declared.Loaded.the-variants.{Refused}
-use Rattle.contracts.specs.Load.{loadGrounds, loads}
-use Rattle.contracts.proofs.LoadAnswers.{load-refused}
+use Rattle.contracts.specs.Load.{loadGrounds, loads, LoadPromise}
+use Rattle.contracts.proofs.LoadAnswers.{load-refuses}
 use Rattle.call_open.specs.inner.Opening.{openNumber, OpenPlan}
 use Rattle.call_open.proofs.Opening.{one-table, shut-first}
 use Rattle.cells_fill.specs.inner.Fill.{FillReady}
 
 -- one of 11 to 13 applies
 pub load-shut : (d : Decoded) (masks xs : List ℕ) (n : ℕ) → (n ≡ 0 → ⊥) → n ≡ openNumber d masks (length xs)
-    → _≡_ {A = Loaded × State} (Refused n, tables masks xs) (loads d (tables masks xs))
+    → LoadPromise (loads d (tables masks xs)) (Refused n) (tables masks xs)
 unfolding loadGrounds
 load-shut d masks xs zero h q = absurd (h refl)
 load-shut d masks xs (suc g) h q =
-    load-refused d (tables masks xs) g (shut-first (tables masks xs) (length xs) [] (λ P k. []) (one-table (length xs)) d g q)
+    load-refuses d (tables masks xs) (suc g) h (shut-first (tables masks xs) (length xs) [] (λ P k. []) (one-table (length xs)) d g q)
 
 -- the cells can be filled
 pub fill-ready : (ports sets nodes : ℕ) (bytes masks xs x y z : List ℕ) (o : OpenPlan ports sets bytes masks (length xs) x y z) → nodes ≡ nodeCount (o .plan .formula)

@@ -12,9 +12,8 @@ use Rattle.table_format.specs.Decode.{Decoded, sound, decode}
 use Rattle.cells_sum.specs.declared.After.{After}
 use Rattle.cells_walk.specs.inner.Visit.{CellsFit, TablesLong}
 use Rattle.contracts.specs.State.{State, tables, ownTables, withRest}
-use Rattle.contracts.specs.declared.Moved.{Moved}
 use Rattle.contracts.specs.declared.Moved.the-variants.{Accepted, Refused}
-use Rattle.contracts.specs.MoveCall.{moveCallGrounds, tablesAfter, movesOwn, moves}
+use Rattle.contracts.specs.MoveCall.{MoveValues, moveRefused, moveValues, MoveTold, MovedAs, moveCallGrounds, tablesAfter, movesOwn, moves, MovePromise}
 use Rattle.contracts.specs.TrialCall.{trialsOwn, trials}
 use Rattle.contracts.proofs.Calls.{call-refused, call-accepted}
 use Rattle.contracts.proofs.Steps.{grounds-legal}
@@ -41,18 +40,24 @@ module _ (m : Move) (s : State) (shortest : ℕ) (lengths : List ℕ) (short : S
       ∙ sym q
 
 -- a ground applies
-pub move-refused : (d : Decoded) (m : Move) (s : State) (n : ℕ) → (n ≡ 0 → ⊥) → refusal (moveCallGrounds d s [] m) ≡ n
-    → _≡_ {A = Moved × State} (Refused n, s) (moves d m s)
-unfolding moves
+pub move-refused : (d : Decoded) (m : Move) (s : State) (n : ℕ) → (n ≡ 0 → ⊥) → refusal (moveCallGrounds d s [] m) ≡ n → MovePromise (moves d m s) (Refused n) s
+unfolding moves moveValues MoveTold
 move-refused d m s zero h e = absurd (h refl)
-move-refused d m s (suc g) h e = sym (call-refused Refused (movesOwn m) (moveCallGrounds d s [] m) d s g e)
+move-refused d m s (suc g) h e =
+    let given = call-refused moveRefused (movesOwn m) (moveCallGrounds d s [] m) d s g e in
+    record {
+      answers = record { values-are = sym (ap (λ (x : MoveValues × State). x .0) given); told = h };
+      tables-are = sym (ap (λ (x : MoveValues × State). x .1) given);
+    }
 
 pub trial-refused : (d : Decoded) (m : Move) (s : State) (scratch n : ℕ) → (n ≡ 0 → ⊥) → refusal (moveCallGrounds d s (scratch ∷ []) m) ≡ n
-    → Refused n ≡ trials d m s scratch
-unfolding trials
+    → MovedAs (trials d m s scratch) (Refused n)
+unfolding trials moveValues MoveTold
 trial-refused d m s scratch zero h e = absurd (h refl)
-trial-refused d m s scratch (suc g) h e =
-    ap (λ (x : Moved × State). x .0) (sym (call-refused Refused (trialsOwn m) (moveCallGrounds d s (scratch ∷ []) m) d s g e))
+trial-refused d m s scratch (suc g) h e = record {
+  values-are = sym (ap (λ (x : MoveValues × State). x .0) (call-refused moveRefused (trialsOwn m) (moveCallGrounds d s (scratch ∷ []) m) d s g e));
+  told = h;
+}
 
 -- neither 14 nor 15 applies to the move of open tables
 pub legal-move : {ports sets : ℕ} {bytes masks cells : List ℕ} {shortest : ℕ} {firsts ends uses : List ℕ} {m : Move} {n : ℕ}
@@ -68,24 +73,30 @@ legal-move {cells = cells} {m = m} {n = n} o l long fit number z =
 -- no ground applies
 pub move-made : (bytes masks cells : List ℕ) (P : Plan) → decode bytes ≡ sound P → (m : Move) (r : After) (masks′ cells′ : List ℕ)
     → refusal (moveCallGrounds (decode bytes) (tables masks cells) [] m) ≡ 0 → Carries bytes masks cells m r masks′ cells′
-    → _≡_ {A = Moved × State} (Accepted (r .old) (r .value) (r .changed), tables masks′ cells′) (moves (decode bytes) m (tables masks cells))
-unfolding moves movesOwn tablesAfter ownTables withRest Carries
+    → MovePromise (moves (decode bytes) m (tables masks cells)) (Accepted (r .old) (r .value) (r .changed)) (tables masks′ cells′)
+unfolding moves movesOwn moveValues MoveTold tablesAfter ownTables withRest Carries
 move-made bytes masks cells P d m r masks′ cells′ free carries =
     let s = tables masks cells in
     let c = carries P d in
     let a = answer-is P (take (ownMasks P) masks) (take (ownCells P) cells) m r (c .numbers) in
-    (λ i. (a i, tables (c .masks-are i) (c .cells-are i)))
-    ∙ sym (ap (λ (x : Decoded). moves x m s) d
-    ∙ call-accepted Refused (movesOwn m) (moveCallGrounds (sound P) s [] m) P s (ap (λ (x : Decoded). refusal (moveCallGrounds x s [] m)) (sym d) ∙ free))
+    let given = ap (λ (x : Decoded). moves x m s) d
+    ∙ call-accepted moveRefused (movesOwn m) (moveCallGrounds (sound P) s [] m) P s (ap (λ (x : Decoded). refusal (moveCallGrounds x s [] m)) (sym d) ∙ free) in
+    record {
+      answers = record { values-are = a ∙ sym (ap (λ (x : MoveValues × State). x .0) given); told = tt };
+      tables-are = (λ i. tables (c .masks-are i) (c .cells-are i)) ∙ sym (ap (λ (x : MoveValues × State). x .1) given);
+    }
 
 pub trial-made : (bytes masks cells : List ℕ) (scratch : ℕ) (P : Plan) → decode bytes ≡ sound P → (m : Move) (r : After)
     → refusal (moveCallGrounds (decode bytes) (tables masks cells) (scratch ∷ []) m) ≡ 0 → GivesNumbers bytes masks cells m r
-    → Accepted (r .old) (r .value) (r .changed) ≡ trials (decode bytes) m (tables masks cells) scratch
-unfolding trials trialsOwn ownTables GivesNumbers
+    → MovedAs (trials (decode bytes) m (tables masks cells) scratch) (Accepted (r .old) (r .value) (r .changed))
+unfolding trials trialsOwn moveValues MoveTold ownTables GivesNumbers
 trial-made bytes masks cells scratch P d m r free gives =
     let s = tables masks cells in
-    answer-is P (take (ownMasks P) masks) (take (ownCells P) cells) m r (gives P d)
-    ∙ sym (ap (λ (x : Decoded). trials x m s scratch) d
-    ∙ ap (λ (x : Moved × State). x .0)
-    (call-accepted Refused (trialsOwn m) (moveCallGrounds (sound P) s (scratch ∷ []) m) P s
-    (ap (λ (x : Decoded). refusal (moveCallGrounds x s (scratch ∷ []) m)) (sym d) ∙ free)))
+    record {
+      values-are = answer-is P (take (ownMasks P) masks) (take (ownCells P) cells) m r (gives P d)
+          ∙ sym (ap (λ (x : Decoded). trials x m s scratch) d
+          ∙ ap (λ (x : MoveValues × State). x .0)
+          (call-accepted moveRefused (trialsOwn m) (moveCallGrounds (sound P) s (scratch ∷ []) m) P s
+          (ap (λ (x : Decoded). refusal (moveCallGrounds x s (scratch ∷ []) m)) (sym d) ∙ free)));
+      told = tt;
+    }

@@ -9,17 +9,16 @@ use logic::own_masks;
 use move_legal::move_number;
 use move_make::carry;
 use move_try::try_move;
-ghost use mathlib.Core.Path.{_≡_};
 ghost use lib.ListN.{length};
 ghost use Rattle.table_format.specs.Decode.{decode};
 ghost use Rattle.contracts.specs.State.{tables};
-ghost use Rattle.contracts.specs.MoveCall.{movedNumber, moves};
+ghost use Rattle.contracts.specs.MoveCall.{moveValues, MovedAs, moves, MovePromise};
 ghost use Rattle.contracts.specs.TrialCall.{trials, ScratchAfter};
 
 // Trial: tries 11 to 15; answers what the move would, and writes nothing.
 pub fn trial(table: &[u8], masks: &[u64], cells: &[u32], scratch: &mut [u32], m: Move) -> Moved
-    ensures answer { λ r. ⌜ r ≡ trials (decode (now (table .entry))) m (tables (now (masks .entry)) (now (cells .entry))) (length (now (scratch .entry))) ⌝ }
-    ensures lent { λ r. ⌜ ScratchAfter (decode (now (table .entry))) (movedNumber r) (now (scratch .entry)) (now (scratch .exit)) ⌝ }
+    ensures answer { λ r. ⌜ MovedAs (trials (decode (now (table .entry))) m (tables (now (masks .entry)) (now (cells .entry))) (length (now (scratch .entry)))) r ⌝ }
+    ensures lent { λ r. ⌜ ScratchAfter (decode (now (table .entry))) (moveValues r .number) (now (scratch .entry)) (now (scratch .exit)) ⌝ }
 {
     let mut firsts = [0u32; 512];
     let mut ends = [0u16; 512];
@@ -51,7 +50,7 @@ pub fn trial(table: &[u8], masks: &[u64], cells: &[u32], scratch: &mut [u32], m:
 
 // A move: tries 11 to 15; writes its masks and the touched cells in place.
 pub fn make_move(table: &[u8], masks: &mut [u64], cells: &mut [u32], m: Move) -> Moved
-    ensures { λ r. ⌜ (r, tables (now (masks .exit)) (now (cells .exit))) ≡ moves (decode (now (table .entry))) m (tables (now (masks .entry)) (now (cells .entry))) ⌝ }
+    ensures { λ r. ⌜ MovePromise (moves (decode (now (table .entry))) m (tables (now (masks .entry)) (now (cells .entry)))) r (tables (now (masks .exit)) (now (cells .exit))) ⌝ }
 {
     let mut firsts = [0u32; 512];
     let mut ends = [0u16; 512];

@@ -1,7 +1,7 @@
 -- Every run from an accepted load is right, by induction over its calls. Assumes nothing.
 use mathlib.Core.Path.{_≡_, refl, sym, ap, _∙_, subst}
 use mathlib.Core.List.{List, [], _++_}
-use Prim.Native.Nat.{ℕ, zero, suc}
+use Prim.Native.Nat.{ℕ}
 use native.Mathlib.Omega.{arith}
 use lib.ListN.{take, drop, take-append-drop}
 use lib.Seq.{length-take-le}
@@ -12,55 +12,43 @@ use Rattle.logic.specs.Moves.{refusal}
 use Rattle.table_format.specs.Decode.{Decoded, broken, sound, decode}
 use Rattle.contracts.specs.State.{State, tables}
 use Rattle.contracts.specs.Call.{planGrounds, callGrounds}
-use Rattle.contracts.specs.declared.Loaded.{Loaded}
-use Rattle.contracts.specs.declared.Loaded.the-variants.{Accepted, Refused}
-use Rattle.contracts.specs.Load.{loadNumber, loadGrounds, loads}
+use Rattle.contracts.specs.Load.{loadGrounds, loads}
 use Rattle.contracts.proofs.Calls.{lent-enough}
-use Rattle.contracts.proofs.LoadAnswers.{load-refused, load-cells}
+use Rattle.contracts.proofs.LoadAnswers.{load-number, load-cells}
 use Rattle.contracts.specs.Book.{Book, firstBook, bookStep}
 use Rattle.contracts.specs.Lists.{Exchange, Run, ended, called, feed, bookAfter, bookCells, AllRight}
 use Rattle.contracts.proofs.Steps.{StateHolds, own-holds, step-right}
 
--- an accepted load's answer is no refusal
-refused-not : (number root total : ℕ) (s s′ : State) → _≡_ {A = Loaded × State} (Refused (suc number), s) (Accepted root total, s′) → ⊥
-unfolding loadNumber
-refused-not number root total s s′ h =
-    let e : suc number ≡ 0 = ap (λ (t : Loaded × State). loadNumber (t .0)) h in absurd (omega arith)
-
 -- An accepted load implies that no ground applies,
-pub load-free : (d : Decoded) (before s : State) (root total : ℕ) → loads d before ≡ (Accepted root total, s) → refusal (loadGrounds d before) ≡ 0
-load-free d before s root total h = go (refusal (loadGrounds d before)) refl
-  where
-    go : (g : ℕ) → refusal (loadGrounds d before) ≡ g → refusal (loadGrounds d before) ≡ 0
-    go zero e = e
-    go (suc g) e = absurd (refused-not g root total before s (load-refused d before g e ∙ h))
+pub load-free : (d : Decoded) (before : State) → loads d before .0 .number ≡ 0 → refusal (loadGrounds d before) ≡ 0
+load-free d before h = sym (load-number d before) ∙ h
 
 -- and that the bytes are the table of a plan.
-pub load-decodes : (bytes : List ℕ) (before s : State) (root total : ℕ) → loads (decode bytes) before ≡ (Accepted root total, s)
+pub load-decodes : (bytes : List ℕ) (before : State) → loads (decode bytes) before .0 .number ≡ 0
     → (P : Plan) × (decode bytes ≡ sound P)
 unfolding loadGrounds callGrounds planGrounds refusal
-load-decodes bytes before s root total h = go (decode bytes) refl
+load-decodes bytes before h = go (decode bytes) refl
   where
     go : (d : Decoded) → decode bytes ≡ d → (P : Plan) × (decode bytes ≡ sound P)
     go broken e =
-        let z : _≡_ {A = ℕ} 11 0 = sym (ap (λ (x : Decoded). refusal (loadGrounds x before)) e) ∙ load-free (decode bytes) before s root total h in
+        let z : _≡_ {A = ℕ} 11 0 = sym (ap (λ (x : Decoded). refusal (loadGrounds x before)) e) ∙ load-free (decode bytes) before h in
         absurd (omega arith)
     go (sound P) e = (P, e)
 
-module _ (P : Plan) (before s : State) (root total : ℕ) (h : loads (sound P) before ≡ (Accepted root total, s)) where
+module _ (P : Plan) (before : State) (h : loads (sound P) before .0 .number ≡ 0) where
   abbrev own : List ℕ
   own = take (ownMasks P) (before .masks)
 
   -- The tables as an accepted load leaves them hold what they must.
-  pub load-holds : StateHolds P (firstBook P s) (drop (ownMasks P) (before .masks)) (drop (ownCells P) (before .cells)) s
+  pub load-holds : (let s = loads (sound P) before .1 in StateHolds P (firstBook P s) (drop (ownMasks P) (before .masks)) (drop (ownCells P) (before .cells)) s)
   unfolding loadGrounds bookCells spelled firstBook
   load-holds =
-      let free = load-free (sound P) before s root total h in
+      let free = load-free (sound P) before h in
       let lent = lent-enough P before [] (λ Q k. []) free in
       let tail-masks = drop (ownMasks P) (before .masks) in
       let tail-cells = drop (ownCells P) (before .cells) in
       let left = tables (before .masks) (bookCells P (inMasks own) ++ tail-cells) in
-      let e : s ≡ left = sym (ap (λ (t : Loaded × State). t .1) h) ∙ load-cells P before free in
+      let e : loads (sound P) before .1 ≡ left = load-cells P before free in
       subst (λ (t : State). StateHolds P (firstBook P t) tail-masks tail-cells t) (sym e)
       (own-holds P (firstBook P left) tail-masks tail-cells left (tables own (bookCells P (inMasks own)))
       record {

@@ -18,16 +18,14 @@ use Rattle.table_format.specs.Decode.{Decoded, broken, sound}
 use Rattle.contracts.specs.State.{State, ownTables, withRest}
 use Rattle.contracts.specs.Call.{planGrounds, callGrounds}
 use Rattle.contracts.specs.declared.Improved.{Improved}
-use Rattle.contracts.specs.Load.{loadGrounds, loadedMasks, loadedTables, loadsOwn, loads}
-use Rattle.contracts.specs.MoveCall.{moveCallGrounds, cellsAfter, tablesAfter, movesOwn, moves}
+use Rattle.contracts.specs.Load.{loadRefused, loadGrounds, loadedMasks, loadedTables, loadsOwn, loads}
+use Rattle.contracts.specs.MoveCall.{moveRefused, moveCallGrounds, cellsAfter, tablesAfter, movesOwn, moves}
 use Rattle.contracts.specs.TrialCall.{trialsOwn, trials}
 use Rattle.contracts.specs.ImproveCall.{improveGrounds, Chosen, ImprovesOr, Improves}
 use Rattle.contracts.proofs.Calls.{lent-enough, AsLong, own-long, SamePast, same-past, rest-past, rest-own, same-own, same-grounds, call-past, call-same}
 use Rattle.contracts.proofs.Within.{move-length}
 use Rattle.contracts.specs.OwnParts.{SameTables, Allows, SameLent}
 use Rattle.contracts.specs.declared.Improved.the-variants as improved
-use Rattle.contracts.specs.declared.Loaded.the-variants as loaded
-use Rattle.contracts.specs.declared.Moved.the-variants as moved
 
 length-after : (P : Plan) (m : Move) (own cells : List ℕ) → ownCells P ≤ length cells
     → length (cellsAfter P m own (take (ownCells P) cells)) ≡ length (take (ownCells P) cells)
@@ -69,12 +67,12 @@ module _ (P : Plan) (s : State) where
   -- "An accepted move writes its masks and touched cells": what is past the plan's own masks and cells stays, accepted or not.
   pub move-past : (m : Move) → SamePast P s (moves (sound P) m s .1)
   unfolding moves
-  move-past m = call-past moved.Refused (movesOwn m) P (moveCallGrounds (sound P) s [] m) s (move-fits m P s)
+  move-past m = call-past moveRefused (movesOwn m) P (moveCallGrounds (sound P) s [] m) s (move-fits m P s)
 
   -- The same of load.
   pub load-past : SamePast P s (loads (sound P) s .1)
   unfolding loads
-  load-past = call-past loaded.Refused loadsOwn P (loadGrounds (sound P) s) s (load-fits P s)
+  load-past = call-past loadRefused loadsOwn P (loadGrounds (sound P) s) s (load-fits P s)
 
   improve-enough : (kinds scratch-length : ℕ) → refusal (improveGrounds (sound P) s (scratch-length ∷ []) kinds) ≡ 0 → ownCells P ≤ length (s .cells)
   unfolding improveGrounds
@@ -100,20 +98,20 @@ module _ (P : Plan) (s s′ : State) (t : SameTables P s s′) where
   pub load-sound : (loads (sound P) s .0 ≡ loads (sound P) s′ .0) × (ownTables P (loads (sound P) s .1) ≡ ownTables P (loads (sound P) s′ .1))
   unfolding loads loadGrounds
   load-sound =
-      call-same loaded.Refused loadsOwn P (loadGrounds (sound P) s) (loadGrounds (sound P) s′) s s′ t
+      call-same loadRefused loadsOwn P (loadGrounds (sound P) s) (loadGrounds (sound P) s′) s s′ t
       (same-grounds P s s′ [] [] (λ Q k. []) t refl) (load-fits P s) (load-fits P s′)
 
   pub move-sound : (m : Move) → (moves (sound P) m s .0 ≡ moves (sound P) m s′ .0) × (ownTables P (moves (sound P) m s .1) ≡ ownTables P (moves (sound P) m s′ .1))
   unfolding moves moveCallGrounds
   move-sound m =
-      call-same moved.Refused (movesOwn m) P (moveCallGrounds (sound P) s [] m) (moveCallGrounds (sound P) s′ [] m) s s′ t
+      call-same moveRefused (movesOwn m) P (moveCallGrounds (sound P) s [] m) (moveCallGrounds (sound P) s′ [] m) s s′ t
       (same-grounds P s s′ [] [] (λ Q k. moveGrounds Q k m) t refl) (move-fits m P s) (move-fits m P s′)
 
   pub trial-sound : (m : Move) (scratch scratch′ : List ℕ) → ltb (length scratch) (ownCells P) ≡ ltb (length scratch′) (ownCells P)
       → trials (sound P) m s (length scratch) ≡ trials (sound P) m s′ (length scratch′)
   unfolding trials moveCallGrounds someOf
   trial-sound m scratch scratch′ e =
-      call-same moved.Refused (trialsOwn m) P (moveCallGrounds (sound P) s (length scratch ∷ []) m) (moveCallGrounds (sound P) s′ (length scratch′ ∷ []) m) s s′ t
+      call-same moveRefused (trialsOwn m) P (moveCallGrounds (sound P) s (length scratch ∷ []) m) (moveCallGrounds (sound P) s′ (length scratch′ ∷ []) m) s s′ t
       (same-grounds P s s′ (length scratch ∷ []) (length scratch′ ∷ []) (λ Q k. moveGrounds Q k m) t (ap (λ (b : Bool). b || false) e))
       (trial-fits m P s (length scratch ∷ [])) (trial-fits m P s′ (length scratch′ ∷ [])) .0
 

@@ -22,10 +22,9 @@ use Rattle.table_format.specs.inner.Facts.{PlanFacts}
 use Rattle.table_format.proofs.Encoding.{decode-sound}
 use Rattle.table_format.proofs.Facts.{plan-facts}
 use Rattle.contracts.specs.State.{State, tables, ownTables, withRest}
-use Rattle.contracts.specs.declared.Moved.{Moved}
 use Rattle.contracts.specs.declared.Improved.{Improved}
 use Rattle.contracts.specs.Call.{callGrounds, callOr, call}
-use Rattle.contracts.specs.MoveCall.{moveCallGrounds, cellsAfter, moveAnswer, tablesAfter, movesOwn, moves}
+use Rattle.contracts.specs.MoveCall.{MoveValues, moveRefused, moveAccepted, moveCallGrounds, cellsAfter, moveAnswer, tablesAfter, movesOwn, moves}
 use Rattle.contracts.specs.TrialCall.{trialsOwn, trials}
 use Rattle.contracts.specs.ImproveCall.{improveGrounds, rootNow, rootAfter, MadeBest, NoneBetter, Chosen, ImprovesOr, Improves}
 use Rattle.contracts.specs.Book.{Book, fedMove, bookMade, movedBook, chosenStep, bookStep}
@@ -35,7 +34,6 @@ use Rattle.contracts.proofs.Grounds.{passes}
 use Rattle.contracts.proofs.Within.{move-within, move-length}
 use Rattle.logic.proofs.Changed as changed
 use Rattle.contracts.specs.declared.Improved.the-variants as improved
-use Rattle.contracts.specs.declared.Moved.the-variants as moved
 
 -- the book that own masks spell, and its tables
 abbrev spelt : List ℕ → Book
@@ -249,33 +247,33 @@ module _ (P : Plan) (facts : PlanFacts P) (b : Book) (tail-masks tail-cells : Li
   after b′ own′ o e = own-holds P b′ tail-masks tail-cells s′ own′ o (e ∙ rest-is P b tail-masks tail-cells s h own′)
 
   -- a move by the first ground that applies to it
-  move-at : (m : Move) (r : Moved) (g : ℕ) → refusal (moveGrounds P (b .sets) m) ≡ g → (r, s′) ≡ callOr moved.Refused g (sound P) (movesOwn m) s
+  move-at : (m : Move) (r : MoveValues) (g : ℕ) → refusal (moveGrounds P (b .sets) m) ≡ g → (r, s′) ≡ callOr moveRefused g (sound P) (movesOwn m) s
       → MovedRight g P (b .sets) m r × StateHolds P (cond (eqb g 0) (movedBook P m b) b) tail-masks tail-cells s′
-  unfolding callOr movesOwn moveAnswer MovedRight rootNow rootAfter
+  unfolding callOr movesOwn moveAnswer moveAccepted MovedRight rootNow rootAfter
   move-at m r zero q e =
       let o = move-own P facts m b own kept (grounds-legal P (b .sets) m q) in
-      (rw (ap (λ (t : Moved × State). t .0) e) (o .0), after (movedBook P m b) (tablesAfter P m own) (o .1) (ap (λ (t : Moved × State). t .1) e))
+      (rw (ap (λ (t : MoveValues × State). t .0) e) (refl, o .0), after (movedBook P m b) (tablesAfter P m own) (o .1) (ap (λ (t : MoveValues × State). t .1) e))
   move-at m r (suc g) q e = (
-    ap (λ (t : Moved × State). t .0) e,
-    rw (ne-eqb (suc g) 0 (λ z. omega arith)) (subst (StateHolds P b tail-masks tail-cells) (sym (ap (λ (t : Moved × State). t .1) e)) h),
+    ap (λ (t : MoveValues × State). t .0) e,
+    rw (ne-eqb (suc g) 0 (λ z. omega arith)) (subst (StateHolds P b tail-masks tail-cells) (sym (ap (λ (t : MoveValues × State). t .1) e)) h),
   )
 
-  move-step : (m : Move) (r : Moved) → (r, s′) ≡ moves (sound P) m s
+  move-step : (m : Move) (r : MoveValues) → (r, s′) ≡ moves (sound P) m s
       → MovedRight (refusal (moveGrounds P (b .sets) m)) P (b .sets) m r × StateHolds P (bookStep P b (fedMove m)) tail-masks tail-cells s′
   unfolding moves moveCallGrounds call bookStep someOf refusal
   move-step m r e =
       let g : refusal (callGrounds (sound P) s [] (λ Q k. moveGrounds Q k m)) ≡ refusal (moveGrounds P (b .sets) m) =
       tables-pass P s [] (λ Q k. moveGrounds Q k m) lent
       ∙ ap (λ (j : Sets). refusal (moveGrounds P j m)) (h .kept .masks-are) in
-      move-at m r (refusal (moveGrounds P (b .sets) m)) refl (e ∙ ap (λ (i : ℕ). callOr moved.Refused i (sound P) (movesOwn m) s) g)
+      move-at m r (refusal (moveGrounds P (b .sets) m)) refl (e ∙ ap (λ (i : ℕ). callOr moveRefused i (sound P) (movesOwn m) s) g)
 
-  trial-at : (m : Move) (r : Moved) (g : ℕ) → (g ≡ 0 → legal P (b .sets) m ≡ true) → r ≡ callOr moved.Refused g (sound P) (trialsOwn m) s .0
+  trial-at : (m : Move) (r : MoveValues) (g : ℕ) → (g ≡ 0 → legal P (b .sets) m ≡ true) → r ≡ callOr moveRefused g (sound P) (trialsOwn m) s .0
       → MovedRight g P (b .sets) m r
-  unfolding callOr trialsOwn moveAnswer MovedRight rootNow rootAfter
-  trial-at m r zero H e = rw e (move-own P facts m b own kept (H refl) .0)
+  unfolding callOr trialsOwn moveAnswer moveAccepted MovedRight rootNow rootAfter
+  trial-at m r zero H e = rw e (refl, move-own P facts m b own kept (H refl) .0)
   trial-at m r (suc g) H e = e
 
-  trial-step : (m : Move) (scratch : List ℕ) (r : Moved) → r ≡ trials (sound P) m s (length scratch)
+  trial-step : (m : Move) (scratch : List ℕ) (r : MoveValues) → r ≡ trials (sound P) m s (length scratch)
       → MovedRight (refusal (scratchGround P scratch ∷ moveGrounds P (b .sets) m)) P (b .sets) m r
   unfolding trials moveCallGrounds call scratchGround
   trial-step m scratch r e =
@@ -283,7 +281,7 @@ module _ (P : Plan) (facts : PlanFacts P) (b : Book) (tail-masks tail-cells : Li
       ∙ ap (λ (j : Sets). refusal (scratchGround P scratch ∷ moveGrounds P j m)) (h .kept .masks-are) in
       trial-at m r (refusal (scratchGround P scratch ∷ moveGrounds P (b .sets) m))
       (λ z. grounds-legal P (b .sets) m (later-ground 11 (ltb (length scratch) (ownCells P)) (moveGrounds P (b .sets) m) z))
-      (e ∙ ap (λ (i : ℕ). callOr moved.Refused i (sound P) (trialsOwn m) s .0) g)
+      (e ∙ ap (λ (i : ℕ). callOr moveRefused i (sound P) (trialsOwn m) s .0) g)
 
   improve-case : (kinds : ℕ) (r : Improved) (g : ℕ) → ImprovesOr g (sound P) kinds s r s′
       → ImprovedRight g P (b .sets) kinds r × StateHolds P (chosenStep P b r) tail-masks tail-cells s′

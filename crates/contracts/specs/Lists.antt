@@ -13,21 +13,19 @@ use Rattle.logic.specs.Moves.{Ground, refusal, moveGrounds, movePairs, kindsKno
 use Rattle.logic.specs.Change.{pairsChange, differing, touchedCount}
 use Rattle.table_format.specs.Decode.{decode}
 use Rattle.contracts.specs.State.{State}
-use Rattle.contracts.specs.declared.Moved.{Moved}
 use Rattle.contracts.specs.declared.Improved.{Improved}
-use Rattle.contracts.specs.MoveCall.{moves}
+use Rattle.contracts.specs.MoveCall.{MoveValues, moveRefused, moves}
 use Rattle.contracts.specs.TrialCall.{trials}
 use Rattle.contracts.specs.ImproveCall.{Candidate, Improves}
 use Rattle.contracts.specs.Least.{NoneBelow}
 use Rattle.contracts.specs.Book.{Book, Fed, fedMove, fedTrial, fedImprove, bookMade, bookStep}
 use Rattle.contracts.specs.declared.Improved.the-variants as improved
-use Rattle.contracts.specs.declared.Moved.the-variants as moved
 
 -- One call of a list with its answer: its kind, its arguments, the scratch that it is lent, and what it answered. "Scratch may be
 -- another table at every call, hold anything or be too short."
 pub data Exchange : Type 0 where
-  moveCall : Move → Moved → Exchange
-  trialCall : Move → List ℕ → Moved → Exchange
+  moveCall : Move → MoveValues → Exchange
+  trialCall : Move → List ℕ → MoveValues → Exchange
   improveCall : ℕ → List ℕ → Improved → Exchange
 
 -- One call, by the very definitions that the calls' contracts cite; s is the state before it and s′ the state after it.
@@ -68,10 +66,9 @@ pub record NumbersRight (P : Plan) (k : Sets) (m : Move) (before after changed :
   pub changed-touched : changed ≤ touchedCount P (pairsChange (movePairs P k m))
 
 -- A move or a trial that meets a ground answers its number; any other is accepted with right numbers.
-unfoldable pub MovedRight : ℕ → Plan → Sets → Move → Moved → Type 0
-MovedRight zero P k m (moved.Accepted before after changed) = NumbersRight P k m before after changed
-MovedRight zero P k m (moved.Refused number) = ⊥
-MovedRight (suc g) P k m r = r ≡ moved.Refused (suc g)
+unfoldable pub MovedRight : ℕ → Plan → Sets → Move → MoveValues → Type 0
+MovedRight zero P k m v = (v .number ≡ 0) × NumbersRight P k m (v .before) (v .after) (v .changed)
+MovedRight (suc g) P k m v = v ≡ moveRefused (suc g)
 
 -- 12 for scratch that is too short.
 unfoldable pub scratchGround : Plan → List ℕ → Ground

@@ -1,4 +1,6 @@
 -- A move as a function of the tables: paper 01, sections One move and Grounds for refusal.
+use mathlib.Core.Path.{_≡_}
+use mathlib.Core.Logic.{_≢_}
 use mathlib.Core.List.{List, []}
 use Prim.Native.Nat.{ℕ}
 use lib.ListN.{getD}
@@ -13,22 +15,34 @@ use Rattle.contracts.specs.Call.{callGrounds, call}
 use Rattle.contracts.specs.declared.Moved.{Moved}
 use Rattle.contracts.specs.declared.Moved.the-variants.{Accepted, Refused}
 
--- "The answer is the number with all other fields 0": the number and the values of each case.
-unfoldable pub movedNumber : Moved → ℕ
-movedNumber (Accepted before after changed) = 0
-movedNumber (Refused number) = number
+-- What a move and a trial answer, by 01's number and values: "root before, root after, and how many cells differ from before".
+pub record MoveValues : Type 0 where
+  pub number : ℕ
+  pub before : ℕ
+  pub after : ℕ
+  pub changed : ℕ
 
-unfoldable pub movedBefore : Moved → ℕ
-movedBefore (Accepted before after changed) = before
-movedBefore (Refused number) = 0
+-- "The answer is the number with all other fields 0."
+unfoldable pub moveRefused : ℕ → MoveValues
+moveRefused number = record { number = number; before = 0; after = 0; changed = 0 }
 
-unfoldable pub movedAfter : Moved → ℕ
-movedAfter (Accepted before after changed) = after
-movedAfter (Refused number) = 0
+unfoldable pub moveAccepted : ℕ → ℕ → ℕ → MoveValues
+moveAccepted before after changed = record { number = 0; before = before; after = after; changed = changed }
 
-unfoldable pub movedChanged : Moved → ℕ
-movedChanged (Accepted before after changed) = changed
-movedChanged (Refused number) = 0
+-- The number and the values of each case of the enum.
+unfoldable pub moveValues : Moved → MoveValues
+moveValues (Accepted before after changed) = moveAccepted before after changed
+moveValues (Refused number) = moveRefused number
+
+-- No refusal has the number 0, so that the values tell the case.
+unfoldable pub MoveTold : Moved → Type 0
+MoveTold (Accepted before after changed) = Unit {0}
+MoveTold (Refused number) = number ≢ 0
+
+-- The answer of a move or a trial is as given.
+pub record MovedAs (given : MoveValues) (r : Moved) : Type 0 where
+  pub values-are : moveValues r ≡ given
+  pub told : MoveTold r
 
 -- "The other calls try 11 to 15": a move, and a trial, which is lent scratch.
 unfoldable pub moveCallGrounds : Decoded → State → List ℕ → Move → List Ground
@@ -39,17 +53,22 @@ unfoldable pub cellsAfter : Plan → Move → List ℕ → List ℕ → List ℕ
 cellsAfter P m own before = newCells P (spelled P (moveMasks P m own)) (pairsChange (movePairs P (inMasks own) m)) before
 
 -- "and returns root before, root after, and how many cells differ from before".
-unfoldable pub moveAnswer : Plan → Move → List ℕ → List ℕ → Moved
-moveAnswer P m own before = Accepted (getD before 0 0) (getD (cellsAfter P m own before) 0 0) (differing before (cellsAfter P m own before))
+unfoldable pub moveAnswer : Plan → Move → List ℕ → List ℕ → MoveValues
+moveAnswer P m own before = moveAccepted (getD before 0 0) (getD (cellsAfter P m own before) 0 0) (differing before (cellsAfter P m own before))
 
 -- "An accepted move writes its masks and touched cells": the plan's own tables afterwards.
 unfoldable pub tablesAfter : Plan → Move → State → State
 tablesAfter P m own = record { masks = moveMasks P m (own .masks); cells = cellsAfter P m (own .masks) (own .cells) }
 
 -- An accepted move over the plan's own tables.
-unfoldable pub movesOwn : Move → Plan → State → Moved × State
+unfoldable pub movesOwn : Move → Plan → State → MoveValues × State
 movesOwn m P own = (moveAnswer P m (own .masks) (own .cells), tablesAfter P m own)
 
 -- The move as a function of the tables: the answer, every mask and every cell afterwards.
-unfoldable pub moves : Decoded → Move → State → Moved × State
-moves d m s = call Refused (moveCallGrounds d s [] m) d (movesOwn m) s
+unfoldable pub moves : Decoded → Move → State → MoveValues × State
+moves d m s = call moveRefused (moveCallGrounds d s [] m) d (movesOwn m) s
+
+-- What `make_move` promises: its answer by 01's number and values, and every mask and every cell afterwards.
+pub record MovePromise (given : MoveValues × State) (r : Moved) (s′ : State) : Type 0 where
+  pub answers : MovedAs (given .0) r
+  pub tables-are : s′ ≡ given .1

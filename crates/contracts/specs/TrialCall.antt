@@ -10,17 +10,15 @@ use Rattle.logic.specs.Cells.{ownCells}
 use Rattle.table_format.specs.Decode.{Decoded, broken, sound}
 use Rattle.contracts.specs.State.{State}
 use Rattle.contracts.specs.Call.{call}
-use Rattle.contracts.specs.declared.Moved.{Moved}
-use Rattle.contracts.specs.declared.Moved.the-variants.{Refused}
-use Rattle.contracts.specs.MoveCall.{moveCallGrounds, moveAnswer}
+use Rattle.contracts.specs.MoveCall.{MoveValues, moveRefused, moveCallGrounds, moveAnswer}
 
 -- An accepted trial over the plan's own tables: a move's answer, and the tables stay.
-unfoldable pub trialsOwn : Move → Plan → State → Moved × State
+unfoldable pub trialsOwn : Move → Plan → State → MoveValues × State
 trialsOwn m P own = (moveAnswer P m (own .masks) (own .cells), own)
 
 -- The answer over the tables and the length of scratch.
-unfoldable pub trials : Decoded → Move → State → ℕ → Moved
-trials d m s scratch-length = call Refused (moveCallGrounds d s (scratch-length ∷ []) m) d (trialsOwn m) s .0
+unfoldable pub trials : Decoded → Move → State → ℕ → MoveValues
+trials d m s scratch-length = call moveRefused (moveCallGrounds d s (scratch-length ∷ []) m) d (trialsOwn m) s .0
 
 -- How many cells of scratch an accepted call may write.
 unfoldable pub scratchOwn : Decoded → ℕ

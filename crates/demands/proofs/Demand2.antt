@@ -28,10 +28,8 @@ use Rattle.table_format.proofs.Encoding.{decode-sound}
 use Rattle.table_format.proofs.Facts.{plan-facts}
 use Rattle.contracts.specs.declared.Answer.{Answer}
 use Rattle.contracts.specs.State.{State, tables}
-use Rattle.contracts.specs.Load.{loadNumber, loadRoot, loadTotal, loadGrounds, loads}
+use Rattle.contracts.specs.Load.{LoadValues, loadGrounds, loads}
 use Rattle.contracts.specs.Call.{planGrounds, tableGrounds, callGrounds}
-use Rattle.contracts.specs.declared.Loaded.{Loaded}
-use Rattle.contracts.specs.declared.Loaded.the-variants.{Accepted}
 use Rattle.contracts.proofs.LoadAnswers.{load-number, load-is, load-zero}
 use Rattle.contracts.proofs.Lists.{load-free}
 use Rattle.demands.specs.ReadThenLoad.{answer, loaded}
@@ -65,9 +63,8 @@ not-11 P s e =
     go false true q = omega arith
     go false false q = omega arith
 
-total-is : (P : Plan) (s : State) → refusal (loadGrounds (sound P) s) ≡ 0 → loadTotal (loads (sound P) s .0) ≡ ownCells P
-unfolding loadTotal
-total-is P s e = ap (λ (x : Loaded × State). loadTotal (x .0)) (load-is P s e)
+total-is : (P : Plan) (s : State) → refusal (loadGrounds (sound P) s) ≡ 0 → loads (sound P) s .0 .cells ≡ ownCells P
+total-is P s e = ap (λ (x : LoadValues × State). x .0 .cells) (load-is P s e)
 
 some-node : (f : Forest) → 1 ≤ nodeCount f → Nonempty f
 unfolding nodeCount Nonempty
@@ -80,22 +77,21 @@ nonempty bytes P d = let F = plan-facts P (decode-sound bytes P d .rules) in som
 
 -- From load's own contract: an accepted load answers 0 exactly when the plan is true under its own masks, with every own cell
 -- Definition 5's penalty and everything else as it was.
-pub load-right : (bytes : List ℕ) (before after : State) (root total : ℕ) → loads (decode bytes) before ≡ (Accepted root total, after)
-    → (P : Plan) → decode bytes ≡ sound P → LoadedTrue P before root total after
-unfolding loadRoot loadTotal
-load-right bytes before after root total h P d =
+pub load-right : (bytes : List ℕ) (before : State) → loads (decode bytes) before .0 .number ≡ 0 → (P : Plan) → decode bytes ≡ sound P
+    → (let r = loads (decode bytes) before in LoadedTrue P before (r .0 .root) (r .0 .cells) (r .1))
+load-right bytes before h P d =
     let k = spelled P (take (ownMasks P) (before .masks)) in
-    let h′ = sym (ap (λ (x : Decoded). loads x before) d) ∙ h in
-    let free = load-free (sound P) before after root total h′ in
-    let e = sym h′ ∙ load-is P before free in
-    let r : root ≡ rootPenalty P k = ap (λ (x : Loaded × State). loadRoot (x .0)) e in
+    let given : loads (decode bytes) before ≡ loads (sound P) before = ap (λ (x : Decoded). loads x before) d in
+    let free = load-free (sound P) before (sym (ap (λ (x : LoadValues × State). x .0 .number) given) ∙ h) in
+    let e = given ∙ load-is P before free in
+    let r : loads (decode bytes) before .0 .root ≡ rootPenalty P k = ap (λ (x : LoadValues × State). x .0 .root) e in
     let z = root-zero P k (nonempty bytes P d) in
     record {
       zero-when-true = ((λ q. z .0 (sym r ∙ q)), (λ q. r ∙ z .1 q));
       root-is = r;
-      total-is = ap (λ (x : Loaded × State). loadTotal (x .0)) e;
-      cells-are = ap (λ (x : Loaded × State). x .1 .cells) e;
-      masks-kept = ap (λ (x : Loaded × State). x .1 .masks) e;
+      total-is = ap (λ (x : LoadValues × State). x .0 .cells) e;
+      cells-are = ap (λ (x : LoadValues × State). x .1 .cells) e;
+      masks-kept = ap (λ (x : LoadValues × State). x .1 .masks) e;
     }
 
 module _ (u : ℕ) (s before : List ℕ) (accepted : readNumber (reads u s before .0) ≡ 0) where
@@ -141,24 +137,24 @@ module _ (u : ℕ) (s before : List ℕ) (accepted : readNumber (answer u s befo
   loads-plan = ap (λ (d : Decoded). loads d (tables masks cells) .0) (decodes u s before taken)
 
   -- The table of an accepted reading never meets ground 11.
-  pub never-11 : loadNumber (loaded u s before masks cells) ≡ 11 → ⊥
-  never-11 e = not-11 read-plan (tables masks cells) (sym (load-number (sound read-plan) (tables masks cells)) ∙ sym (ap loadNumber loads-plan) ∙ e)
+  pub never-11 : loaded u s before masks cells .number ≡ 11 → ⊥
+  never-11 e = not-11 read-plan (tables masks cells) (sym (load-number (sound read-plan) (tables masks cells)) ∙ sym (ap (λ (v : LoadValues). v .number) loads-plan) ∙ e)
 
-  no-ground : loadNumber (loaded u s before masks cells) ≡ 0 → refusal (loadGrounds (sound read-plan) (tables masks cells)) ≡ 0
-  no-ground e = sym (load-number (sound read-plan) (tables masks cells)) ∙ sym (ap loadNumber loads-plan) ∙ e
+  no-ground : loaded u s before masks cells .number ≡ 0 → refusal (loadGrounds (sound read-plan) (tables masks cells)) ≡ 0
+  no-ground e = sym (load-number (sound read-plan) (tables masks cells)) ∙ sym (ap (λ (v : LoadValues). v .number) loads-plan) ∙ e
 
   -- Reading and an accepted load return the same cell total.
-  pub same-total : loadNumber (loaded u s before masks cells) ≡ 0 → loadTotal (loaded u s before masks cells) ≡ readTotal (answer u s before)
+  pub same-total : loaded u s before masks cells .number ≡ 0 → loaded u s before masks cells .cells ≡ readTotal (answer u s before)
   unfolding answer readTotal read-plan plan
   same-total e =
-      ap loadTotal loads-plan ∙ total-is read-plan (tables masks cells) (no-ground e)
+      ap (λ (v : LoadValues). v .cells) loads-plan ∙ total-is read-plan (tables masks cells) (no-ground e)
       ∙ sym (ap (λ (x : Answer × List ℕ). readTotal (x .0)) (admitted-read u s before (admitted u s before taken)))
 
   -- Demand 2, end to end: after an accepted reading and an accepted load the root is 0 exactly when the text is true under the masks.
-  pub zero-when-true : loadNumber (loaded u s before masks cells) ≡ 0 → loadRoot (loaded u s before masks cells) ≡ 0 ↔ TextTrue u masks s
+  pub zero-when-true : loaded u s before masks cells .number ≡ 0 → loaded u s before masks cells .root ≡ 0 ↔ TextTrue u masks s
   unfolding read-plan
   zero-when-true e =
       let z = load-zero read-plan (tables masks cells) (nonempty (reads u s before .1) read-plan (decodes u s before taken)) (no-ground e) in
       let t = text-true u s before taken masks in
-      let r : loadRoot (loaded u s before masks cells) ≡ loadRoot (loads (sound read-plan) (tables masks cells) .0) = ap loadRoot loads-plan in
+      let r : loaded u s before masks cells .root ≡ loads (sound read-plan) (tables masks cells) .0 .root = ap (λ (v : LoadValues). v .root) loads-plan in
       ((λ h. t .0 (z .0 (sym r ∙ h))), (λ h. r ∙ z .1 (t .1 h)))

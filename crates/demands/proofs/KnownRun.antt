@@ -22,21 +22,18 @@ use Rattle.table_format.proofs.Encoding.{decode-complete}
 use Rattle.contracts.specs.State.{State, tables, ownTables, withRest}
 use Rattle.contracts.specs.Call.{planGrounds, tableGrounds, callGrounds, callOr, call}
 use Rattle.contracts.specs.Book.{firstBook}
-use Rattle.contracts.specs.Load.{loadGrounds, loadedMasks, loadedTables, loadsOwn, loads}
-use Rattle.contracts.specs.declared.Moved.{Moved}
+use Rattle.contracts.specs.Load.{LoadValues, loadRefused, loadGrounds, loadedMasks, loadedTables, loadsOwn, loads}
 use Rattle.contracts.specs.declared.Improved.{Improved}
-use Rattle.contracts.specs.MoveCall.{moveCallGrounds, cellsAfter, moveAnswer, tablesAfter, movesOwn, moves}
+use Rattle.contracts.specs.MoveCall.{MoveValues, moveRefused, moveAccepted, moveCallGrounds, cellsAfter, moveAnswer, tablesAfter, movesOwn, moves}
 use Rattle.contracts.specs.TrialCall.{trialsOwn, trials}
 use Rattle.contracts.specs.ImproveCall.{improveGrounds, rootNow, rootAfter, Chosen, ImprovesOr, Improves}
 use Rattle.contracts.specs.Lists.{Exchange, moveCall, trialCall, improveCall, Step, Run, ended, called, bookAfter, AllRight, AsBook}
 use Rattle.demands.proofs.Demand3.{lists-right}
-use Rattle.contracts.specs.declared.Moved.the-variants as moved
-use Rattle.contracts.specs.declared.Loaded.the-variants as loaded
 use Rattle.contracts.specs.declared.Improved.the-variants as improved
 
 -- what computes here
 computing : Unit {0}
-unfolding literalOf testKind kindNumber nodeCount childDepth indicator portsIn configuration configured inMask inMasks ownMasks spelled withinPorts enter leave portOf compare sizePenalty testPenalty literalPenalty sum least copy combine eachPort below penalties penalty cellCount placeOf tupleAt tabulate siblingFirst layout ownCells cells rootPenalty moveKind fieldsKnown fieldsFit known fits legal refusal moveGrounds kindMasks namedMasks moveMasks kindPairs namedPairs movePairs kindWeight kindsKnown ofKinds someOf pairsChange memberHit hit nodeHit forestHit touched modulus differences newNumbers renew cellOf renewals newCell newCells differing literal over plan planA move everyNode treeCount arityRule mayNest nestingRule depthRule testRule literalRule innerRule nodeRule formulaRule mostCells planRule allWithin loadGrounds loadedMasks loadedTables loadsOwn loads planGrounds tableGrounds callGrounds callOr call moveCallGrounds cellsAfter moveAnswer movesOwn moves trialsOwn trials improveGrounds rootNow rootAfter Chosen ImprovesOr Improves Step ownTables withRest tablesAfter
+unfolding literalOf testKind kindNumber nodeCount childDepth indicator portsIn configuration configured inMask inMasks ownMasks spelled withinPorts enter leave portOf compare sizePenalty testPenalty literalPenalty sum least copy combine eachPort below penalties penalty cellCount placeOf tupleAt tabulate siblingFirst layout ownCells cells rootPenalty moveKind fieldsKnown fieldsFit known fits legal refusal moveGrounds kindMasks namedMasks moveMasks kindPairs namedPairs movePairs kindWeight kindsKnown ofKinds someOf pairsChange memberHit hit nodeHit forestHit touched modulus differences newNumbers renew cellOf renewals newCell newCells differing literal over plan planA move everyNode treeCount arityRule mayNest nestingRule depthRule testRule literalRule innerRule nodeRule formulaRule mostCells planRule allWithin loadGrounds loadedMasks loadedTables loadRefused loadsOwn loads planGrounds tableGrounds callGrounds callOr call moveCallGrounds cellsAfter moveRefused moveAccepted moveAnswer movesOwn moves trialsOwn trials improveGrounds rootNow rootAfter Chosen ImprovesOr Improves Step ownTables withRest tablesAfter
 computing = tt
 
 -- plan A's cells under its masks, and after each of four moves
@@ -62,25 +59,25 @@ masksWith S T I = S ∷ T ∷ I ∷ 255 ∷ []
 abbrev lent : List ℕ → List ℕ
 lent own = own ++ 77 ∷ []
 
-abbrev outcome : Moved → List ℕ → List ℕ → Moved × State
+abbrev outcome : MoveValues → List ℕ → List ℕ → MoveValues × State
 outcome r masks cells = (r, tables masks cells)
 
 -- one move over plan A's tables as the load leaves them
-abbrev moved-A : ℕ → ℕ → ℕ → ℕ → ℕ → Moved × State
+abbrev moved-A : ℕ → ℕ → ℕ → ℕ → ℕ → MoveValues × State
 moved-A kind s t p q = moves (sound planA) (move kind s t p q) (tables (masksWith 3 7 1) (lent cellsA))
 
 -- S has ports 0 and 1, T 0 to 2, I 0. Add 2 to I; drop 1 from T; transfer 2 from T to I; swap 0 and 2 in I.
-pub known-moves : (moved-A 1 2 0 2 0 ≡ outcome (moved.Accepted 1 3 8) (masksWith 3 7 5) (lent cellsAdd))
-    × (moved-A 2 1 0 1 0 ≡ outcome (moved.Accepted 1 0 8) (masksWith 3 5 1) (lent cellsDrop))
-    × (moved-A 3 1 2 2 0 ≡ outcome (moved.Accepted 1 3 11) (masksWith 3 3 5) (lent cellsTransfer))
-    × (moved-A 4 2 0 0 2 ≡ outcome (moved.Accepted 1 3 11) (masksWith 3 7 4) (lent cellsSwap))
+pub known-moves : (moved-A 1 2 0 2 0 ≡ outcome (moveAccepted 1 3 8) (masksWith 3 7 5) (lent cellsAdd))
+    × (moved-A 2 1 0 1 0 ≡ outcome (moveAccepted 1 0 8) (masksWith 3 5 1) (lent cellsDrop))
+    × (moved-A 3 1 2 2 0 ≡ outcome (moveAccepted 1 3 11) (masksWith 3 3 5) (lent cellsTransfer))
+    × (moved-A 4 2 0 0 2 ≡ outcome (moveAccepted 1 3 11) (masksWith 3 7 4) (lent cellsSwap))
 unfolding computing
 known-moves = (refl, refl, refl, refl)
 
 -- Add 0 to S, drop 2 from S, transfer 0 from T to S, swap 0 and 1 in S: each breaks its condition. A field that the kind doesn't use
 -- is not 0; kinds 0 and 5; a fourth set, a fourth port.
-abbrev refused-A : ℕ → Moved × State
-refused-A number = outcome (moved.Refused number) (masksWith 3 7 1) (lent cellsA)
+abbrev refused-A : ℕ → MoveValues × State
+refused-A number = outcome (moveRefused number) (masksWith 3 7 1) (lent cellsA)
 
 pub known-refusals : (moved-A 1 0 0 0 0 ≡ refused-A 15)
     × (moved-A 2 0 0 2 0 ≡ refused-A 15)
@@ -98,9 +95,9 @@ unfolding computing
 known-refusals = (refl, refl, refl, refl, refl, refl, refl, refl, refl, refl, refl, refl)
 
 -- 12 before 13: a mask short; a cell short; then a mask of the plan's own with port 3.
-pub known-tables : (moves (sound planA) (move 1 0 0 0 0) (tables (8 ∷ 7 ∷ []) (lent cellsA)) ≡ outcome (moved.Refused 12) (8 ∷ 7 ∷ []) (lent cellsA))
-    × (moves (sound planA) (move 1 0 0 0 0) (tables (masksWith 8 7 1) (0 ∷ [])) ≡ outcome (moved.Refused 12) (masksWith 8 7 1) (0 ∷ []))
-    × (moves (sound planA) (move 0 0 0 0 0) (tables (masksWith 8 7 1) (lent cellsA)) ≡ outcome (moved.Refused 13) (masksWith 8 7 1) (lent cellsA))
+pub known-tables : (moves (sound planA) (move 1 0 0 0 0) (tables (8 ∷ 7 ∷ []) (lent cellsA)) ≡ outcome (moveRefused 12) (8 ∷ 7 ∷ []) (lent cellsA))
+    × (moves (sound planA) (move 1 0 0 0 0) (tables (masksWith 8 7 1) (0 ∷ [])) ≡ outcome (moveRefused 12) (masksWith 8 7 1) (0 ∷ []))
+    × (moves (sound planA) (move 0 0 0 0 0) (tables (masksWith 8 7 1) (lent cellsA)) ≡ outcome (moveRefused 13) (masksWith 8 7 1) (lent cellsA))
 unfolding computing
 known-tables = (refl, refl, refl)
 
@@ -151,7 +148,7 @@ decode-A = decode-complete bytesA planA record { rest = 99 ∷ []; is = refl; ru
 abbrev unloaded : State
 unloaded = tables (masksWith 3 7 1) (lent (replicate 34 4294967295))
 
-pub known-load : loads (decode bytesA) unloaded ≡ (loaded.Accepted 1 34, tables (masksWith 3 7 1) (lent cellsA))
+pub known-load : loads (decode bytesA) unloaded ≡ (record { number = 0; root = 1; cells = 34 }, tables (masksWith 3 7 1) (lent cellsA))
 unfolding computing
 known-load = ap (λ (d : Decoded). loads d unloaded) decode-A
 
@@ -210,11 +207,11 @@ unfolding computing
 improve-none = (refl, refl)
 
 -- one call of a list over plan A's table
-move-called : (m : Move) (r : Moved) (s s′ : State) → (r, s′) ≡ moves (sound planA) m s → Step bytesA s (moveCall m r) s′
+move-called : (m : Move) (r : MoveValues) (s s′ : State) → (r, s′) ≡ moves (sound planA) m s → Step bytesA s (moveCall m r) s′
 unfolding Step
 move-called m r s s′ e = e ∙ ap (λ (d : Decoded). moves d m s) (sym decode-A)
 
-trial-called : (m : Move) (lent-scratch : List ℕ) (r : Moved) (s : State)
+trial-called : (m : Move) (lent-scratch : List ℕ) (r : MoveValues) (s : State)
     → r ≡ trials (sound planA) m s (length lent-scratch) → Step bytesA s (trialCall m lent-scratch r) s
 unfolding Step
 trial-called m lent-scratch r s e = (e ∙ ap (λ (d : Decoded). trials d m s (length lent-scratch)) (sym decode-A), refl)
@@ -227,29 +224,29 @@ improve-called kinds lent-scratch r s s′ x = subst (λ (d : Decoded). Improves
 -- A list from the tables as the load leaves them: B's drop (1 before, 0 after, 8 changed), an add that is refused, and "no better
 -- move" of any kind.
 abbrev pub knownExchanges : List Exchange
-knownExchanges = moveCall (move 2 1 0 1 0) (moved.Accepted 1 0 8) ∷ moveCall (move 1 0 0 0 0) (moved.Refused 15) ∷ improveCall 15 scratch (improved.NoBetter 0) ∷ []
+knownExchanges = moveCall (move 2 1 0 1 0) (moveAccepted 1 0 8) ∷ moveCall (move 1 0 0 0 0) (moveRefused 15) ∷ improveCall 15 scratch (improved.NoBetter 0) ∷ []
 
 pub known-run : Run bytesA stateA knownExchanges stateDrop
 unfolding computing
 known-run =
-    called (move-called (move 2 1 0 1 0) (moved.Accepted 1 0 8) stateA stateDrop refl)
-    (called (move-called (move 1 0 0 0 0) (moved.Refused 15) stateDrop stateDrop refl)
+    called (move-called (move 2 1 0 1 0) (moveAccepted 1 0 8) stateA stateDrop refl)
+    (called (move-called (move 1 0 0 0 0) (moveRefused 15) stateDrop stateDrop refl)
     (called (improve-called 15 scratch (improved.NoBetter 0) stateDrop stateDrop none-better) ended))
 
 -- Another: improve with each of its answers, and trials.
 pub known-run-improve : Run bytesA stateA
     (improveCall 15 short (improved.Refused 12) ∷ improveCall 0 scratch (improved.Refused 14)
-    ∷ trialCall (move 2 1 0 1 0) scratch (moved.Accepted 1 0 8) ∷ trialCall (move 2 1 0 1 0) short (moved.Refused 12)
-    ∷ trialCall (move 1 0 0 0 0) scratch (moved.Refused 15) ∷ improveCall 15 scratch (improved.Made (move 2 1 0 1 0) 1 0 8)
+    ∷ trialCall (move 2 1 0 1 0) scratch (moveAccepted 1 0 8) ∷ trialCall (move 2 1 0 1 0) short (moveRefused 12)
+    ∷ trialCall (move 1 0 0 0 0) scratch (moveRefused 15) ∷ improveCall 15 scratch (improved.Made (move 2 1 0 1 0) 1 0 8)
     ∷ improveCall 15 scratch (improved.NoBetter 0) ∷ [])
     stateDrop
 unfolding computing
 known-run-improve =
     called (improve-called 15 short (improved.Refused 12) stateA stateA improve-short)
     (called (improve-called 0 scratch (improved.Refused 14) stateA stateA improve-none)
-    (called (trial-called (move 2 1 0 1 0) scratch (moved.Accepted 1 0 8) stateA refl)
-    (called (trial-called (move 2 1 0 1 0) short (moved.Refused 12) stateA refl)
-    (called (trial-called (move 1 0 0 0 0) scratch (moved.Refused 15) stateA refl)
+    (called (trial-called (move 2 1 0 1 0) scratch (moveAccepted 1 0 8) stateA refl)
+    (called (trial-called (move 2 1 0 1 0) short (moveRefused 12) stateA refl)
+    (called (trial-called (move 1 0 0 0 0) scratch (moveRefused 15) stateA refl)
     (called (improve-called 15 scratch (improved.Made (move 2 1 0 1 0) 1 0 8) stateA stateDrop drop-best)
     (called (improve-called 15 scratch (improved.NoBetter 0) stateDrop stateDrop none-better) ended))))))
 
@@ -258,5 +255,7 @@ pub known-list-right : AllRight planA (firstBook planA stateA) knownExchanges
     × AsBook planA (bookAfter planA (firstBook planA stateA) knownExchanges) (255 ∷ []) (77 ∷ []) stateDrop
 unfolding ownMasks ownCells cellCount childDepth planA plan over literal
 known-list-right =
-    lists-right bytesA unloaded stateA 1 34 known-load planA decode-A
-    knownExchanges stateDrop known-run
+    subst (λ (s : State). Run bytesA s knownExchanges stateDrop
+    → AllRight planA (firstBook planA s) knownExchanges
+    × AsBook planA (bookAfter planA (firstBook planA s) knownExchanges) (255 ∷ []) (77 ∷ []) stateDrop) (ap (λ (x : LoadValues × State). x .1) known-load)
+    (lists-right bytesA unloaded (ap (λ (x : LoadValues × State). x .0 .number) known-load) planA decode-A knownExchanges stateDrop) known-run

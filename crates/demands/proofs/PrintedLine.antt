@@ -7,20 +7,19 @@ use mathlib.Core.List.{List}
 use Prim.Native.Nat.{ℕ}
 use lib.Dec.{eqb}
 use lib.ListN.{length}
+use borrow.Author.Tests.{eqb-true}
 use Rattle.text_tokens.specs.Tokens.{pick}
 use Rattle.table_format.specs.Bytes.{setsField}
 use Rattle.table_format.specs.Decode.{decode}
 use Rattle.contracts.specs.declared.Answer.{Answer}
 use Rattle.contracts.specs.declared.Answer.the-variants.{Accepted, Refused}
-use Rattle.contracts.specs.declared.Loaded.{Loaded}
-use Rattle.contracts.specs.declared.Loaded.the-variants as loading
 use Rattle.contracts.specs.Read.{readNumber, reads}
 use Rattle.contracts.specs.Admitted.{TextTrue}
 use Rattle.contracts.specs.State.{tables}
-use Rattle.contracts.specs.Load.{loadNumber, loadRoot, loads}
+use Rattle.contracts.specs.Load.{LoadValues, loads}
 use Rattle.planroot_input.specs.Lines.{sound, ports, masks, text}
 use Rattle.planroot_print.specs.declared.Line.{Line}
-use Rattle.planroot_print.specs.declared.Line.the-variants.{Refusal}
+use Rattle.planroot_print.specs.declared.Line.the-variants.{Penalty, Refusal}
 use Rattle.planroot_print.specs.Line.{isPenalty, lineRoot}
 use Rattle.planroot_line.specs.Loading.{loadLine}
 use Rattle.planroot_line.specs.Line.{readLine, textLine, tableRoom, cellRoom, zeros, inputLine}
@@ -28,16 +27,22 @@ use Rattle.demands.specs.ReadThenLoad.{answer, loaded}
 use Rattle.demands.proofs.Demand2.{zero-when-true}
 
 -- a line that is a penalty is that of an accepted load
-record FromLoad (line : Line) (y : Loaded) : Type 0 where
-  pub accepted : loadNumber y ≡ 0
-  pub root-is : lineRoot line ≡ loadRoot y
+record FromLoad (line : Line) (y : LoadValues) : Type 0 where
+  pub accepted : y .number ≡ 0
+  pub root-is : lineRoot line ≡ y .root
 
-load-penalty : (y : Loaded) → isPenalty (loadLine y) ≡ true → FromLoad (loadLine y) y
-unfolding isPenalty lineRoot loadLine loadNumber loadRoot
-load-penalty (loading.Accepted root total) h = record { accepted = refl; root-is = refl }
-load-penalty (loading.Refused number) h = absurd (false≢true h)
+load-penalty : (y : LoadValues) → isPenalty (loadLine y) ≡ true → FromLoad (loadLine y) y
+unfolding isPenalty lineRoot loadLine
+load-penalty y h = go (eqb (y .number) 0) refl h
+  where
+    line : Bool → Line
+    line b = pick b (Penalty (y .root) (y .cells)) (Refusal (y .number))
 
-counted-penalty : (t : Bool) (y : Loaded) → isPenalty (pick t (loadLine y) (Refusal 0)) ≡ true → FromLoad (pick t (loadLine y) (Refusal 0)) y
+    go : (b : Bool) → eqb (y .number) 0 ≡ b → isPenalty (line b) ≡ true → FromLoad (line b) y
+    go true e k = record { accepted = eqb-true (y .number) 0 e; root-is = refl }
+    go false e k = absurd (false≢true k)
+
+counted-penalty : (t : Bool) (y : LoadValues) → isPenalty (pick t (loadLine y) (Refusal 0)) ≡ true → FromLoad (pick t (loadLine y) (Refusal 0)) y
 unfolding isPenalty
 counted-penalty true y h = load-penalty y h
 counted-penalty false y h = absurd (false≢true h)

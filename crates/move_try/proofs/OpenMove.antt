@@ -27,8 +27,7 @@ use Rattle.cells_walk.specs.inner.Root.{RootReady, RootGives}
 use Rattle.call_open.specs.inner.Opening.{OpenPlan}
 use Rattle.move_legal.specs.inner.Legal.{tEnd, Fields, LegalOver, MoveReady, MoveNumber}
 use Rattle.move_legal.proofs.Known.{known-fields}
-use Rattle.contracts.specs.declared.Moved.the-variants.{Accepted}
-use Rattle.contracts.specs.MoveCall.{cellsAfter, moveAnswer}
+use Rattle.contracts.specs.MoveCall.{moveAccepted, cellsAfter, moveAnswer}
 use Rattle.contracts.specs.ImproveCall.{rootNow, rootAfter}
 use Rattle.contracts.proofs.Within.{move-within, move-length}
 use Rattle.move_try.specs.inner.Trying.{LegalMove, NumbersAre, GivesNumbers}
@@ -174,6 +173,6 @@ module _ {ports sets : ℕ} {bytes firsts ends uses masks cells : List ℕ} {m :
 
 -- the three numbers as the answer of a move
 pub answer-is : (P : Plan) (own before : List ℕ) (m : Move) (r : After) → NumbersAre P own before m r
-    → Accepted (r .old) (r .value) (r .changed) ≡ moveAnswer P m own before
+    → moveAccepted (r .old) (r .value) (r .changed) ≡ moveAnswer P m own before
 unfolding moveAnswer rootNow rootAfter
-answer-is P own before m r n = λ i. Accepted (n .before-is i) (n .after-is i) (n .changed-is i)
+answer-is P own before m r n = λ i. moveAccepted (n .before-is i) (n .after-is i) (n .changed-is i)

@@ -1,5 +1,6 @@
 -- The line in each of its cases. Assumes nothing.
-use mathlib.Core.Path.{_≡_, refl, sym, ap, _∙_}
+use mathlib.Core.Path.{_≡_, refl, sym, ap, _∙_, subst}
+use mathlib.Core.Logic.{_≢_}
 use mathlib.Core.Bool.{Bool, true, false, cond, not, _&&_}
 use mathlib.Core.List.{List, _++_}
 use Prim.Native.Nat.{ℕ, _-_, _≤_, _<_, min}
@@ -22,13 +23,14 @@ use Rattle.contracts.specs.Admitted.{admittedPlan}
 use Rattle.contracts.proofs.Grounds.{few-sets}
 use Rattle.contracts.proofs.Reading.{accepted-admitted, admitted-read}
 use Rattle.contracts.specs.declared.Loaded.{Loaded}
+use Rattle.contracts.specs.declared.Loaded.the-variants as load
 use Rattle.contracts.specs.State.{State, tables}
-use Rattle.contracts.specs.Load.{loads}
+use Rattle.contracts.specs.Load.{loadRefused, loadValues, LoadTold, loads, LoadPromise}
 use Rattle.planroot_print.specs.declared.Line.{Line}
-use Rattle.planroot_print.specs.declared.Line.the-variants.{Refusal}
+use Rattle.planroot_print.specs.declared.Line.the-variants.{Penalty, Refusal}
 use Rattle.planroot_line.specs.Loading.{loadLine}
 use Rattle.planroot_line.specs.Line.{readLine, textLine}
-use Rattle.planroot_line.specs.inner.Contract.{LinesPlan, LinesText}
+use Rattle.planroot_line.specs.inner.Contract.{LinesLoad, LinesPlan, LinesText}
 use Rattle.planroot_line.proofs.Tables.{header-sets}
 
 -- a text that is too long is refused by its length, whatever follows
@@ -61,19 +63,30 @@ read-sets u s B O x nodes total e y =
     let n : setsField O ≡ length (A .sets) = ap setsField bytes ∙ header-sets P (drop (tableLength P) B) in
     omega (arith, few-sets (A .sets) (A .tree) (A .names))
 
+-- load's answer as a line
+pub line-accepted : (x : Loaded) (root total : ℕ) → x ≡ load.Accepted root total → LinesLoad x (Penalty root total)
+unfolding LinesLoad loadLine loadValues
+line-accepted x root total e = λ told. sym (ap (λ (y : Loaded). loadLine (loadValues y)) e)
+
+pub line-refused : (x : Loaded) (n : ℕ) → x ≡ load.Refused n → LinesLoad x (Refusal n)
+unfolding LinesLoad loadLine loadValues loadRefused LoadTold
+line-refused x n e = λ told.
+    let some : n ≢ 0 = subst LoadTold e told in
+    sym (ap (λ (y : Loaded). loadLine (loadValues y)) e ∙ ap (λ (b : Bool). pick b (Penalty 0 0) (Refusal n)) (ne-eqb n 0 some))
+
 module _ (count : ℕ) (ms table cells : List ℕ) (n : ℕ) (N : n ≡ setsField table) (few : setsField table ≤ 16) where
   pub plan-other : (count ≡ n → ⊥) → LinesPlan count ms table cells (Refusal 0)
   unfolding LinesPlan
   plan-other f vs c m = sym (ap (λ (b : Bool). pick b (loadLine (loads (decode table) (tables vs cells) .0)) (Refusal 0)) (ne-eqb (length vs) (setsField table) (λ e. f (omega arith))))
 
-  pub plan-loaded : (x : Loaded) (O : State) (r : Line) → count ≡ n → (x, O) ≡ loads (decode table) (tables (take (n - 0) (drop 0 ms)) cells) → r ≡ loadLine x
+  pub plan-loaded : (x : Loaded) (O : State) (r : Line) → count ≡ n → LoadPromise (loads (decode table) (tables (take (n - 0) (drop 0 ms)) cells)) x O → LinesLoad x r
       → LinesPlan count ms table cells r
-  unfolding LinesPlan
+  unfolding LinesPlan LinesLoad
   plan-loaded x O r e L R vs c m =
       let long : length vs ≡ n = omega arith in
       let k : n - 0 ≡ min 16 count = omega arith in
       let own : take (n - 0) (drop 0 ms) ≡ vs = ap (λ (i : ℕ). take i ms) k ∙ m ∙ take-all 16 vs (omega arith) in
-      R ∙ ap (λ (q : Loaded × State). loadLine (q .0)) (L ∙ ap (λ (l : List ℕ). loads (decode table) (tables l cells)) own)
+      R (L .told) ∙ ap loadLine (L .values-are ∙ ap (λ (l : List ℕ). loads (decode table) (tables l cells) .0) own)
       ∙ sym (ap (λ (b : Bool). pick b (loadLine (loads (decode table) (tables vs cells) .0)) (Refusal 0)) (eq-eqb (length vs) (setsField table) (long ∙ N)))
 
 module _ (u count : ℕ) (ms s table cells O : List ℕ) (x : Answer) (E : (x, O) ≡ reads u s table) where

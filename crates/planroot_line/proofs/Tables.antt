@@ -13,18 +13,16 @@ use Rattle.table_format.specs.Bytes.{recordsFrom, headerLength, recordLength, s
 use Rattle.table_format.specs.Decode.{Decoded, sound, decode}
 use Rattle.contracts.specs.declared.Answer.{Answer}
 use Rattle.contracts.specs.declared.Answer.the-variants.{Accepted, Refused}
-use Rattle.contracts.specs.declared.Loaded.{Loaded}
 use Rattle.contracts.specs.Read.{readNumber, tableLength, readGrounds, readOr, reads}
 use Rattle.contracts.specs.Admitted.{Admitted, admittedPlan}
 use Rattle.contracts.specs.State.{tables, ownTables}
 use Rattle.contracts.specs.Call.{planGrounds, tableGrounds, callGrounds, callOr, call}
-use Rattle.contracts.specs.Load.{loadGrounds, loadedMasks, loadsOwn, loads}
+use Rattle.contracts.specs.Load.{LoadValues, loadRefused, loadGrounds, loadedMasks, loadsOwn, loads}
 use Rattle.contracts.proofs.Reading.{accepted-admitted, admitted-read, read-decodes}
 use Rattle.logic.specs.Moves.{refusal}
 use Rattle.logic.specs.Configuration.{ownMasks}
 use Rattle.planroot_print.specs.declared.Line.{Line}
 use Rattle.planroot_print.specs.declared.Line.the-variants.{Refusal}
-use Rattle.contracts.specs.declared.Loaded.the-variants as load
 use Rattle.planroot_line.specs.Loading.{loadLine}
 use Rattle.planroot_line.specs.Line.{readLine, textLine, tableRoom, cellRoom, zeros}
 
@@ -65,12 +63,12 @@ same-answer u s B B′ e = go (refusal (readGrounds u s (length B))) (parsed s) 
 -- load's answer depends on the length of the cells alone
 same-loaded : (P : Plan) (ms cells cells′ : List ℕ) → length cells ≡ length cells′ → loads (sound P) (tables ms cells) .0 ≡ loads (sound P) (tables ms cells′) .0
 unfolding loads loadGrounds callGrounds call callOr loadsOwn loadedMasks ownTables
-same-loaded P ms cells cells′ e = go (ground (length cells)) ∙ ap (λ (n : ℕ). callOr load.Refused (ground n) (sound P) loadsOwn (tables ms cells′) .0) e
+same-loaded P ms cells cells′ e = go (ground (length cells)) ∙ ap (λ (n : ℕ). callOr loadRefused (ground n) (sound P) loadsOwn (tables ms cells′) .0) e
   where
     ground : ℕ → ℕ
     ground n = refusal (planGrounds (sound P) (λ Q. tableGrounds Q (take (ownMasks Q) ms) (length ms) (n ∷ []) ++ []))
 
-    go : (g : ℕ) → callOr load.Refused g (sound P) loadsOwn (tables ms cells) .0 ≡ callOr load.Refused g (sound P) loadsOwn (tables ms cells′) .0
+    go : (g : ℕ) → callOr loadRefused g (sound P) loadsOwn (tables ms cells) .0 ≡ callOr loadRefused g (sound P) loadsOwn (tables ms cells′) .0
     go zero = refl
     go (suc g) = refl
 
@@ -105,7 +103,7 @@ module _ (u : ℕ) (ms s : List ℕ) where
           let A′ = admitted-into A (length B′) (rw (← b) (A .fits)) in
           let P = admittedPlan A in
           text-accepted B cells A
-          ∙ ap (λ (x : Loaded). pick (eqb (length ms) (P .sets)) (loadLine x) (Refusal 0)) (same-loaded P ms cells cells′ c)
+          ∙ ap (λ (x : LoadValues). pick (eqb (length ms) (P .sets)) (loadLine x) (Refusal 0)) (same-loaded P ms cells cells′ c)
           ∙ sym (text-accepted B′ cells′ A′)
 
 -- Tables of these lengths that hold anything give the line of the definition.

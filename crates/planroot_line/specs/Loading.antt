@@ -1,10 +1,10 @@
 -- The line for load's answer.
-use Rattle.contracts.specs.declared.Loaded.{Loaded}
-use Rattle.contracts.specs.declared.Loaded.the-variants.{Accepted, Refused}
+use lib.Dec.{eqb}
+use Rattle.text_tokens.specs.Tokens.{pick}
+use Rattle.contracts.specs.Load.{LoadValues}
 use Rattle.planroot_print.specs.declared.Line.{Line}
 use Rattle.planroot_print.specs.declared.Line.the-variants.{Penalty, Refusal}
 
 -- "`penalty P cells C` (root, cell total) or `refused N`"
-unfoldable pub loadLine : Loaded → Line
-loadLine (Accepted root total) = Penalty root total
-loadLine (Refused number) = Refusal number
+unfoldable pub loadLine : LoadValues → Line
+loadLine v = pick (eqb (v .number) 0) (Penalty (v .root) (v .cells)) (Refusal (v .number))

@@ -8,16 +8,14 @@ use planroot_input::close;
 use planroot_print::Line;
 use planroot_print::put_line;
 use table_format::sets_of;
-ghost use mathlib.Core.Path.{_≡_};
 ghost use Prim.Native.Nat.{_≤_};
 ghost use lib.ListN.{length};
 ghost use Rattle.planroot_print.specs.Line.{lineRoom};
-ghost use Rattle.planroot_line.specs.Loading.{loadLine};
-ghost use Rattle.planroot_line.specs.inner.Contract.{Tables, PlanTables, LinesPlan, LinesText, SomeInput, LinesInput, ShowsInput};
+ghost use Rattle.planroot_line.specs.inner.Contract.{Tables, PlanTables, LinesLoad, LinesPlan, LinesText, SomeInput, LinesInput, ShowsInput};
 
 // Load's answer as a line.
 fn load_line(answer: Loaded) -> Line
-    ensures { λ r. ⌜ r ≡ loadLine answer ⌝ }
+    ensures { λ r. ⌜ LinesLoad answer r ⌝ }
 {
     match answer {
         Loaded::Accepted { root, cells } => Line::Penalty {

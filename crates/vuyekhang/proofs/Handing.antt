@@ -9,7 +9,8 @@ use Rattle.contracts.specs.declared.Loaded.{Loaded}
 use Rattle.contracts.specs.State.{State}
 use Rattle.contracts.specs.declared.Moved.{Moved}
 use Rattle.contracts.specs.declared.Improved.{Improved}
-use Rattle.contracts.specs.MoveCall.{movedNumber}
+use Rattle.contracts.specs.Load.{LoadValues, loadValues, LoadPromise}
+use Rattle.contracts.specs.MoveCall.{MoveValues, moveValues, MovedAs, MovePromise}
 use Rattle.contracts.specs.TrialCall.{ScratchAfter}
 use Rattle.contracts.specs.ImproveCall.{improvedNumber, Improves}
 use Rattle.answers.specs.declared.ReadAnswer.{ReadAnswer}
@@ -24,24 +25,18 @@ pub read-gives : (a : Answer) (t : List ℕ) (given : Answer × List ℕ) (r : R
 read-gives a t given r e f =
     record { fields = subst (λ (x : Answer × List ℕ). ReadFields (x .0) r) e f; table-is = ap (λ (x : Answer × List ℕ). x .1) e }
 
-pub load-gives : (a : Loaded) (t : State) (given : Loaded × State) (r : LoadAnswer) → (a, t) ≡ given → LoadFields a r → LoadGives given r t
-load-gives a t given r e f =
-    record { fields = subst (λ (x : Loaded × State). LoadFields (x .0) r) e f; tables-are = ap (λ (x : Loaded × State). x .1) e }
+pub load-gives : (given : LoadValues × State) (a : Loaded) (s′ : State) (r : LoadAnswer) → LoadPromise given a s′ → LoadFields (loadValues a) r → LoadGives given r s′
+load-gives given a s′ r p f = record { fields = subst (λ (v : LoadValues). LoadFields v r) (p .values-are) f; tables-are = p .tables-are }
 
-pub move-gives : (given : Moved × State) (s′ : State) (a : Moved) (r : MoveAnswer)
-    → (a, s′) ≡ given → MoveFields a r → MoveGives given r s′
-move-gives given s′ a r e f =
-    record {
-      fields = subst (λ (x : Moved × State). MoveFields (x .0) r) e f;
-      tables-are = ap (λ (x : Moved × State). x .1) e;
-    }
+pub move-gives : (given : MoveValues × State) (a : Moved) (s′ : State) (r : MoveAnswer) → MovePromise given a s′ → MoveFields (moveValues a) r → MoveGives given r s′
+move-gives given a s′ r p f = record { fields = subst (λ (v : MoveValues). MoveFields v r) (p .answers .values-are) f; tables-are = p .tables-are }
 
 -- the number that scratch is held to is the struct's own
-pub trial-gives : (d : Decoded) (given : Moved) (scratch scratch′ : List ℕ) (a : Moved) (r : MoveAnswer)
-    → a ≡ given → ScratchAfter d (movedNumber a) scratch scratch′ → MoveFields a r → TrialGives d given r scratch scratch′
-trial-gives d given scratch scratch′ a r e w f =
+pub trial-gives : (d : Decoded) (given : MoveValues) (scratch scratch′ : List ℕ) (a : Moved) (r : MoveAnswer)
+    → MovedAs given a → ScratchAfter d (moveValues a .number) scratch scratch′ → MoveFields (moveValues a) r → TrialGives d given r scratch scratch′
+trial-gives d given scratch scratch′ a r p w f =
     record {
-      fields = subst (λ (x : Moved). MoveFields x r) e f;
+      fields = subst (λ (v : MoveValues). MoveFields v r) (p .values-are) f;
       scratch-is = subst (λ (x : ℕ). ScratchAfter d x scratch scratch′) (sym (f .number-is)) w;
     }
 

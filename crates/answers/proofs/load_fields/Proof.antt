@@ -1,5 +1,5 @@
 use borrow.Author.Needs.{needs}
-use Rattle.contracts.specs.Load.{loadNumber, loadRoot, loadTotal}
+use Rattle.contracts.specs.Load.{loadRefused, loadValues}
 use Rattle.answers.proofs.load_fields.Statement.{statement}
 use Rattle.answers.proofs.load_fields.Tie as tie
 
@@ -13,12 +13,12 @@ cast-t6 : tie.Need-cast-t6
 cast-t6 c = search needs
 
 returns : tie.Need-returns
-unfolding loadNumber loadRoot loadTotal
+unfolding loadRefused loadValues
 returns c =
     search needs
 
 returns-2 : tie.Need-returns-2
-unfolding loadNumber loadRoot loadTotal
+unfolding loadRefused loadValues
 returns-2 c =
     search needs
 

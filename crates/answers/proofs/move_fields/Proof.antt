@@ -1,5 +1,5 @@
 use borrow.Author.Needs.{needs}
-use Rattle.contracts.specs.MoveCall.{movedNumber, movedBefore, movedAfter, movedChanged}
+use Rattle.contracts.specs.MoveCall.{moveRefused, moveAccepted, moveValues}
 use Rattle.answers.proofs.move_fields.Statement.{statement}
 use Rattle.answers.proofs.move_fields.Tie as tie
 
@@ -13,12 +13,12 @@ cast-t7 : tie.Need-cast-t7
 cast-t7 c = search needs
 
 returns : tie.Need-returns
-unfolding movedNumber movedBefore movedAfter movedChanged
+unfolding moveRefused moveAccepted moveValues
 returns c =
     search needs
 
 returns-2 : tie.Need-returns-2
-unfolding movedNumber movedBefore movedAfter movedChanged
+unfolding moveRefused moveAccepted moveValues
 returns-2 c =
     search needs
 

@@ -1,5 +1,5 @@
 use borrow.Author.Needs.{needs}
-use Rattle.contracts.specs.MoveCall.{movedNumber, movedBefore, movedAfter, movedChanged}
+use Rattle.contracts.specs.MoveCall.{moveRefused, moveAccepted, moveValues}
 use Rattle.call_list.proofs.Telling.{told-moved}
 use Rattle.call_list.proofs.tell_moved.Statement.{statement}
 use Rattle.call_list.proofs.tell_moved.Tie as tie
@@ -29,7 +29,7 @@ same-length : tie.Need-same-length
 same-length c = search needs
 
 returns : tie.Need-returns
-unfolding movedNumber movedBefore movedAfter movedChanged
+unfolding moveRefused moveAccepted moveValues
 returns c =
     told-moved _ _ _ (c .before .before .before .before .before .before .before .before .before .args .answer .now) _ (c .before .before .before .before .before .before .r .given .1) (c .before .before .before .before .no-move .ensures) (c .before .before .tell .ensures)
 
@@ -37,7 +37,7 @@ same-length-2 : tie.Need-same-length-2
 same-length-2 c = search needs
 
 returns-2 : tie.Need-returns-2
-unfolding movedNumber movedBefore movedAfter movedChanged
+unfolding moveRefused moveAccepted moveValues
 returns-2 c =
     told-moved _ _ _ (c .before .before .before .before .before .before .before .before .before .args .answer .now) _ (c .before .before .before .before .before .before .r2 .given .1) (c .before .before .before .before .no-move2 .ensures) (c .before .before .tell2 .ensures)
 

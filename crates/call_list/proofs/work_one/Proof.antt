@@ -9,6 +9,7 @@ use Rattle.call_list.specs.inner.Steps.{OneAfter}
 use Rattle.call_list.specs.Scratch.{lentTo, answerNumber}
 use Rattle.call_list.proofs.Extending.{scratch-lent}
 use Rattle.call_list.proofs.Scratch.{none-lent, front-lent}
+use Rattle.contracts.specs.MoveCall.{moveValues}
 use Rattle.call_list.proofs.work_one.Statement.{statement}
 use Rattle.call_list.proofs.work_one.Tie as tie
 
@@ -45,7 +46,7 @@ same-length-3 c = search needs
 returns : tie.Need-returns
 unfolding OneAfter Encodes tag Step answerNumbers
 returns c =
-    record { exchange = moveCall (c .before .before .before .before .before .before .before .before .before .before .before .before .before .before .before .move-of .result) (c .before .before .before .before .before .before .before .before .make-move .result); says = (c .before .before .before .before .before .before .before .before .before .before .before .if1 .taken, c .before .before .before .before .before .before .before .before .before .before .before .before .before .before .before .move-of .ensures); step = c .before .before .before .before .before .before .before .before .make-move .ensures; scratch-step = none-lent _ _ _ _; answer-is = c .before .before .tell-moved .ensures }
+    record { exchange = moveCall (c .before .before .before .before .before .before .before .before .before .before .before .before .before .before .before .move-of .result) (moveValues (c .before .before .before .before .before .before .before .before .make-move .result)); says = (c .before .before .before .before .before .before .before .before .before .before .before .if1 .taken, c .before .before .before .before .before .before .before .before .before .before .before .before .before .before .before .move-of .ensures); step = (λ i. (c .before .before .before .before .before .before .before .before .make-move .ensures .answers .values-are i, c .before .before .before .before .before .before .before .before .make-move .ensures .tables-are i)); scratch-step = none-lent _ _ _ _; answer-is = c .before .before .tell-moved .ensures }
 
 sub-trial : tie.Need-sub-trial
 sub-trial c = search needs
@@ -77,7 +78,7 @@ same-length-7 c = search needs
 returns-2 : tie.Need-returns-2
 unfolding OneAfter Encodes tag Step answerNumbers cellsLent lentTo answerNumber
 returns-2 c =
-    record { exchange = trialCall (c .before .before .before .before .before .before .before .before .before .before .before .before .before .before .before .move-of .result) (take (c .before .before .before .before .before .before .before .before .before .before .before .before .lesser .result - 0) (c .before .before .before .before .before .before .before .before .before .before .before .before .before .before .before .before .before .before .before .before .before .before .before .args .scratch .now)) (c .before .before .before .before .before .before .trial .result); says = (c .before .before .before .before .before .before .before .before .before .before .if2 .taken, c .before .before .before .before .before .before .before .before .before .before .before .before .before .before .before .move-of .ensures, scratch-lent (c .before .before .before .before .before .before .before .before .before .before .before .before .before .before .before .before .before .before .before .before .before .before .before .args .scratch .now) _ (c .before .before .before .before .before .before .before .before .before .before .before .before .before .wide .result) (c .before .before .before .before .before .before .before .before .before .before .before .before .lesser .result) (c .before .before .before .before .before .before .before .before .before .before .before .before .before .wide .ensures .0) (c .before .before .before .before .before .before .before .before .before .before .before .before .lesser .ensures)); step = (c .before .before .before .before .before .before .trial .ensures .0, refl); scratch-step = front-lent _ _ _ (c .before .before .before .before .before .before .before .before .before .before .before .before .lesser .result - 0) _ refl (c .before .before .before .before .before .before .trial .ensures .1); answer-is = c .before .before .tell-moved2 .ensures }
+    record { exchange = trialCall (c .before .before .before .before .before .before .before .before .before .before .before .before .before .before .before .move-of .result) (take (c .before .before .before .before .before .before .before .before .before .before .before .before .lesser .result - 0) (c .before .before .before .before .before .before .before .before .before .before .before .before .before .before .before .before .before .before .before .before .before .before .before .args .scratch .now)) (moveValues (c .before .before .before .before .before .before .trial .result)); says = (c .before .before .before .before .before .before .before .before .before .before .if2 .taken, c .before .before .before .before .before .before .before .before .before .before .before .before .before .before .before .move-of .ensures, scratch-lent (c .before .before .before .before .before .before .before .before .before .before .before .before .before .before .before .before .before .before .before .before .before .before .before .args .scratch .now) _ (c .before .before .before .before .before .before .before .before .before .before .before .before .before .wide .result) (c .before .before .before .before .before .before .before .before .before .before .before .before .lesser .result) (c .before .before .before .before .before .before .before .before .before .before .before .before .before .wide .ensures .0) (c .before .before .before .before .before .before .before .before .before .before .before .before .lesser .ensures)); step = (c .before .before .before .before .before .before .trial .ensures .0 .values-are, refl); scratch-step = front-lent _ _ _ (c .before .before .before .before .before .before .before .before .before .before .before .before .lesser .result - 0) _ refl (c .before .before .before .before .before .before .trial .ensures .1); answer-is = c .before .before .tell-moved2 .ensures }
 
 sub-improve : tie.Need-sub-improve
 sub-improve c = search needs

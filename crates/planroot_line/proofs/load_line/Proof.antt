@@ -1,6 +1,5 @@
-use mathlib.Core.Path.{sym, ap}
 use borrow.Author.Needs.{needs}
-use Rattle.planroot_line.specs.Loading.{loadLine}
+use Rattle.planroot_line.proofs.Answers.{line-accepted, line-refused}
 use Rattle.planroot_line.proofs.load_line.Statement.{statement}
 use Rattle.planroot_line.proofs.load_line.Tie as tie
 
@@ -11,14 +10,12 @@ enum-known-answer-2 : tie.Need-enum-known-answer-2
 enum-known-answer-2 c = search needs
 
 returns : tie.Need-returns
-unfolding loadLine
 returns c =
-    sym (ap loadLine (c .before .answer .given .1))
+    line-accepted _ _ _ (c .before .answer .given .1)
 
 returns-2 : tie.Need-returns-2
-unfolding loadLine
 returns-2 c =
-    sym (ap loadLine (c .before .answer2 .given .1))
+    line-refused _ _ (c .before .answer2 .given .1)
 
 pub load-line-spec : {M : Type 1} → statement M
 load-line-spec = tie.close (tie.spec enum-known-answer enum-known-answer-2 returns returns-2)

@@ -8,7 +8,8 @@ use Rattle.text_tokens.specs.Tokens.{pick}
 use Rattle.table_format.specs.Bytes.{headerLength, setsField}
 use Rattle.table_format.specs.Decode.{decode}
 use Rattle.contracts.specs.State.{tables}
-use Rattle.contracts.specs.Load.{loads}
+use Rattle.contracts.specs.declared.Loaded.{Loaded}
+use Rattle.contracts.specs.Load.{loadValues, LoadTold, loads}
 use Rattle.planroot_input.specs.declared.Scan.{Scan}
 use Rattle.planroot_input.specs.inner.Scans.{Scanned}
 use Rattle.planroot_print.specs.declared.Line.{Line}
@@ -26,6 +27,10 @@ pub record PlanTables (ms table : List ℕ) : Type 0 where
   pub masks-room : 16 ≤ length ms
   pub table-room : headerLength ≤ length table
   pub few-sets : setsField table ≤ 16
+
+-- The line for load's answer, of which no refusal has the number 0.
+unfoldable pub LinesLoad : Loaded → Line → Type 0
+LinesLoad x r = LoadTold x → r ≡ loadLine (loadValues x)
 
 -- The first 16 of the masks are at hand, and they are counted as far as 17.
 unfoldable pub LinesPlan : ℕ → List ℕ → List ℕ → List ℕ → Line → Type 0
