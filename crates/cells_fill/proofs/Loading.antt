@@ -5,7 +5,7 @@ use mathlib.Core.List.{List, [], _∷_, _++_, append-nil}
 use Prim.Native.Nat.{ℕ, suc, _+_, _≤_}
 use native.Mathlib.Nat.{mul-one, mul-suc, pow-zero}
 use native.Mathlib.Omega.{arith}
-use lib.ListN.{length, getD, take, drop, length-drop, take-append-drop}
+use lib.ListN.{length, getD, take, drop, length-drop, drop-of-length-le, take-append-drop}
 use lib.Seq.{length-take-le, drop-drop}
 use borrow.Author.Tests.{eq-eqb}
 use Rattle.logic.specs.Formula.{root, Forest, none, tree, Plan, kindNumber, nodeCount, childDepth}
@@ -93,12 +93,12 @@ plan-table P own c e =
     ap (λ (Q : Plan). layout (P .ports) (λ n c b d x. penalty (P .ports) (config (P .ports) (P .sets) own) n c x) (Q .formula) 0 0) e
     ∙ root-cells (P .ports) (config (P .ports) (P .sets) own) c
 
-pub plan-filled : (bytes : List ℕ) (P : Plan) (nodes r : ℕ) (masks xs ys zs : List ℕ) → decode bytes ≡ sound P → TableReady bytes P nodes → ownCells P ≤ length xs
+pub plan-filled : (bytes : List ℕ) (P : Plan) (nodes r : ℕ) (masks xs ys zs : List ℕ) → decode bytes ≡ sound P → TableReady bytes P nodes → length xs ≡ ownCells P
     → ys ≡ tabulate 1 (λ _. unitOf 1) ++ drop 1 xs
     → Fills (belowRoot bytes nodes) 1 0 (P .ports) (P .sets) 0 1 1 (take (P .sets) masks) ys zs r
-    → FillsPlan bytes masks xs zs
+    → FillsPlan bytes masks zs
 unfolding Fills FillsPlan ownMasks kindNumber childDepth
-plan-filled bytes P nodes r masks xs ys zs d rd l ye fl Q dq = subst (λ (R : Plan). zs ≡ cells R (spelled R (take (R .sets) masks)) ++ drop (ownCells R) xs) one whole
+plan-filled bytes P nodes r masks xs ys zs d rd l ye fl Q dq = subst (λ (R : Plan). zs ≡ cells R (spelled R (take (R .sets) masks))) one whole
   where
     u : ℕ
     u = P .ports
@@ -124,11 +124,17 @@ plan-filled bytes P nodes r masks xs ys zs d rd l ye fl Q dq = subst (λ (R : Pl
         (ye ∙ ap₂ (λ (a b : List ℕ). a ++ b) (first-one (λ _. unitOf 1)) (sym (take-append-drop m (drop 1 xs)) ∙ ap (λ (b : List ℕ). X ++ b) (drop-drop m 1 xs)))
         refl refl (length-take-le m (drop 1 xs) (rw (length-drop 1 xs) (omega (arith, rd .total))))
 
-    whole : zs ≡ cells P (spelled P own) ++ drop (ownCells P) xs
+    none-left : drop (1 + m) xs ≡ []
+    none-left =
+        let long : length xs ≤ 1 + m = omega (arith, rd .total) in
+        drop-of-length-le xs long
+
+    whole : zs ≡ cells P (spelled P own)
     whole =
         got
-        ∙ ap₂ (λ (a : List ℕ) (b : ℕ). a ++ (table u (config u (P .sets) own) c 0 ++ drop b xs))
+        ∙ ap₂ (λ (a b : List ℕ). a ++ (table u (config u (P .sets) own) c 0 ++ b))
         (first-one (λ t. joinAll (joinOf 0) (getD (unitOf 1 ∷ []) t 0) (treewise u (config u (P .sets) own) root c (tupleAt u 0 t)))
         ∙ ap (λ (x : ℕ). x ∷ []) (root-first P own c (rd .facts)))
-        (let e : 1 + m ≡ ownCells P = omega (arith, rd .total) in e)
-        ∙ ap (λ (a : List ℕ). a ++ drop (ownCells P) xs) (sym (plan-table P own c (rd .is-root)))
+        none-left
+        ∙ append-nil (penalty u (config u (P .sets) own) root c [] ∷ table u (config u (P .sets) own) c 0)
+        ∙ sym (plan-table P own c (rd .is-root))

@@ -87,7 +87,7 @@ Fills l i above ports sets depth over at masks before after r =
     (n : Node) (outer : ℕ) (f : Forest) (up : ℕ) → kindNumber n ≡ above → depth ≡ childDepth n outer → over ≡ ports ^ outer → l ≡ records f i up
     → Filled above ports sets depth over at outer n f masks before after r
 
--- A table that passed its check, masks within the ports and room for every cell.
+-- A table that passed its check, masks within the ports, and the plan's own cells.
 pub record FillReady (bytes : List ℕ) (ports sets nodes : ℕ) (masks cells : List ℕ) : Type 0 where
   pub plan : Plan
   pub decodes : decode bytes ≡ sound plan
@@ -96,9 +96,9 @@ pub record FillReady (bytes : List ℕ) (ports sets nodes : ℕ) (masks cells : 
   pub nodes-are : nodes ≡ nodeCount (plan .formula)
   pub own-masks : sets ≤ length masks
   pub within : allWithin ports (take sets masks) ≡ true
-  pub own-cells : ownCells plan ≤ length cells
+  pub own-cells : length cells ≡ ownCells plan
 
--- Every cell is Definition 5's penalty under the plan's own masks, and the rest is as it was.
-unfoldable pub FillsPlan : List ℕ → List ℕ → List ℕ → List ℕ → Type 0
-FillsPlan bytes masks before after =
-    (P : Plan) → decode bytes ≡ sound P → after ≡ planCells P (spelled P (take (ownMasks P) masks)) ++ drop (ownCells P) before
+-- Every cell is Definition 5's penalty under the plan's own masks.
+unfoldable pub FillsPlan : List ℕ → List ℕ → List ℕ → Type 0
+FillsPlan bytes masks after =
+    (P : Plan) → decode bytes ≡ sound P → after ≡ planCells P (spelled P (take (ownMasks P) masks))
