@@ -5,7 +5,7 @@ use mathlib.Core.List.{List, [], _∷_, _++_, append-nil}
 use Prim.Native.Nat.{ℕ, suc, _+_, _≤_}
 use native.Mathlib.Nat.{mul-one, mul-suc, pow-zero}
 use native.Mathlib.Omega.{arith}
-use lib.ListN.{length, getD, take, drop, length-drop, drop-of-length-le, take-append-drop}
+use lib.ListN.{length, getD, take, drop, length-drop, take-append-drop}
 use lib.Seq.{length-take-le, drop-drop}
 use borrow.Author.Tests.{eq-eqb}
 use Rattle.logic.specs.Formula.{root, Forest, none, tree, Plan, kindNumber, nodeCount, childDepth}
@@ -24,6 +24,7 @@ use Rattle.cells_join.specs.inner.Joined.{unitOf, joinAll, joinOf}
 use Rattle.cells_fill.specs.inner.Fill.{startCell, treewise, config, table, FillPlaced, Fills, FillsPlan}
 use Rattle.cells_fill.proofs.Values.{own-cell, table-tree}
 use Rattle.cells_fill.proofs.Filling.{low-below}
+use Rattle.cells_fill.proofs.Parts.{nothing-behind}
 use Rattle.table_format.proofs.Ready.{TableReady, own-zero}
 
 pub placed-plan : (bytes : List ℕ) (P : Plan) (nodes : ℕ) (masks xs : List ℕ) → TableReady bytes P nodes → P .sets ≤ length masks → allWithin (P .ports) (take (P .sets) masks) ≡ true
@@ -124,17 +125,11 @@ plan-filled bytes P nodes r masks xs ys zs d rd l ye fl Q dq = subst (λ (R : Pl
         (ye ∙ ap₂ (λ (a b : List ℕ). a ++ b) (first-one (λ _. unitOf 1)) (sym (take-append-drop m (drop 1 xs)) ∙ ap (λ (b : List ℕ). X ++ b) (drop-drop m 1 xs)))
         refl refl (length-take-le m (drop 1 xs) (rw (length-drop 1 xs) (omega (arith, rd .total))))
 
-    none-left : drop (1 + m) xs ≡ []
-    none-left =
-        let long : length xs ≤ 1 + m = omega (arith, rd .total) in
-        drop-of-length-le xs long
-
     whole : zs ≡ cells P (spelled P own)
     whole =
         got
-        ∙ ap₂ (λ (a b : List ℕ). a ++ (table u (config u (P .sets) own) c 0 ++ b))
+        ∙ ap (λ (a : List ℕ). a ++ (table u (config u (P .sets) own) c 0 ++ drop (1 + m) xs))
         (first-one (λ t. joinAll (joinOf 0) (getD (unitOf 1 ∷ []) t 0) (treewise u (config u (P .sets) own) root c (tupleAt u 0 t)))
         ∙ ap (λ (x : ℕ). x ∷ []) (root-first P own c (rd .facts)))
-        none-left
-        ∙ append-nil (penalty u (config u (P .sets) own) root c [] ∷ table u (config u (P .sets) own) c 0)
+        ∙ nothing-behind (1 + m) (penalty u (config u (P .sets) own) root c [] ∷ table u (config u (P .sets) own) c 0) xs (omega (arith, rd .total))
         ∙ sym (plan-table P own c (rd .is-root))

@@ -1,9 +1,9 @@
 -- A part of a list up to a place inside it, lent and given back changed. Assumes nothing.
 use mathlib.Core.Path.{_≡_, ap, ap₂, _∙_}
-use mathlib.Core.List.{List, _++_}
+use mathlib.Core.List.{List, _++_, append-nil}
 use Prim.Native.Nat.{ℕ, _+_, _-_, _≤_}
 use native.Mathlib.Omega.{arith}
-use lib.ListN.{length, take, drop, length-append, length-drop}
+use lib.ListN.{length, take, drop, length-append, length-drop, drop-of-length-le}
 use lib.Seq.{take-at, drop-at, length-take-le}
 
 -- a part lent from place `at` up to place `end`, and what it leaves when it is given back
@@ -20,6 +20,12 @@ pub back-to-is : (at end : ℕ) (C D E F : List ℕ) → length C ≡ at → len
 back-to-is at end C D E F h k =
     ap₂ (λ (x y : List ℕ). x ++ (F ++ y)) (take-at C (D ++ E) at h)
     (ap (drop (end - at)) (drop-at C (D ++ E) at h) ∙ drop-at D E (end - at) k)
+
+-- nothing stands behind a part of that length
+pub nothing-behind : (n : ℕ) (l xs : List ℕ) → length xs ≡ n → l ++ drop n xs ≡ l
+nothing-behind n l xs h =
+    let long : length xs ≤ n = omega (arith, h) in
+    ap (λ (x : List ℕ). l ++ x) (drop-of-length-le xs long) ∙ append-nil l
 
 pub back-to-length : (at end : ℕ) (xs ys : List ℕ) → at ≤ end → end ≤ length xs → length ys ≡ length (lentTo at end xs) → length (backTo at end xs ys) ≡ length xs
 back-to-length at end xs ys h l e =

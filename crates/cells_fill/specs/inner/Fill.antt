@@ -3,7 +3,7 @@ use mathlib.Core.Path.{_≡_}
 use mathlib.Core.Bool.{true}
 use mathlib.Core.List.{List, [], _∷_, _++_}
 use Prim.Native.Nat.{ℕ, _+_, _*_, _^_, _≤_}
-use lib.ListN.{length, getD, take, drop}
+use lib.ListN.{length, getD, take}
 use Rattle.logic.specs.Formula.{Node, root, all, any, and, or, lit, Forest, none, tree, Plan, kindNumber, nodeCount, childDepth}
 use Rattle.logic.specs.Configuration.{Configuration, configured, inMasks, ownMasks, spelled, allWithin}
 use Rattle.logic.specs.Truth.{Tuple}
@@ -36,20 +36,20 @@ config u n masks = configured u n (inMasks masks)
 unfoldable pub table : ℕ → Configuration → Forest → ℕ → List ℕ
 table u k f d = layout u (λ n c b i e. penalty u k n c e) f 0 d
 
--- A record's own cells are begun.
+-- A record's own cells, which are begun.
 pub record StartPlaced (kind relation a b sets ports depth width : ℕ) (masks cells : List ℕ) : Type 0 where
   pub fields : fieldRule sets depth kind relation a b ≡ true
   pub ports1 : 1 ≤ ports
   pub ports64 : ports ≤ 64
   pub depth3 : depth ≤ 3
   pub width-is : width ≡ ports ^ depth
-  pub room : width ≤ length cells
+  pub own-cells : length cells ≡ width
   pub sets-masks : sets ≤ length masks
   pub within : allWithin ports masks ≡ true
 
-unfoldable pub started : ℕ → ℕ → ℕ → ℕ → ℕ → ℕ → ℕ → ℕ → List ℕ → List ℕ → List ℕ
-started kind relation a b sets ports depth width masks cells =
-    tabulate width (λ t. startCell (config ports sets masks) (nodeOf kind relation a b) (tupleAt ports depth t)) ++ drop width cells
+unfoldable pub started : ℕ → ℕ → ℕ → ℕ → ℕ → ℕ → ℕ → ℕ → List ℕ → List ℕ
+started kind relation a b sets ports depth width masks =
+    tabulate width (λ t. startCell (config ports sets masks) (nodeOf kind relation a b) (tupleAt ports depth t))
 
 -- Where the records of some trees stand below a node `parent`, and their cells from place `at` on; the first `over` cells are
 -- the parent's.
