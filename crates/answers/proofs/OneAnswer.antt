@@ -1,11 +1,9 @@
 -- The fields of vk_improve's answer leave one answer alone: found tells a move from none, and no refusal of `Improves` has the number 0.
 -- Assumes nothing.
-use mathlib.Core.Path.{_≡_, refl, sym, ap, _∙_}
+use mathlib.Core.Path.{_≡_, sym, ap, _∙_}
 use Prim.Native.Nat.{ℕ, zero, suc}
 use native.Mathlib.Omega.{arith}
-use lib.ListN.{length}
-use mathlib.Core.List.{List, [], _∷_}
-use Rattle.logic.specs.declared.Move.{Move}
+use mathlib.Core.List.{[], _∷_}
 use Rattle.logic.specs.Moves.{refusal}
 use Rattle.table_format.specs.Decode.{Decoded, broken, sound}
 use Rattle.contracts.specs.State.{State}

@@ -22,7 +22,7 @@ use Rattle.contracts.specs.ImproveCall.{improveGrounds, rootNow, rootAfter, Can
 use Rattle.contracts.proofs.Calls.{own-whole}
 use Rattle.cells_sum.specs.declared.After.{After}
 use Rattle.call_open.specs.inner.Opening.{openNumber}
-use Rattle.call_open.proofs.Opening.{Shortest, two-tables, shut-first, open-then, root-cell}
+use Rattle.call_open.proofs.Opening.{two-tables, shut-first, open-then, root-cell}
 use Rattle.move_make.specs.inner.Carrying.{Carried}
 use Rattle.move_best.specs.declared.Choice.{Choice}
 use Rattle.move_best.specs.inner.Choosing.{BestFound, FoundOr}

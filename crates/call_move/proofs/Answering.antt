@@ -1,14 +1,13 @@
 -- The answers of trial and move, by the grounds in the order in which the code tries them. Assumes nothing.
 use mathlib.Core.Path.{_≡_, refl, sym, ap, _∙_}
-use mathlib.Core.Bool.{true}
 use mathlib.Core.List.{List, [], _∷_}
-use Prim.Native.Nat.{ℕ, zero, suc, min, _≤_}
+use Prim.Native.Nat.{ℕ, zero, suc, _≤_}
 use lib.ListN.{length, take}
 use Rattle.logic.specs.declared.Move.{Move}
 use Rattle.logic.specs.Formula.{Plan}
 use Rattle.logic.specs.Configuration.{inMasks, ownMasks}
 use Rattle.logic.specs.Cells.{ownCells}
-use Rattle.logic.specs.Moves.{refusal, moveGrounds, legal}
+use Rattle.logic.specs.Moves.{refusal, moveGrounds}
 use Rattle.table_format.specs.Decode.{Decoded, sound, decode}
 use Rattle.cells_sum.specs.declared.After.{After}
 use Rattle.cells_walk.specs.inner.Visit.{CellsFit, TablesLong}
@@ -19,7 +18,7 @@ use Rattle.contracts.specs.MoveCall.{moveCallGrounds, tablesAfter, movesOwn, mo
 use Rattle.contracts.specs.TrialCall.{trialsOwn, trials}
 use Rattle.contracts.proofs.Calls.{call-refused, call-accepted}
 use Rattle.contracts.proofs.Steps.{grounds-legal}
-use Rattle.call_open.specs.inner.Opening.{openNumber, OpenPlan, OpenTables}
+use Rattle.call_open.specs.inner.Opening.{openNumber, OpenPlan}
 use Rattle.call_open.proofs.Opening.{Shortest, open-longer, shut-first, open-then}
 use Rattle.move_legal.specs.inner.Legal.{MoveNumber}
 use Rattle.move_try.specs.inner.Trying.{LegalMove, GivesNumbers}

@@ -1,5 +1,5 @@
 -- Grounds 11 to 13 as the code tries them, and as the first of every call's. Assumes nothing.
-use mathlib.Core.Path.{_≡_, refl, sym, ap, ap₂, _∙_}
+use mathlib.Core.Path.{_≡_, refl, sym, ap, _∙_}
 use mathlib.Core.Bool.{Bool, true, false, cond, not, _||_}
 use mathlib.Core.List.{List, [], _∷_}
 use Prim.Native.Nat.{ℕ, zero, suc, min, _≤_, _<_}
@@ -21,7 +21,7 @@ use Rattle.contracts.specs.State.{State, tables}
 use Rattle.contracts.specs.Call.{planGrounds, tableGrounds, callGrounds}
 use Rattle.contracts.proofs.Calls.{LentEnough}
 use Rattle.call_open.specs.declared.Opened.{Opened}
-use Rattle.call_open.specs.inner.Opening.{cellsNumber, openNumber, IndexedPlan, OpensCells, OpenPlan, Opens}
+use Rattle.call_open.specs.inner.Opening.{cellsNumber, openNumber, OpensCells, OpenPlan, Opens}
 
 module _ (bytes : List ℕ) (shortest : ℕ) (r : Opened) (x y z : List ℕ) where
   -- a number other than 0 opens nothing

@@ -1,7 +1,7 @@
 -- Laws of any call over a plan's tables: what it leaves past the plan's own parts, and that it reads nothing there. Assumes nothing.
 use mathlib.Core.Path.{_≡_, refl, sym, ap, _∙_}
-use mathlib.Core.Bool.{Bool, true, not, _||_}
-use mathlib.Core.List.{List, [], _∷_, _++_, append-nil}
+use mathlib.Core.Bool.{true, not, _||_}
+use mathlib.Core.List.{List, _∷_, _++_, append-nil}
 use Prim.Native.Nat.{ℕ, zero, suc, _≤_}
 use native.Mathlib.Decide.{decLe}
 use native.Mathlib.Omega.{arith}
@@ -15,7 +15,7 @@ use Rattle.logic.specs.Cells.{ownCells}
 use Rattle.logic.specs.Moves.{Ground, refusal}
 use Rattle.logic.specs.Change.{someOf}
 use Rattle.logic.proofs.Lists.{or-left, or-right}
-use Rattle.table_format.specs.Decode.{Decoded, broken, sound}
+use Rattle.table_format.specs.Decode.{Decoded, sound}
 use Rattle.contracts.specs.State.{State, tables, ownTables, withRest}
 use Rattle.contracts.specs.Call.{planGrounds, tableGrounds, callGrounds, callOr, call}
 use Rattle.contracts.specs.OwnParts.{SameTables}

@@ -1,13 +1,11 @@
 -- Load's answer and cells in each of its cases, and what an accepted load means. Assumes nothing.
 use mathlib.Core.Path.{_≡_, refl, sym, ap, _∙_}
 use mathlib.Core.Logic.{_↔_}
-use mathlib.Core.Bool.{true}
 use mathlib.Core.List.{List, [], _++_}
 use Prim.Native.Nat.{ℕ, zero, suc, _≤_}
-use native.Mathlib.Omega.{arith}
-use lib.ListN.{length, getD, take, drop, take-append-drop, List·getD-append}
+use lib.ListN.{getD, take, drop, take-append-drop, List·getD-append}
 use Rattle.logic.specs.Formula.{Plan}
-use Rattle.logic.specs.Configuration.{ownMasks, spelled, allWithin}
+use Rattle.logic.specs.Configuration.{ownMasks, spelled}
 use Rattle.logic.specs.Truth.{PlanTrue}
 use Rattle.logic.specs.Cells.{ownCells, cells, rootPenalty}
 use Rattle.logic.specs.Moves.{refusal}

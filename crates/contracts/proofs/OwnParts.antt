@@ -10,7 +10,7 @@ use Rattle.logic.specs.declared.Move.{Move}
 use Rattle.logic.specs.Formula.{Plan}
 use Rattle.logic.specs.Configuration.{ownMasks, spelled}
 use Rattle.logic.specs.Cells.{ownCells, cells}
-use Rattle.logic.specs.Moves.{Ground, refusal, moveGrounds, kindsKnown}
+use Rattle.logic.specs.Moves.{refusal, moveGrounds, kindsKnown}
 use Rattle.logic.specs.Change.{someOf, newCells}
 use Rattle.logic.proofs.Tables.{length-layout}
 use Rattle.logic.proofs.Theorems.{length-cells}

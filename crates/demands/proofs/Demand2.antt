@@ -1,7 +1,7 @@
 -- Demand 2: "A text is accepted exactly when 01's grammar, limits and table lengths admit it, and its stored core formula is true
 -- under the same configurations as the text. After a load each cell holds the penalty of Definition 5 as 01 completes it, and
 -- the root is 0 exactly when the formula is true."
-use mathlib.Core.Path.{_≡_, refl, sym, ap, _∙_}
+use mathlib.Core.Path.{_≡_, sym, ap, _∙_}
 use mathlib.Core.Logic.{_↔_}
 use mathlib.Core.Bool.{Bool, true, false, cond, not, _||_}
 use mathlib.Core.List.{List, []}

@@ -18,7 +18,7 @@ use Rattle.move_best.specs.declared.Choice.{Choice}
 use Rattle.move_best.specs.inner.Choosing.{Chooses, choiceOf, noNumbers}
 use Rattle.move_best.proofs.Choosing.{Sought, left, left-less, sought-first, sought-next, sought-end}
 use Rattle.call_open.specs.inner.Opening.{OpenTables}
-use Rattle.move_try.specs.inner.Trying.{LegalMove, TryReady, GivesNumbers}
+use Rattle.move_try.specs.inner.Trying.{TryReady, GivesNumbers}
 use Rattle.move_best.proofs.Candidates.{sized-of, gives-here, begins-over}
 
 pub record Searching (bytes masks cells : List ℕ) (kinds sets : ℕ) (work : List ℕ) (best : Choice) (at : Next) : Type 0 where

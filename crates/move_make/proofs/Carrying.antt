@@ -1,5 +1,5 @@
 -- A legal move made: the part of the masks that comes back, and what is written. Assumes nothing.
-use mathlib.Core.Path.{_≡_, sym, ap, ap₂, _∙_, subst}
+use mathlib.Core.Path.{_≡_, ap, ap₂, _∙_, subst}
 use mathlib.Core.List.{List, _++_}
 use Prim.Native.Nat.{ℕ, _≤_}
 use native.Mathlib.Omega.{arith}
@@ -11,7 +11,6 @@ use Rattle.logic.specs.Configuration.{inMasks, maskCount, ownMasks, spelled}
 use Rattle.logic.specs.Cells.{ownCells}
 use Rattle.logic.specs.Moves.{namedMasks, moveMasks, movePairs}
 use Rattle.logic.specs.Change.{pairsChange, newCells}
-use Rattle.table_format.specs.Decode.{sound, decode}
 use Rattle.cells_touch.specs.declared.Changed.{Changed}
 use Rattle.cells_touch.specs.inner.Hits.{Tells}
 use Rattle.cells_sum.specs.declared.After.{After}

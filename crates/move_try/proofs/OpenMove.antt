@@ -24,7 +24,7 @@ use Rattle.cells_touch.specs.inner.Hits.{Describes, Tells}
 use Rattle.cells_sum.specs.declared.After.{After}
 use Rattle.cells_walk.specs.inner.Visit.{MasksSettled}
 use Rattle.cells_walk.specs.inner.Root.{RootReady, RootGives}
-use Rattle.call_open.specs.inner.Opening.{OpenPlan, OpenTables}
+use Rattle.call_open.specs.inner.Opening.{OpenPlan}
 use Rattle.move_legal.specs.inner.Legal.{tEnd, Fields, LegalOver, MoveReady, MoveNumber}
 use Rattle.move_legal.proofs.Known.{known-fields}
 use Rattle.contracts.specs.declared.Moved.the-variants.{Accepted}

@@ -4,7 +4,7 @@ use mathlib.Core.Bool.{Bool, true}
 use mathlib.Core.List.{List, [], _++_}
 use Prim.Native.Nat.{ℕ}
 use Rattle.planroot_input.specs.declared.Scan.{Scan}
-use Rattle.planroot_input.specs.inner.Scans.{Starts, PassesPiece, Decides}
+use Rattle.planroot_input.specs.inner.Scans.{Starts, PassesPiece, DecidesLine}
 use Rattle.planroot_line.proofs.Stopping.{settled-line}
 use Rattle.planroot.specs.declared.Input.{Input}
 use Rattle.planroot.specs.declared.Input.the-variants.{Whole, Enough, Failed}
@@ -23,8 +23,8 @@ module _ (s : Scan) (ms tx : List ℕ) where
   unfolding KnownInput
   known-whole K = K
 
-  pub known-enough : (r : Bool) → Known s ms tx → Decides s r → r ≡ true → KnownInput (Enough s) ms tx
-  unfolding KnownInput Decides
+  pub known-enough : (r : Bool) → Known s ms tx → DecidesLine s r → r ≡ true → KnownInput (Enough s) ms tx
+  unfolding KnownInput DecidesLine
   known-enough r K D e = record { input = K .input; scanned = K .scanned; settled = settled-line (K .input) (D (K .input) ms tx (K .scanned) .settled e) }
 
 pub known-failed : (ms tx : List ℕ) → KnownInput Failed ms tx

@@ -3,7 +3,7 @@ use mathlib.Core.Path.{_≡_, refl, sym, ap, _∙_, subst}
 use mathlib.Core.Bool.{Bool, true, false, _&&_, _||_}
 use mathlib.Core.Logic.{_⊎_, inl, inr}
 use mathlib.Core.List.{List, [], _∷_, _++_, append-assoc, append-nil}
-use Prim.Native.Nat.{ℕ, _+_, _≤_, _<_, min}
+use Prim.Native.Nat.{ℕ, _+_, _≤_, _<_}
 use native.Mathlib.Decide.{ℕ-discrete}
 use native.Mathlib.Omega.{arith}
 use lib.Dec.{eqb}
@@ -14,7 +14,7 @@ use Rattle.planroot_input.specs.declared.Word.{Word}
 use Rattle.planroot_input.specs.declared.Scan.{Scan}
 use Rattle.planroot_input.specs.Lines.{line, behind, ends, words, value, isRun, allRuns, values, sound, ports, masks, text, Settled, wrong, long}
 use Rattle.planroot_input.specs.inner.Words.{WordIs, is-empty, is-zero, is-number, is-bad, IsWord}
-use Rattle.planroot_input.specs.inner.Scans.{Line1, Line2, InText, in-line-1, in-line-2, in-text, Decided, Decides}
+use Rattle.planroot_input.specs.inner.Scans.{in-line-1, in-line-2, in-text, DecidesLine}
 use Rattle.planroot_input.proofs.Gathering.{runs-snoc}
 use Rattle.planroot_input.proofs.Splitting.{line-is, behind-is, ends-is, line-open, behind-none, words-snoc, words-space}
 
@@ -95,8 +95,8 @@ empty-short : (t : List ℕ) → t ≡ [] → 4096 < length t → ⊥
 empty-short t e h = let z : length t ≡ 0 = ap length e in omega arith
 
 module _ (s : Scan) (r : Bool) where
-  pub decides-first : s .phase ≡ 0 → r ≡ eqb (s .word .run) 3 → Decides s r
-  unfolding Decides
+  pub decides-first : s .phase ≡ 0 → r ≡ eqb (s .word .run) 3 → DecidesLine s r
+  unfolding DecidesLine
   decides-first e q input ms tx (in-line-1 p L) = record {
     settled = λ t. first-wrong input (L .unended) (word-bad input (s .word) (L .word) (eqb-true (s .word .run) 3 (sym q ∙ t)));
     in-time = λ h. absurd (empty-short (text input) (no-text-1 input (L .unended)) h);
@@ -104,8 +104,8 @@ module _ (s : Scan) (r : Bool) where
   decides-first e q input ms tx (in-line-2 p L) = absurd (omega arith)
   decides-first e q input ms tx (in-text p L) = absurd (omega arith)
 
-  pub decides-second : s .phase ≡ 1 → r ≡ eqb (s .word .run) 3 → Decides s r
-  unfolding Decides
+  pub decides-second : s .phase ≡ 1 → r ≡ eqb (s .word .run) 3 → DecidesLine s r
+  unfolding DecidesLine
   decides-second e q input ms tx (in-line-1 p L) = absurd (omega arith)
   decides-second e q input ms tx (in-line-2 p L) = record {
     settled = λ t.
@@ -115,8 +115,8 @@ module _ (s : Scan) (r : Bool) where
   }
   decides-second e q input ms tx (in-text p L) = absurd (omega arith)
 
-  pub decides-text : (s .phase ≡ 0 → ⊥) → (s .phase ≡ 1 → ⊥) → r ≡ eqb (s .length) 4097 → Decides s r
-  unfolding Decides
+  pub decides-text : (s .phase ≡ 0 → ⊥) → (s .phase ≡ 1 → ⊥) → r ≡ eqb (s .length) 4097 → DecidesLine s r
+  unfolding DecidesLine
   decides-text f g q input ms tx (in-line-1 p L) = absurd (f p)
   decides-text f g q input ms tx (in-line-2 p L) = absurd (g p)
   decides-text f g q input ms tx (in-text p T) =
@@ -130,8 +130,8 @@ one-wrong : (a b : Bool) → (a && b) ≡ false → (a ≡ false) ⊎ (b ≡ fal
 one-wrong true b h = inr h
 one-wrong false b h = inl refl
 
-pub decides-wrong : (s : Scan) → (s .phase ≡ 0 → ⊥) → s .ok ≡ false → Decides s true
-unfolding Decides
+pub decides-wrong : (s : Scan) → (s .phase ≡ 0 → ⊥) → s .ok ≡ false → DecidesLine s true
+unfolding DecidesLine
 decides-wrong s f o input ms tx (in-line-1 p L) = absurd (f p)
 decides-wrong s f o input ms tx (in-line-2 p L) = record { settled = λ _. go (one-wrong _ _ (sym (L .ok-is) ∙ o)); in-time = λ _. refl }
   where

@@ -5,7 +5,7 @@ ghost use mathlib.Core.List.{[], _∷_};
 ghost use Prim.Native.Nat.{_+_, _-_, _≤_, min};
 ghost use lib.ListN.{length};
 ghost use Rattle.planroot_input.specs.inner.Words.{AddsByte, JudgesWord};
-ghost use Rattle.planroot_input.specs.inner.Scans.{InputRoom, Starts, placed, EndsWord, WithWord, NextPhase, PassesFirst, PassesSecond, PassesText, PassesPiece, Decides, Closes};
+ghost use Rattle.planroot_input.specs.inner.Scans.{InputRoom, Starts, placed, EndsWord, WithWord, NextPhase, PassesFirst, PassesSecond, PassesText, PassesPiece, DecidesLine, Closes};
 
 // A word so far: nothing (0), the digit run 0 (1), another number (2), or no beginning of a digit run (3); and its number.
 pub struct Word {
@@ -282,7 +282,7 @@ pub fn step(s: Scan, bytes: &[u8], masks: &mut [u64], text: &mut [u8]) -> Scan
 
 // Whether nothing that follows changes the line: a word of the first two lines is wrong, or the text is too long.
 pub fn decided(s: Scan) -> bool
-    ensures { λ r. ⌜ Decides s r ⌝ }
+    ensures { λ r. ⌜ DecidesLine s r ⌝ }
 {
     let w = s.word;
     if s.phase == 0 {

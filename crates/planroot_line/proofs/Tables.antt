@@ -1,7 +1,6 @@
 -- The line does not depend on what the program's own tables held. Assumes nothing.
 use mathlib.Core.Path.{_≡_, refl, sym, ap, _∙_}
-use mathlib.Core.Bool.{Bool}
-use mathlib.Core.List.{List, _++_}
+use mathlib.Core.List.{List, [], _∷_, _++_}
 use Prim.Native.Nat.{ℕ, zero, suc, _≤_}
 use native.Mathlib.Omega.{arith}
 use lib.Dec.{eqb}
@@ -15,15 +14,17 @@ use Rattle.table_format.specs.Decode.{Decoded, sound, decode}
 use Rattle.contracts.specs.declared.Answer.{Answer}
 use Rattle.contracts.specs.declared.Answer.the-variants.{Accepted, Refused}
 use Rattle.contracts.specs.declared.Loaded.{Loaded}
-use Rattle.contracts.specs.Read.{readNumber, tableLength, textGrounds, readGrounds, readOr, reads}
+use Rattle.contracts.specs.Read.{readNumber, tableLength, readGrounds, readOr, reads}
 use Rattle.contracts.specs.Admitted.{Admitted, admittedPlan}
 use Rattle.contracts.specs.State.{tables, ownTables}
-use Rattle.contracts.specs.Load.{loadGrounds, loadOr, loadPlan, loads}
+use Rattle.contracts.specs.Call.{planGrounds, tableGrounds, callGrounds, callOr, call}
+use Rattle.contracts.specs.Load.{loadGrounds, loadedMasks, loadsOwn, loads}
 use Rattle.contracts.proofs.Reading.{accepted-admitted, admitted-read, read-decodes}
 use Rattle.logic.specs.Moves.{refusal}
 use Rattle.logic.specs.Configuration.{ownMasks}
 use Rattle.planroot_print.specs.declared.Line.{Line}
 use Rattle.planroot_print.specs.declared.Line.the-variants.{Refusal}
+use Rattle.contracts.specs.declared.Loaded.the-variants as load
 use Rattle.planroot_line.specs.Loading.{loadLine}
 use Rattle.planroot_line.specs.Line.{readLine, textLine, tableRoom, cellRoom, zeros}
 
@@ -63,13 +64,13 @@ same-answer u s B B′ e = go (refusal (readGrounds u s (length B))) (parsed s) 
 
 -- load's answer depends on the length of the cells alone
 same-loaded : (P : Plan) (ms cells cells′ : List ℕ) → length cells ≡ length cells′ → loads (sound P) (tables ms cells) .0 ≡ loads (sound P) (tables ms cells′) .0
-unfolding loads loadPlan loadOr ownTables
-same-loaded P ms cells cells′ e = go (ground (length cells)) ∙ ap (λ (n : ℕ). loadOr (ground n) P (ownTables P (tables ms cells′)) .0) e
+unfolding loads loadGrounds callGrounds call callOr loadsOwn loadedMasks ownTables
+same-loaded P ms cells cells′ e = go (ground (length cells)) ∙ ap (λ (n : ℕ). callOr load.Refused (ground n) (sound P) loadsOwn (tables ms cells′) .0) e
   where
     ground : ℕ → ℕ
-    ground n = refusal (loadGrounds P (take (ownMasks P) ms) (length ms) n)
+    ground n = refusal (planGrounds (sound P) (λ Q. tableGrounds Q (take (ownMasks Q) ms) (length ms) (n ∷ []) ++ []))
 
-    go : (g : ℕ) → loadOr g P (ownTables P (tables ms cells)) .0 ≡ loadOr g P (ownTables P (tables ms cells′)) .0
+    go : (g : ℕ) → callOr load.Refused g (sound P) loadsOwn (tables ms cells) .0 ≡ callOr load.Refused g (sound P) loadsOwn (tables ms cells′) .0
     go zero = refl
     go (suc g) = refl
 

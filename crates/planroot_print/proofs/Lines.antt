@@ -1,28 +1,15 @@
 -- A line, put word by word. Assumes nothing.
 use mathlib.Core.Path.{_≡_, sym, ap}
-use mathlib.Core.List.{List, [], _∷_, _++_}
+use mathlib.Core.List.{List, _++_}
 use Prim.Native.Nat.{ℕ, _≤_}
 use native.Mathlib.Omega.{arith}
 use lib.ListN.{length, length-append}
 use Rattle.planroot_print.specs.declared.Line.{Line}
 use Rattle.planroot_print.specs.declared.Line.the-variants.{Penalty, Refusal}
-use Rattle.planroot_print.specs.Line.{isPenalty, lineNumber, lineRoot, lineTotal, digitsOf, decimal, penaltyBytes, refusalBytes, lineBytes, lineRoom, Shows}
+use Rattle.planroot_print.specs.Line.{isPenalty, lineNumber, lineRoot, lineTotal, digitsOf, decimal, penaltyWord, cellsWord, refusedWord, lineEnd, penaltyBytes, refusalBytes, lineBytes, lineRoom, Shows}
 use Rattle.planroot_print.specs.inner.Puts.{Puts}
 use Rattle.planroot_print.proofs.Putting.{puts-more, puts-front}
 use Rattle.planroot_print.proofs.Digits.{digits-few}
-
--- "penalty ", " cells ", "refused " and the line end
-abbrev penaltyWord : List ℕ
-penaltyWord = 112 ∷ 101 ∷ 110 ∷ 97 ∷ 108 ∷ 116 ∷ 121 ∷ 32 ∷ []
-
-abbrev cellsWord : List ℕ
-cellsWord = 32 ∷ 99 ∷ 101 ∷ 108 ∷ 108 ∷ 115 ∷ 32 ∷ []
-
-abbrev refusedWord : List ℕ
-refusedWord = 114 ∷ 101 ∷ 102 ∷ 117 ∷ 115 ∷ 101 ∷ 100 ∷ 32 ∷ []
-
-abbrev lineEnd : List ℕ
-lineEnd = 10 ∷ []
 
 module _ (out x y : List ℕ) (a b end : ℕ) (out′ : List ℕ) where
   pub penalty-put : (root total : ℕ) (z w : List ℕ) (c d : ℕ) → Puts 0 penaltyWord out a x → Puts a (digitsOf 10 root) x b y → Puts b cellsWord y c z → Puts c (digitsOf 10 total) z d w

@@ -9,7 +9,7 @@ use Rattle.text_tokens.specs.Tokens.{pick}
 use Rattle.planroot_print.specs.declared.Line.{Line}
 use Rattle.planroot_print.specs.declared.Line.the-variants.{Penalty, Refusal}
 
--- Which of the two: `refused 0` has no number of its own to tell it by.
+-- Which of the two it is: a penalty and `refused 0` have the same number.
 unfoldable pub isPenalty : Line → Bool
 isPenalty (Penalty root total) = true
 isPenalty (Refusal number) = false
@@ -36,20 +36,31 @@ digitsOf (suc k) n = pick (ltb n 10) [] (digitsOf k (n / 10)) ++ ((48 + n % 10) 
 unfoldable pub decimal : ℕ → List ℕ
 decimal n = digitsOf 10 n
 
--- "`penalty P cells C` (root, cell total)", and a line end.
-unfoldable pub penaltyBytes : ℕ → ℕ → List ℕ
-penaltyBytes root total =
-    (112 ∷ 101 ∷ 110 ∷ 97 ∷ 108 ∷ 116 ∷ 121 ∷ 32 ∷ []) ++ (decimal root ++ ((32 ∷ 99 ∷ 101 ∷ 108 ∷ 108 ∷ 115 ∷ 32 ∷ []) ++ (decimal total ++ (10 ∷ []))))
+-- `penalty `, ` cells `, `refused ` and the line end, byte by byte.
+abbrev pub penaltyWord : List ℕ
+penaltyWord = 112 ∷ 101 ∷ 110 ∷ 97 ∷ 108 ∷ 116 ∷ 121 ∷ 32 ∷ []
 
--- "`refused N`", and a line end.
+abbrev pub cellsWord : List ℕ
+cellsWord = 32 ∷ 99 ∷ 101 ∷ 108 ∷ 108 ∷ 115 ∷ 32 ∷ []
+
+abbrev pub refusedWord : List ℕ
+refusedWord = 114 ∷ 101 ∷ 102 ∷ 117 ∷ 115 ∷ 101 ∷ 100 ∷ 32 ∷ []
+
+abbrev pub lineEnd : List ℕ
+lineEnd = 10 ∷ []
+
+-- "`penalty P cells C` (root, cell total)"; "`refused N`"
+unfoldable pub penaltyBytes : ℕ → ℕ → List ℕ
+penaltyBytes root total = penaltyWord ++ (decimal root ++ (cellsWord ++ (decimal total ++ lineEnd)))
+
 unfoldable pub refusalBytes : ℕ → List ℕ
-refusalBytes number = (114 ∷ 101 ∷ 102 ∷ 117 ∷ 115 ∷ 101 ∷ 100 ∷ 32 ∷ []) ++ (decimal number ++ (10 ∷ []))
+refusalBytes number = refusedWord ++ (decimal number ++ lineEnd)
 
 -- "It prints `penalty P cells C` (root, cell total) or `refused N`".
 unfoldable pub lineBytes : Line → List ℕ
 lineBytes line = pick (isPenalty line) (penaltyBytes (lineRoot line) (lineTotal line)) (refusalBytes (lineNumber line))
 
--- No line has more bytes: two words of 15 bytes, two numbers of 10 digits and the line end.
+-- No line has more bytes: words of 15 bytes together, two numbers of 10 digits and the line end.
 abbrev pub lineRoom : ℕ
 lineRoom = 36
 

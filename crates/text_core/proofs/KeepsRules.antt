@@ -7,7 +7,7 @@ use native.Mathlib.Omega.{arith}
 use lib.Dec.{eqb, leb, ltb}
 use lib.ListN.{length}
 use borrow.Author.Tests.{lt-leb, lt-ltb, le-leb, eq-eqb, ne-eqb, leb-false, ltb-false, not-false}
-use Rattle.logic.specs.Formula.{Test, isin, notin, port, size, Literal, literalOf, Node, root, all, any, and, lit, Forest, none, tree, testKind, kindNumber, childDepth}
+use Rattle.logic.specs.Formula.{Test, isin, notin, port, size, Literal, literalOf, Node, root, all, any, lit, Forest, none, tree, testKind, kindNumber, childDepth}
 use Rattle.logic.specs.inner.Literals.{VariablesBelow, VariablesBound, ConstantLow, ConstantsLow}
 use Rattle.logic.specs.Change.{someOf}
 use Rattle.logic.proofs.Lists.{or-left, or-right, and-right, and-true}

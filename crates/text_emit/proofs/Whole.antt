@@ -8,7 +8,7 @@ use native.Mathlib.Omega.{arith}
 use lib.ListN.{length, take, drop, length-drop}
 use lib.Seq.{length-take-le, take-at, drop-at, drop-drop}
 use Rattle.logic.specs.Formula.{root, Forest, none, kindNumber, nodeCount}
-use Rattle.text_tree.specs.Tree.{Tree, Declared, lettersOf}
+use Rattle.text_tree.specs.Tree.{Tree}
 use Rattle.text_tree.proofs.Sets.{sets-length}
 use Rattle.text_core.specs.Core.{alone, place, coreOf, planOf}
 use Rattle.table_format.specs.Bytes.{recordLength, recordsFrom, tableBytes, relationByte, aByte, bByte, records, header, encoding}

@@ -6,7 +6,6 @@ use borrow.Author.Tests.{not-true, not-false}
 use Rattle.logic.specs.Change.{modulus}
 use Rattle.cells_walk.specs.inner.Visit.{CellsFit}
 use Rattle.contracts.proofs.Scratch.{scratch-kept}
-use Rattle.call_open.specs.inner.Opening.{OpenPlan}
 use Rattle.call_open.proofs.Opening.{open-longer, root-cell}
 use Rattle.move_make.specs.inner.Carrying.{Carries}
 use Rattle.move_best.specs.inner.Choosing.{Chooses}

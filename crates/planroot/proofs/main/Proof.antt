@@ -1,15 +1,8 @@
-use mathlib.Core.Path.{sym}
 use native.Mathlib.Omega.{arith}
 use borrow.Author.Needs.{needs}
 use Rattle.planroot.proofs.Passing.{whole-known, enough-known}
-use borrow.Author.Needs.{needs}
 use Rattle.planroot.proofs.main.Statement.{statement}
 use Rattle.planroot.proofs.main.Tie as tie
-use Rattle.planroot.proofs.main.Reads as reads
-use Rattle.planroot.proofs.main.Lts as lts
-use Rattle.os.proofs.fail.Reads as fail-reads
-use Rattle.planroot.proofs.pass_input.Reads as pass-input-reads
-use Rattle.planroot.proofs.say.Reads as say-reads
 
 slice-aggregate-pass-input : tie.Need-slice-aggregate-pass-input
 slice-aggregate-pass-input c = search needs

@@ -6,14 +6,6 @@ use Rattle.planroot.specs.inner.Known.{Known}
 use Rattle.planroot.proofs.Passing.{known-start, known-step, known-whole, known-enough, known-failed}
 use Rattle.planroot.proofs.pass_input.Statement.{statement}
 use Rattle.planroot.proofs.pass_input.Tie as tie
-use Rattle.planroot.proofs.pass_input.Reads as reads
-use Rattle.planroot.proofs.pass_input.Lts as lts
-use Rattle.io.proofs.buffer.Reads as buffer-reads
-use Rattle.io.proofs.count.Reads as count-reads
-use Rattle.libc.proofs.read.Reads as read-reads
-use Rattle.planroot_input.proofs.decided.Reads as decided-reads
-use Rattle.planroot_input.proofs.start.Reads as start-reads
-use Rattle.planroot_input.proofs.step.Reads as step-reads
 
 abbrev Inv-loop : tie.InvT-loop
 Inv-loop masks₀ text₀ s₀ piece₀ left₀ masks text s piece left = Known s masks text × (length masks ≡ length masks₀) × (length text ≡ length text₀) × (length piece ≡ 4096)

@@ -3,14 +3,8 @@ use native.Mathlib.Omega.{arith}
 use lib.Seq.{length-take-le}
 use borrow.Author.Needs.{needs}
 use Rattle.planroot_line.proofs.Finishing.{answer-few}
-use borrow.Author.Needs.{needs}
 use Rattle.planroot.proofs.say.Statement.{statement}
 use Rattle.planroot.proofs.say.Tie as tie
-use Rattle.planroot.proofs.say.Reads as reads
-use Rattle.planroot.proofs.say.Lts as lts
-use Rattle.io.proofs.write_all.Reads as write-all-reads
-use Rattle.os.proofs.fail.Reads as fail-reads
-use Rattle.planroot_line.proofs.answer.Reads as answer-reads
 
 slice-aggregate-answer : tie.Need-slice-aggregate-answer
 slice-aggregate-answer c = search needs

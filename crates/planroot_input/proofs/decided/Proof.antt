@@ -1,11 +1,8 @@
 use mathlib.Core.Path.{refl}
 use borrow.Author.Tests.{not-true}
-use borrow.Author.Needs.{needs}
 use Rattle.planroot_input.proofs.Settling.{decides-first, decides-wrong, decides-second, decides-text}
 use Rattle.planroot_input.proofs.decided.Statement.{statement}
 use Rattle.planroot_input.proofs.decided.Tie as tie
-use Rattle.planroot_input.proofs.decided.Reads as reads
-use Rattle.planroot_input.proofs.decided.Lts as lts
 
 returns : tie.Need-returns
 returns c =

@@ -126,5 +126,5 @@ pub record Decided (input : List ℕ) (r : Bool) : Type 0 where
   pub settled : r ≡ true → Settled input
   pub in-time : 4096 < length (text input) → r ≡ true
 
-unfoldable pub Decides : Scan → Bool → Type 0
-Decides s r = (input ms tx : List ℕ) → Scanned input s ms tx → Decided input r
+unfoldable pub DecidesLine : Scan → Bool → Type 0
+DecidesLine s r = (input ms tx : List ℕ) → Scanned input s ms tx → Decided input r

@@ -1,12 +1,7 @@
 use borrow.Author.Needs.{needs}
 use Rattle.planroot_line.proofs.Finishing.{answer-shown}
-use borrow.Author.Needs.{needs}
 use Rattle.planroot_line.proofs.answer.Statement.{statement}
 use Rattle.planroot_line.proofs.answer.Tie as tie
-use Rattle.planroot_line.proofs.answer.Reads as reads
-use Rattle.planroot_line.proofs.answer.Lts as lts
-use Rattle.planroot_line.proofs.finish.Reads as finish-reads
-use Rattle.planroot_print.proofs.put_line.Reads as put-line-reads
 
 finish-requires : tie.Need-finish-requires
 finish-requires c κs = search needs

@@ -1,18 +1,13 @@
-use Rattle.planroot_line.specs.Line.{tableRoom, cellRoom}
-use native.Mathlib.Omega.{arith}
 use Prim.Native.Nat.{ℕ}
+use native.Mathlib.Omega.{arith}
 use lib.ListN.{length-replicate}
 use borrow.Author.Tests.{not-true, not-false}
 use borrow.Author.Needs.{needs}
 use Rattle.table_format.specs.Bytes.{headerLength}
+use Rattle.planroot_line.specs.Line.{tableRoom, cellRoom}
 use Rattle.planroot_line.proofs.Finishing.{closed-short, finish-refused, finish-line}
-use borrow.Author.Needs.{needs}
 use Rattle.planroot_line.proofs.finish.Statement.{statement}
 use Rattle.planroot_line.proofs.finish.Tie as tie
-use Rattle.planroot_line.proofs.finish.Reads as reads
-use Rattle.planroot_line.proofs.finish.Lts as lts
-use Rattle.planroot_input.proofs.close.Reads as close-reads
-use Rattle.planroot_line.proofs.text_line.Reads as text-line-reads
 
 close-requires : tie.Need-close-requires
 close-requires c κs = search needs

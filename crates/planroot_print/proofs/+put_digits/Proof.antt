@@ -1,12 +1,11 @@
-use mathlib.Core.Path.{_≡_, sym, _∙_}
-use Prim.Native.Nat.{_-_, _/_}
+use mathlib.Core.Path.{_∙_}
+use Prim.Native.Nat.{ℕ, _-_, _/_, _<_}
 use native.Mathlib.Omega.{arith}
 use borrow.Author.Needs.{needs}
-use Rattle.planroot_print.proofs.Putting.{puts-length}
-use Rattle.planroot_print.proofs.Digits.{digits-few, put-none, put-one, put-last}
-use Prim.Native.Nat.{ℕ, _<_}
 use borrow.Fn.Kinds.{In}
 use borrow.Fn.PlainCycle.{Measures, is, falls, and}
+use Rattle.planroot_print.proofs.Putting.{puts-length}
+use Rattle.planroot_print.proofs.Digits.{digits-few, put-none, put-one, put-last}
 use Rattle.planroot_print.proofs.put_digits.Reads as put-digits
 use Rattle.planroot_print.proofs.put_digits.Kinds as put-digits-kinds
 use Rattle.planroot_print.proofs.+put_digits.Lts-put_digits as put-digits-lts

@@ -1,12 +1,7 @@
 use borrow.Author.Needs.{needs}
 use Rattle.planroot_print.proofs.Lines.{penalty-line, refusal-line}
-use borrow.Author.Needs.{needs}
 use Rattle.planroot_print.proofs.put_line.Statement.{statement}
 use Rattle.planroot_print.proofs.put_line.Tie as tie
-use Rattle.planroot_print.proofs.put_line.Reads as reads
-use Rattle.planroot_print.proofs.put_line.Lts as lts
-use Rattle.planroot_print.proofs.put_penalty.Reads as put-penalty-reads
-use Rattle.planroot_print.proofs.put_refusal.Reads as put-refusal-reads
 
 enum-known-line : tie.Need-enum-known-line
 enum-known-line c = search needs

@@ -2,14 +2,8 @@ use native.Mathlib.Omega.{arith}
 use borrow.Author.Needs.{needs}
 use Rattle.planroot_print.proofs.Digits.{digits-few}
 use Rattle.planroot_print.proofs.Lines.{refusal-put}
-use borrow.Author.Needs.{needs}
 use Rattle.planroot_print.proofs.put_refusal.Statement.{statement}
 use Rattle.planroot_print.proofs.put_refusal.Tie as tie
-use Rattle.planroot_print.proofs.put_refusal.Reads as reads
-use Rattle.planroot_print.proofs.put_refusal.Lts as lts
-use Rattle.planroot_print.proofs.put_byte.Reads as put-byte-reads
-use Rattle.planroot_print.proofs.put_digits.Reads as put-digits-reads
-use Rattle.planroot_print.proofs.put_word.Reads as put-word-reads
 
 slice-aggregate-put-word : tie.Need-slice-aggregate-put-word
 slice-aggregate-put-word c = search needs

@@ -1,14 +1,10 @@
-use mathlib.Core.Path.{_≡_, refl, _∙_}
 use Prim.Native.Nat.{_+_, _-_, _≤_}
 use native.Mathlib.Omega.{arith}
 use lib.ListN.{length, take}
-use borrow.Author.Needs.{needs}
 use Rattle.planroot_print.specs.inner.Puts.{Puts}
 use Rattle.planroot_print.proofs.Putting.{puts-start, puts-length, puts-next, puts-all}
 use Rattle.planroot_print.proofs.put_word.Statement.{statement}
 use Rattle.planroot_print.proofs.put_word.Tie as tie
-use Rattle.planroot_print.proofs.put_word.Reads as reads
-use Rattle.planroot_print.proofs.put_word.Lts as lts
 
 abbrev Inv-loop : tie.InvT-loop
 Inv-loop out₀ at word i₀ out i = Puts at (take i word) out₀ (at + i) out × (i ≤ length word)

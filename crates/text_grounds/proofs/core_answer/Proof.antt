@@ -1,4 +1,4 @@
-use mathlib.Core.Path.{refl, sym, _∙_}
+use mathlib.Core.Path.{refl}
 use borrow.Author.Needs.{needs}
 use Rattle.text_grounds.proofs.Answering.{answer-declared, answer-names, answer-constants, answer-quantifiers, answer-nodes, answer-cells, answer-counts}
 use Rattle.text_grounds.proofs.core_answer.Statement.{statement}

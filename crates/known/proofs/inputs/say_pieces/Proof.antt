@@ -5,15 +5,8 @@ use borrow.Author.Needs.{needs}
 use Rattle.planroot_line.specs.inner.Pieces.{started, stepped}
 use Rattle.planroot_line.proofs.Pieces.{passed-scanned}
 use Rattle.planroot_line.proofs.Finishing.{answer-few}
-use borrow.Author.Needs.{needs}
 use Rattle.known.proofs.inputs.say_pieces.Statement.{statement}
 use Rattle.known.proofs.inputs.say_pieces.Tie as tie
-use Rattle.known.proofs.inputs.say_pieces.Reads as reads
-use Rattle.known.proofs.inputs.say_pieces.Lts as lts
-use Rattle.io.proofs.write_all.Reads as write-all-reads
-use Rattle.planroot_input.proofs.start.Reads as start-reads
-use Rattle.planroot_input.proofs.step.Reads as step-reads
-use Rattle.planroot_line.proofs.answer.Reads as answer-reads
 
 start-requires : tie.Need-start-requires
 start-requires c κs = search needs
