@@ -117,7 +117,7 @@ fn fill_forest(
     )
 }
 
-// Fills a plan's own cells, whose table and masks are sound: the root's cell, then what stands below it.
+// Fills the own cells of a plan whose table and masks are sound: the root's cell, then what stands below it.
 pub fn fill(table: &[u8], ports: usize, sets: usize, nodes: usize, masks: &[u64], cells: &mut [u32])
     requires { ⌜ FillReady (now table) ports sets nodes (now masks) (now cells) ⌝ }
     ensures { λ _. ⌜ FillsPlan (now (table .entry)) (now (masks .entry)) (now (cells .exit)) ⌝ }

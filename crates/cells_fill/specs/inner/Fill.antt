@@ -36,7 +36,7 @@ config u n masks = configured u n (inMasks masks)
 unfoldable pub table : ℕ → Configuration → Forest → ℕ → List ℕ
 table u k f d = layout u (λ n c b i e. penalty u k n c e) f 0 d
 
--- A record's own cells, which are begun.
+-- A record's own cells, no more and no less, are begun.
 pub record StartPlaced (kind relation a b sets ports depth width : ℕ) (masks cells : List ℕ) : Type 0 where
   pub fields : fieldRule sets depth kind relation a b ≡ true
   pub ports1 : 1 ≤ ports
