@@ -17,9 +17,10 @@ pub fn load(table: &[u8], masks: &[u64], cells: &mut [u32]) -> Loaded
     if o.number != 0 {
         return Loaded::Refused(o.number);
     }
-    fill(table, o.ports, o.sets, o.nodes, masks, cells);
+    let total = o.cells;
+    fill(table, o.ports, o.sets, o.nodes, masks, &mut cells[0..total]);
     Loaded::Accepted {
         root: cells[0],
-        cells: o.cells as u32,
+        cells: total as u32,
     }
 }

@@ -17,7 +17,7 @@ use Rattle.logic.specs.Penalty.{sum, below, penalties, penalty}
 use Rattle.logic.specs.Cells.{cellCount, tupleAt, tabulate, layout}
 use Rattle.logic.proofs.Tables.{length-tabulate, getD-tabulate, tabulate-cong, length-layout}
 use Rattle.logic.proofs.Bound.{spread, spread-pos, subtreeCells, subtree-count, below-penalties-le, literals-low, ports-in-le}
-use Rattle.logic.proofs.Lent.{lent, back, lent-is, back-is, back-length}
+use Rattle.logic.proofs.Lent.{lent, back, lent-is, back-is}
 use Rattle.table_format.specs.Bytes.{recordLength, kindField, relationField, aField, bField, endField, relationByte, aByte, bByte, nodeOf, records}
 use Rattle.table_format.specs.Rules.{everyNode, nodeRule, depthRule, treeCount, arityRule}
 use Rattle.table_format.specs.inner.Tests.{fieldRule, kindDepth, kindWidth}
@@ -32,6 +32,7 @@ use Rattle.table_format.proofs.Rooted.{every-node}
 use Rattle.cells_join.specs.inner.Joined.{joinAll, merged, joinOf, spreadOf}
 use Rattle.cells_fill.specs.inner.Fill.{startCell, treewise, config, table, StartPlaced, started, FillPlaced, Filled, Fills}
 use Rattle.cells_join.proofs.Prefix.{join-append}
+use Rattle.cells_fill.proofs.Parts.{lentTo, backTo, lent-length, back-to-is, back-to-length}
 use Rattle.cells_fill.proofs.Values.{literal-spread, own-cell, cells-below, table-tree}
 
 length-table : (u : ℕ) (k : Configuration) (f : Forest) (d : ℕ) → length (table u k f d) ≡ cellCount u f d
@@ -175,12 +176,12 @@ module _ (l : List ℕ) (i up above ports sets depth width over at outer : ℕ) 
   K = config ports sets masks
 
   abbrev xs₁ : List ℕ
-  xs₁ = back at xs ys₁
+  xs₁ = backTo at (at + width) xs ys₁
 
   abbrev xs₂ : List ℕ
   xs₂ = back at xs₁ zs₁
 
-  module _ (st : ys₁ ≡ started (kindField l) (relationField l) (aField l) (bField l) sets ports depth width masks (lent at xs))
+  module _ (st : ys₁ ≡ started (kindField l) (relationField l) (aField l) (bField l) sets ports depth width masks)
       (kids : Filled (kindField l) ports sets below′ width width depth m c masks (lent at xs₁) zs₁ nn)
       (mg : xs₃ ≡ merged (joinOf above) over (spreadOf above ports) at xs₂)
       (rest : Filled above ports sets depth over (at + nn) outer n s masks xs₃ xs₄ r) where
@@ -217,14 +218,12 @@ module _ (l : List ℕ) (i up above ports sets depth width over at outer : ℕ) 
       lC : length (A ++ G) ≡ at
       lC = length-append A G ∙ lG
 
-      begun : ys₁ ≡ U ++ (X₂ ++ (X₃ ++ R))
+      begun : ys₁ ≡ U
       unfolding started
-      begun =
-          st ∙ ap (λ (x : List ℕ). U ++ drop width x) (ap (lent at) ex ∙ lent-is at (A ++ G) (X₁ ++ (X₂ ++ (X₃ ++ R))) lC)
-          ∙ ap (λ (x : List ℕ). U ++ x) (drop-at X₁ (X₂ ++ (X₃ ++ R)) width l₁)
+      begun = st
 
       table₁ : xs₁ ≡ (A ++ G) ++ (U ++ (X₂ ++ (X₃ ++ R)))
-      table₁ = ap₂ (back at) ex begun ∙ back-is at (A ++ G) (X₁ ++ (X₂ ++ (X₃ ++ R))) (U ++ (X₂ ++ (X₃ ++ R))) lC
+      table₁ = ap₂ (backTo at (at + width)) ex begun ∙ back-to-is at (at + width) (A ++ G) X₁ (X₂ ++ (X₃ ++ R)) U lC (omega (arith, l₁))
 
       below-filled : zs₁ ≡ own ++ (T ++ (X₃ ++ R))
       below-filled =
@@ -311,9 +310,9 @@ pub fill-tree : (l : List ℕ) (i above ports sets depth width over at : ℕ) (m
     → (e : ℕ) → e ≡ endField l
     → (kind relation a b : ℕ) → kind ≡ kindField l → relation ≡ relationField l → a ≡ aField l → b ≡ bField l
     → (below′ nn r : ℕ) → below′ ≡ kindDepth kind depth → (ys₁ zs₁ xs₃ xs₄ : List ℕ) → recordLength ≤ length l
-    → ys₁ ≡ started kind relation a b sets ports depth width masks (lent at xs)
-    → Fills (kidsOf l i e) (i + 1) kind ports sets below′ width width masks (lent at (back at xs ys₁)) zs₁ nn
-    → xs₃ ≡ merged (joinOf above) over (spreadOf above ports) at (back at (back at xs ys₁) zs₁)
+    → ys₁ ≡ started kind relation a b sets ports depth width masks
+    → Fills (kidsOf l i e) (i + 1) kind ports sets below′ width width masks (lent at (backTo at (at + width) xs ys₁)) zs₁ nn
+    → xs₃ ≡ merged (joinOf above) over (spreadOf above ports) at (back at (backTo at (at + width) xs ys₁) zs₁)
     → Fills (restOf l i e) e above ports sets depth over (at + nn) masks xs₃ xs₄ r
     → Fills l i above ports sets depth over at masks xs xs₄ r
 unfolding Fills
@@ -325,11 +324,11 @@ fill-tree l i above ports sets depth width over at masks xs p e en kind relation
     go (tree m c s) q g =
         let o = fill-opened l i up depth sets e m c s q (ap (λ (x : Forest). everyNode (nodeRule sets) x depth) (sym g) ∙ p .rules) en in
         let below-is = bd ∙ ap (λ (x : ℕ). kindDepth x depth) ki ∙ sym (o .below) in
-        let started-is = st ∙ (λ j. started (ki j) (ri j) (ai j) (bi j) sets ports depth width masks (lent at xs)) in
+        let started-is = st ∙ (λ j. started (ki j) (ri j) (ai j) (bi j) sets ports depth width masks) in
         let filled = kids m depth c i (sym (ki ∙ o .kind)) below-is (p .width-is) (o .kids) in
         tree-filled l i up above ports sets depth width over at outer masks xs n m c s e o (p .ports1) (p .ports64)
         (rw g at (p .few)) kn dn on (p .width-is) below′ nn r below-is ys₁ zs₁ xs₃ xs₄ started-is
-        (subst (λ (x : ℕ). Filled x ports sets below′ width width depth m c masks (lent at (back at xs ys₁)) zs₁ nn) ki filled) mg
+        (subst (λ (x : ℕ). Filled x ports sets below′ width width depth m c masks (lent at (backTo at (at + width) xs ys₁)) zs₁ nn) ki filled) mg
         (rest n outer s up kn dn on (rest-all (recordLength * (e - i)) l ∙ o .rest))
 
 -- What the code needs before each call.
@@ -341,9 +340,10 @@ pub record FillFacts (l : List ℕ) (i above ports sets depth width over at : �
   pub rest-shorter : length (restOf l i e) < length l
   pub depth3 : depth ≤ 3
   pub width-low : width ≤ 262144
-  pub start : StartPlaced kind relation a b sets ports depth width masks (lent at xs)
-  pub kids : (ys : List ℕ) → length ys ≡ length (lent at xs) → (below wider : ℕ) → below ≡ kindDepth kind depth → wider ≡ kindWidth kind width ports
-      → FillPlaced (kidsOf l i e) (i + 1) kind ports sets below wider width width masks (lent at (back at xs ys))
+  pub own-room : at + width ≤ length xs
+  pub start : StartPlaced kind relation a b sets ports depth width masks (lentTo at (at + width) xs)
+  pub kids : (ys : List ℕ) → length ys ≡ length (lentTo at (at + width) xs) → (below wider : ℕ) → below ≡ kindDepth kind depth → wider ≡ kindWidth kind width ports
+      → FillPlaced (kidsOf l i e) (i + 1) kind ports sets below wider width width masks (lent at (backTo at (at + width) xs ys))
   pub merging : at + over * spreadOf above ports ≤ length xs
   pub rest : (nn below : ℕ) → below ≡ kindDepth kind depth → ((m : Node) (outer : ℕ) (c : Forest) (up : ℕ) → kindNumber m ≡ kind → below ≡ childDepth m outer → width ≡ ports ^ outer
       → kidsOf l i e ≡ records c (i + 1) up → nn ≡ width + cellCount ports c below)
@@ -381,7 +381,8 @@ fill-facts l i above ports sets depth width over at masks xs p long e en kind re
         let span : recordLength ≤ recordLength * (e - i) = one-fits recordLength record-pos (e - i) (omega arith) in
         let lk = length-children recordLength record-pos (e - i) l within in
         let lr = length-rest-all (recordLength * (e - i)) l in
-        let lx : length (lent at xs) ≡ length xs - at = length-take-le (length xs - at) (drop at xs) (rw (length-drop at xs) (omega arith)) in
+        let own : at + width ≤ length xs = omega arith in
+        let lx = lent-length at (at + width) xs (omega arith) own in
         let wl : width ≤ 262144 = rw w (width-low ports depth (p .ports1) (p .ports64) (o .depth3)) in
         record {
           after = after;
@@ -391,20 +392,21 @@ fill-facts l i above ports sets depth width over at masks xs p long e en kind re
           rest-shorter = omega (arith, record-pos);
           depth3 = o .depth3;
           width-low = wl;
+          own-room = own;
           start = record {
             fields = o .fields;
             ports1 = p .ports1;
             ports64 = p .ports64;
             depth3 = o .depth3;
             width-is = w;
-            room = omega arith;
+            own-cells = omega arith;
             sets-masks = p .sets-masks;
             within = p .within;
           };
           kids = λ ys ly below wider bd wd.
-              let lb = back-length at xs ys (omega arith) ly in
-              let lz : length (lent at (back at xs ys)) ≡ length xs - at =
-              length-take-le (length (back at xs ys) - at) (drop at (back at xs ys)) (rw (length-drop at (back at xs ys)) (omega arith)) ∙ ap (λ (x : ℕ). x - at) lb in
+              let ws = backTo at (at + width) xs ys in
+              let lb = back-to-length at (at + width) xs ys (omega arith) own ly in
+              let lz : length (lent at ws) ≡ length xs - at = lent-length at (length ws) ws (omega arith) (omega arith) ∙ ap (λ (x : ℕ). x - at) lb in
               let b = bd ∙ sym (o .below) in
               record {
                 parent = m;

@@ -1,5 +1,6 @@
 -- Laws.
 pub mod Filling
 pub mod Loading
+pub mod Parts
 pub mod Starting
 pub mod Values

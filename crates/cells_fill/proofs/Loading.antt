@@ -24,6 +24,7 @@ use Rattle.cells_join.specs.inner.Joined.{unitOf, joinAll, joinOf}
 use Rattle.cells_fill.specs.inner.Fill.{startCell, treewise, config, table, FillPlaced, Fills, FillsPlan}
 use Rattle.cells_fill.proofs.Values.{own-cell, table-tree}
 use Rattle.cells_fill.proofs.Filling.{low-below}
+use Rattle.cells_fill.proofs.Parts.{nothing-behind}
 use Rattle.table_format.proofs.Ready.{TableReady, own-zero}
 
 pub placed-plan : (bytes : List ℕ) (P : Plan) (nodes : ℕ) (masks xs : List ℕ) → TableReady bytes P nodes → P .sets ≤ length masks → allWithin (P .ports) (take (P .sets) masks) ≡ true
@@ -93,12 +94,12 @@ plan-table P own c e =
     ap (λ (Q : Plan). layout (P .ports) (λ n c b d x. penalty (P .ports) (config (P .ports) (P .sets) own) n c x) (Q .formula) 0 0) e
     ∙ root-cells (P .ports) (config (P .ports) (P .sets) own) c
 
-pub plan-filled : (bytes : List ℕ) (P : Plan) (nodes r : ℕ) (masks xs ys zs : List ℕ) → decode bytes ≡ sound P → TableReady bytes P nodes → ownCells P ≤ length xs
+pub plan-filled : (bytes : List ℕ) (P : Plan) (nodes r : ℕ) (masks xs ys zs : List ℕ) → decode bytes ≡ sound P → TableReady bytes P nodes → length xs ≡ ownCells P
     → ys ≡ tabulate 1 (λ _. unitOf 1) ++ drop 1 xs
     → Fills (belowRoot bytes nodes) 1 0 (P .ports) (P .sets) 0 1 1 (take (P .sets) masks) ys zs r
-    → FillsPlan bytes masks xs zs
+    → FillsPlan bytes masks zs
 unfolding Fills FillsPlan ownMasks kindNumber childDepth
-plan-filled bytes P nodes r masks xs ys zs d rd l ye fl Q dq = subst (λ (R : Plan). zs ≡ cells R (spelled R (take (R .sets) masks)) ++ drop (ownCells R) xs) one whole
+plan-filled bytes P nodes r masks xs ys zs d rd l ye fl Q dq = subst (λ (R : Plan). zs ≡ cells R (spelled R (take (R .sets) masks))) one whole
   where
     u : ℕ
     u = P .ports
@@ -124,11 +125,11 @@ plan-filled bytes P nodes r masks xs ys zs d rd l ye fl Q dq = subst (λ (R : Pl
         (ye ∙ ap₂ (λ (a b : List ℕ). a ++ b) (first-one (λ _. unitOf 1)) (sym (take-append-drop m (drop 1 xs)) ∙ ap (λ (b : List ℕ). X ++ b) (drop-drop m 1 xs)))
         refl refl (length-take-le m (drop 1 xs) (rw (length-drop 1 xs) (omega (arith, rd .total))))
 
-    whole : zs ≡ cells P (spelled P own) ++ drop (ownCells P) xs
+    whole : zs ≡ cells P (spelled P own)
     whole =
         got
-        ∙ ap₂ (λ (a : List ℕ) (b : ℕ). a ++ (table u (config u (P .sets) own) c 0 ++ drop b xs))
+        ∙ ap (λ (a : List ℕ). a ++ (table u (config u (P .sets) own) c 0 ++ drop (1 + m) xs))
         (first-one (λ t. joinAll (joinOf 0) (getD (unitOf 1 ∷ []) t 0) (treewise u (config u (P .sets) own) root c (tupleAt u 0 t)))
         ∙ ap (λ (x : ℕ). x ∷ []) (root-first P own c (rd .facts)))
-        (let e : 1 + m ≡ ownCells P = omega (arith, rd .total) in e)
-        ∙ ap (λ (a : List ℕ). a ++ drop (ownCells P) xs) (sym (plan-table P own c (rd .is-root)))
+        ∙ nothing-behind (1 + m) (penalty u (config u (P .sets) own) root c [] ∷ table u (config u (P .sets) own) c 0) xs (omega (arith, rd .total))
+        ∙ sym (plan-table P own c (rd .is-root))

@@ -16,7 +16,7 @@ use table_rules::child_width;
 ghost use mathlib.Core.Path.{_≡_};
 ghost use Rattle.cells_fill.specs.inner.Fill.{StartPlaced, started, FillPlaced, Fills, FillReady, FillsPlan};
 
-// Begins a node's own cells: a literal's penalties, or the join of nothing.
+// Begins a node's own cells, which are all it is lent: a literal's penalties, or the join of nothing.
 fn start_cells(
     kind: u8,
     relation: u8,
@@ -30,7 +30,7 @@ fn start_cells(
     cells: &mut [u32],
 )
     requires { ⌜ StartPlaced kind relation a b sets ports depth width (now masks) (now cells) ⌝ }
-    ensures { λ _. ⌜ now (cells .exit) ≡ started kind relation a b sets ports depth width (now (masks .entry)) (now (cells .entry)) ⌝ }
+    ensures { λ _. ⌜ now (cells .exit) ≡ started kind relation a b sets ports depth width (now (masks .entry)) ⌝ }
 {
     if 5 <= kind {
         put_literal(
@@ -84,7 +84,7 @@ fn fill_forest(
         depth,
         width,
         masks,
-        &mut cells[at..],
+        &mut cells[at..at + width],
     );
     let below = child_depth(kind, depth);
     let wider = child_width(kind, width, ports);
@@ -117,10 +117,10 @@ fn fill_forest(
     )
 }
 
-// Fills every cell of a plan, whose table and masks are sound: the root's cell, then what stands below it.
+// Fills the own cells of a plan whose table and masks are sound: the root's cell, then what stands below it.
 pub fn fill(table: &[u8], ports: usize, sets: usize, nodes: usize, masks: &[u64], cells: &mut [u32])
     requires { ⌜ FillReady (now table) ports sets nodes (now masks) (now cells) ⌝ }
-    ensures { λ _. ⌜ FillsPlan (now (table .entry)) (now (masks .entry)) (now (cells .entry)) (now (cells .exit)) ⌝ }
+    ensures { λ _. ⌜ FillsPlan (now (table .entry)) (now (masks .entry)) (now (cells .exit)) ⌝ }
 {
     let below = below_root(table, nodes);
     put_unit(1, 1, cells);

@@ -3,7 +3,7 @@ use mathlib.Core.Path.{_≡_}
 use mathlib.Core.Bool.{true}
 use mathlib.Core.List.{List, [], _∷_, _++_}
 use Prim.Native.Nat.{ℕ, _+_, _*_, _^_, _≤_}
-use lib.ListN.{length, getD, take, drop}
+use lib.ListN.{length, getD, take}
 use Rattle.logic.specs.Formula.{Node, root, all, any, and, or, lit, Forest, none, tree, Plan, kindNumber, nodeCount, childDepth}
 use Rattle.logic.specs.Configuration.{Configuration, configured, inMasks, ownMasks, spelled, allWithin}
 use Rattle.logic.specs.Truth.{Tuple}
@@ -36,20 +36,20 @@ config u n masks = configured u n (inMasks masks)
 unfoldable pub table : ℕ → Configuration → Forest → ℕ → List ℕ
 table u k f d = layout u (λ n c b i e. penalty u k n c e) f 0 d
 
--- A record's own cells are begun.
+-- A record's own cells, no more and no less, are begun.
 pub record StartPlaced (kind relation a b sets ports depth width : ℕ) (masks cells : List ℕ) : Type 0 where
   pub fields : fieldRule sets depth kind relation a b ≡ true
   pub ports1 : 1 ≤ ports
   pub ports64 : ports ≤ 64
   pub depth3 : depth ≤ 3
   pub width-is : width ≡ ports ^ depth
-  pub room : width ≤ length cells
+  pub own-cells : length cells ≡ width
   pub sets-masks : sets ≤ length masks
   pub within : allWithin ports masks ≡ true
 
-unfoldable pub started : ℕ → ℕ → ℕ → ℕ → ℕ → ℕ → ℕ → ℕ → List ℕ → List ℕ → List ℕ
-started kind relation a b sets ports depth width masks cells =
-    tabulate width (λ t. startCell (config ports sets masks) (nodeOf kind relation a b) (tupleAt ports depth t)) ++ drop width cells
+unfoldable pub started : ℕ → ℕ → ℕ → ℕ → ℕ → ℕ → ℕ → ℕ → List ℕ → List ℕ
+started kind relation a b sets ports depth width masks =
+    tabulate width (λ t. startCell (config ports sets masks) (nodeOf kind relation a b) (tupleAt ports depth t))
 
 -- Where the records of some trees stand below a node `parent`, and their cells from place `at` on; the first `over` cells are
 -- the parent's.
@@ -87,7 +87,7 @@ Fills l i above ports sets depth over at masks before after r =
     (n : Node) (outer : ℕ) (f : Forest) (up : ℕ) → kindNumber n ≡ above → depth ≡ childDepth n outer → over ≡ ports ^ outer → l ≡ records f i up
     → Filled above ports sets depth over at outer n f masks before after r
 
--- A table that passed its check, masks within the ports and room for every cell.
+-- A table that passed its check, masks within the ports, and the plan's own cells.
 pub record FillReady (bytes : List ℕ) (ports sets nodes : ℕ) (masks cells : List ℕ) : Type 0 where
   pub plan : Plan
   pub decodes : decode bytes ≡ sound plan
@@ -96,9 +96,9 @@ pub record FillReady (bytes : List ℕ) (ports sets nodes : ℕ) (masks cells : 
   pub nodes-are : nodes ≡ nodeCount (plan .formula)
   pub own-masks : sets ≤ length masks
   pub within : allWithin ports (take sets masks) ≡ true
-  pub own-cells : ownCells plan ≤ length cells
+  pub own-cells : length cells ≡ ownCells plan
 
--- Every cell is Definition 5's penalty under the plan's own masks, and the rest is as it was.
-unfoldable pub FillsPlan : List ℕ → List ℕ → List ℕ → List ℕ → Type 0
-FillsPlan bytes masks before after =
-    (P : Plan) → decode bytes ≡ sound P → after ≡ planCells P (spelled P (take (ownMasks P) masks)) ++ drop (ownCells P) before
+-- Every cell is Definition 5's penalty under the plan's own masks.
+unfoldable pub FillsPlan : List ℕ → List ℕ → List ℕ → Type 0
+FillsPlan bytes masks after =
+    (P : Plan) → decode bytes ≡ sound P → after ≡ planCells P (spelled P (take (ownMasks P) masks))
