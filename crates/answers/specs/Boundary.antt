@@ -3,20 +3,19 @@ use mathlib.Core.Path.{_≡_}
 use mathlib.Core.List.{List}
 use Prim.Native.Nat.{ℕ}
 use Rattle.contracts.specs.State.{State}
-use Rattle.contracts.specs.declared.Answer.{Answer}
-use Rattle.contracts.specs.Read.{readNumber, readNodes, readTotal}
+use Rattle.contracts.specs.Read.{ReadValues}
 use Rattle.contracts.specs.Load.{LoadValues}
 use Rattle.answers.specs.declared.ReadAnswer.{ReadAnswer}
 use Rattle.answers.specs.declared.LoadAnswer.{LoadAnswer}
 
--- "The answer is the number with all other fields 0": each field of the struct by reading's own definitions.
-pub record ReadFields (a : Answer) (r : ReadAnswer) : Type 0 where
-  pub number-is : r .number ≡ readNumber a
-  pub nodes-are : r .nodes ≡ readNodes a
-  pub cells-are : r .cells ≡ readTotal a
+-- Each field of the struct by 01's number and values.
+pub record ReadFields (v : ReadValues) (r : ReadAnswer) : Type 0 where
+  pub number-is : r .number ≡ v .number
+  pub nodes-are : r .nodes ≡ v .nodes
+  pub cells-are : r .cells ≡ v .cells
 
 -- The struct and every byte of the output table afterwards.
-pub record ReadGives (given : Answer × List ℕ) (r : ReadAnswer) (table : List ℕ) : Type 0 where
+pub record ReadGives (given : ReadValues × List ℕ) (r : ReadAnswer) (table : List ℕ) : Type 0 where
   pub fields : ReadFields (given .0) r
   pub table-is : table ≡ given .1
 

@@ -11,6 +11,7 @@ ghost use Rattle.contracts.specs.declared.Moved.the-variants.{Accepted};
 ghost use Rattle.contracts.specs.declared.Improved.the-variants.{Made};
 ghost use Rattle.contracts.specs.Load.{loadValues};
 ghost use Rattle.contracts.specs.MoveCall.{moveValues};
+ghost use Rattle.contracts.specs.Read.{readValues};
 ghost use Rattle.answers.specs.Boundary.{ReadFields, LoadFields};
 ghost use Rattle.answers.specs.Moving.{MoveFields, ImproveFields};
 
@@ -55,7 +56,7 @@ pub struct LoadAnswer {
 
 // Reading's answer as its C struct.
 pub fn read_fields(a: Answer) -> ReadAnswer
-    ensures { λ r. ⌜ ReadFields a r ⌝ }
+    ensures { λ r. ⌜ ReadFields (readValues a) r ⌝ }
 {
     match a {
         Answer::Accepted { nodes, cells } => ReadAnswer {

@@ -1,5 +1,5 @@
 -- Reading's answer in each of its cases. Assumes nothing.
-use mathlib.Core.Path.{_≡_, sym, ap, _∙_}
+use mathlib.Core.Path.{_≡_, sym, ap, _∙_, subst}
 use mathlib.Core.Bool.{Bool, true, false, cond, _&&_}
 use mathlib.Core.List.{List, [], _∷_, _++_}
 use Prim.Native.Nat.{ℕ, suc, _≤_, _<_}
@@ -16,30 +16,31 @@ use Rattle.text_core.specs.Core.{planOf}
 use Rattle.text_core.specs.Grounds.{coreGrounds}
 use Rattle.contracts.specs.declared.Answer.{Answer}
 use Rattle.contracts.specs.declared.Answer.the-variants.{Refused}
-use Rattle.contracts.specs.Read.{tableLength, syntaxGrounds, textGrounds, readGrounds, readOr, reads}
+use Rattle.contracts.specs.Read.{ReadValues, tableLength, syntaxGrounds, textGrounds, readGrounds, readOr, reads, ReadPromise}
 use Rattle.call_read.specs.inner.Contract.{TextKept, SomeText, Finishes}
 use Rattle.text_core.proofs.Letters.{parsed-lettered}
 use Rattle.contracts.proofs.Grounds.{ports-in}
+use Rattle.call_read.proofs.Finishing.{refuses}
 
 module _ (u : ℕ) (s B : List ℕ) where
   abbrev grounds : List Ground
   grounds = readGrounds u s (length B)
 
-  refused-by : (g : ℕ) → refusal grounds ≡ suc g → _≡_ {A = Answer × List ℕ} (Refused (suc g), B) (reads u s B)
+  refused-by : (g : ℕ) → refusal grounds ≡ suc g → ReadPromise (reads u s B) (Refused (suc g)) B
   unfolding reads readOr
-  refused-by g e = sym (ap (λ (x : ℕ). readOr x u (parsed s) B) e)
+  refused-by g e = refuses g B _ (ap (λ (x : ℕ). readOr x u (parsed s) B) e)
 
-  pub read-10 : (leb 1 u && leb u 64) ≡ false → _≡_ {A = Answer × List ℕ} (Refused 10, B) (reads u s B)
+  pub read-10 : (leb 1 u && leb u 64) ≡ false → ReadPromise (reads u s B) (Refused 10) B
   unfolding textGrounds readGrounds refusal
   read-10 p = refused-by 9 (rw p)
 
   module _ (ports : (leb 1 u && leb u 64) ≡ true) where
-    pub read-1 : 4096 < length s → _≡_ {A = Answer × List ℕ} (Refused 1, B) (reads u s B)
+    pub read-1 : 4096 < length s → ReadPromise (reads u s B) (Refused 1) B
     unfolding textGrounds readGrounds refusal
     read-1 h = refused-by 0 (rw (ports, lt-ltb 4096 (length s) h))
 
     module _ (short : length s ≤ 4096) where
-      pub read-2 : knownBytes s ≡ false → _≡_ {A = Answer × List ℕ} (Refused 2, B) (reads u s B)
+      pub read-2 : knownBytes s ≡ false → ReadPromise (reads u s B) (Refused 2) B
       unfolding textGrounds readGrounds refusal
       read-2 k = refused-by 1 (rw (ports, le-ltb 4096 (length s) short, k))
 
@@ -49,7 +50,7 @@ module _ (u : ℕ) (s B : List ℕ) where
         unfolding textGrounds readGrounds refusal
         opened = rw (ports, le-ltb 4096 (length s) short, known)
 
-        pub read-3 : parsed s ≡ failed → _≡_ {A = Answer × List ℕ} (Refused 3, B) (reads u s B)
+        pub read-3 : parsed s ≡ failed → ReadPromise (reads u s B) (Refused 3) B
         unfolding syntaxGrounds refusal
         read-3 e = refused-by 2 (opened ∙ ap (λ (r : Result). refusal (syntaxGrounds u (length B) r)) e)
 
@@ -59,7 +60,7 @@ module _ (u : ℕ) (s B : List ℕ) where
           unfolding syntaxGrounds refusal
           in-grammar = opened ∙ ap (λ (r : Result). refusal (syntaxGrounds u (length B) r)) e
 
-          pub read-4 : tooDeep 0 a ≡ true → _≡_ {A = Answer × List ℕ} (Refused 4, B) (reads u s B)
+          pub read-4 : tooDeep 0 a ≡ true → ReadPromise (reads u s B) (Refused 4) B
           read-4 d =
               let rest = refusal (coreGrounds u sets a ++ ((12, ltb (length B) (tableLength (planOf u sets a))) ∷ [])) in
               refused-by 3 (in-grammar ∙ ap (λ (b : Bool). cond b 4 rest) d)
@@ -86,8 +87,9 @@ module _ (s t letters : List ℕ) (r : Syntax) (W : Whole s t letters r) (room :
 
   -- the answer of a text that is in the grammar and not too deep
   pub read-last : (u : ℕ) (B O : List ℕ) (x : Answer) → 1 ≤ u → u ≤ 64 → length s ≤ 4096 → knownBytes s ≡ true → r .deep ≡ false
-      → Finishes u t (r .end) letters (r .sets) B O x → _≡_ {A = Answer × List ℕ} (x, O) (reads u s B)
+      → Finishes u t (r .end) letters (r .sets) B O x → ReadPromise (reads u s B) x O
   unfolding Finishes
   read-last u B O x h g short known deep E =
-      E (W .sets) (W .tree) kept-text
-      ∙ read-rest u s B (ports-in u h g) short known (W .sets) (W .tree) (W .is) (sym (W .deeper) ∙ deep)
+      subst (λ (given : ReadValues × List ℕ). ReadPromise given x O)
+      (read-rest u s B (ports-in u h g) short known (W .sets) (W .tree) (W .is) (sym (W .deeper) ∙ deep))
+      (E (W .sets) (W .tree) kept-text)

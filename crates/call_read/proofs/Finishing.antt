@@ -22,11 +22,16 @@ use Rattle.text_core.specs.Grounds.{coreGrounds}
 use Rattle.text_grounds.proofs.Answering.{refusal-prefix}
 use Rattle.table_format.specs.Bytes.{tableBytes, encoding}
 use Rattle.text_emit.specs.inner.Emits.{PlanReady, WritesPlan}
-use Rattle.contracts.specs.declared.Answer.{Answer}
 use Rattle.contracts.specs.declared.Answer.the-variants.{Accepted, Refused}
-use Rattle.contracts.specs.Read.{tableLength, readOr}
+use Rattle.contracts.specs.Read.{ReadValues, readRefused, readValues, ReadTold, tableLength, readOr, ReadPromise}
 use Rattle.call_read.specs.inner.Contract.{TextKept, Finishes}
 use Rattle.contracts.proofs.Grounds.{refusal-first, CorePasses, core-passes, core-then, few-sets, whole-list}
+
+-- a refusal keeps reading's promise where the definition refuses with its number
+pub refuses : (g : ℕ) (B : List ℕ) (given : ReadValues × List ℕ) → given ≡ (readRefused (suc g), B) → ReadPromise given (Refused (suc g)) B
+unfolding readValues ReadTold
+refuses g B given e =
+    record { values-are = ap (λ (q : ReadValues × List ℕ). q .0) (sym e); told = omega arith; table-is = ap (λ (q : ReadValues × List ℕ). q .1) (sym e) }
 
 some-nodes : (sets : List ℕ) (a : Tree) → 1 ≤ nodeCount (coreOf sets a)
 unfolding coreOf nodeCount
@@ -65,10 +70,10 @@ module _ (u : ℕ) (t : List ℕ) (e : ℕ) (letters : List ℕ) (n : ℕ) (S : 
       first : c .refused ≡ refusal (coreGrounds u sets a)
       first = unfold coreRefusal in answered sets a K .refused-is ∙ refusal-prefix u sets a
 
-      go : (k : ℕ) → c .refused ≡ k → _≡_ {A = Answer × List ℕ} (Refused k, B) (readOr (refusal (coreGrounds u sets a ++ rest)) u (read sets a) B)
+      go : (k : ℕ) → c .refused ≡ k → ReadPromise (readOr (refusal (coreGrounds u sets a ++ rest)) u (read sets a) B) (Refused k) B
       go zero q = absurd (z q)
       go (suc g) q = unfold readOr in
-          sym (ap (λ (x : ℕ). readOr x u (read sets a) B) (refusal-first (coreGrounds u sets a) rest g (sym first ∙ q)))
+          refuses g B _ (ap (λ (x : ℕ). readOr x u (read sets a) B) (refusal-first (coreGrounds u sets a) rest g (sym first ∙ q)))
 
   module _ (z : c .refused ≡ 0) where
     passing-all : (sets : List Declared) (a : Tree) → TextKept t e letters n sets a → (lettersOf sets ≡ S) × Passing u sets a c
@@ -86,7 +91,7 @@ module _ (u : ℕ) (t : List ℕ) (e : ℕ) (letters : List ℕ) (n : ℕ) (S : 
           let count : nodes ≡ nodeCount (coreOf (lettersOf sets) a) = same ∙ P .nodes-are in
           let list : length S ≡ length sets = sym (sets-length sets S (w .0)) in
           let short : ltb (length B) (tableBytes (length sets) (nodeCount (coreOf (lettersOf sets) a))) ≡ true = lt-ltb (length B) _ (rw (list, count) at h) in
-          sym (ap (λ (x : ℕ). readOr x u (read sets a) B)
+          refuses 11 B _ (ap (λ (x : ℕ). readOr x u (read sets a) B)
           (core-then u sets a _ (P .passing) ∙ ap (λ (x : Bool). cond x 12 0) short))
 
       pub finish-few : (sets : List Declared) (a : Tree) → TextKept t e letters n sets a → nodes ≤ 512
@@ -106,7 +111,7 @@ module _ (u : ℕ) (t : List ℕ) (e : ℕ) (letters : List ℕ) (n : ℕ) (S : 
 
       pub finish-accepted : (O : List ℕ) → tableBytes (length S) nodes ≤ length B → WritesPlan u S t e nodes B O
           → Finishes u t e letters n B O (Accepted (c .nodes) (c .cells))
-      unfolding Finishes readOr refusal tableLength planOf WritesPlan ground7 ownCells
+      unfolding Finishes readValues ReadTold readOr refusal tableLength planOf WritesPlan ground7 ownCells
       finish-accepted O h W sets a K =
           let w = passing-all sets a K in
           let P = w .1 in
@@ -115,8 +120,12 @@ module _ (u : ℕ) (t : List ℕ) (e : ℕ) (letters : List ℕ) (n : ℕ) (S : 
           let fits : ltb (length B) (tableBytes (length sets) (nodeCount (coreOf (lettersOf sets) a))) ≡ false = le-ltb (length B) _ (rw (list, count) at h) in
           let bytes : O ≡ encoding (planOf u sets a) ++ drop (tableBytes (length sets) (nodeCount (coreOf (lettersOf sets) a))) B =
           rw count at (W sets a (w .0) record { stored = K .stored; lettered = K .lettered; shallow = P .passing .quantifiers } (rw (← w .0) count)) in
-          (λ i. (Accepted (P .nodes-are i) (P .cells-are i), bytes i))
-          ∙ sym (ap (λ (x : ℕ). readOr x u (read sets a) B) (core-then u sets a _ (P .passing) ∙ ap (λ (x : Bool). cond x 12 0) fits))
+          let none = ap (λ (x : ℕ). readOr x u (read sets a) B) (core-then u sets a _ (P .passing) ∙ ap (λ (x : Bool). cond x 12 0) fits) in
+          record {
+            values-are = (λ i. readValues (Accepted (P .nodes-are i) (P .cells-are i))) ∙ ap (λ (q : ReadValues × List ℕ). q .0) (sym none);
+            told = tt;
+            table-is = bytes ∙ ap (λ (q : ReadValues × List ℕ). q .1) (sym none);
+          }
 
 -- a part from the first place on
 pub from-start : (n : ℕ) (l : List ℕ) → take (n - 0) (drop 0 l) ≡ take n l

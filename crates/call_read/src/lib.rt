@@ -5,8 +5,7 @@ use text_emit::write_plan;
 use text_grounds::core_answer;
 use text_parse::parse;
 use text_tokens::known_bytes;
-ghost use mathlib.Core.Path.{_≡_};
-ghost use Rattle.contracts.specs.Read.{reads};
+ghost use Rattle.contracts.specs.Read.{reads, ReadPromise};
 ghost use Rattle.call_read.specs.inner.Contract.{SomeText, Finishes};
 
 // Tries grounds 5 to 9 and 12 of a text in the grammar, and writes its plan table.
@@ -32,7 +31,7 @@ fn finish(u: u8, t: &[u16], e: usize, letters: &[u8], n: usize, table: &mut [u8]
 
 // Reading: tries 10, then 1 to 9, each over the whole text, then 12, and writes the plan table of the text over u ports.
 pub fn read(u: u64, text: &[u8], table: &mut [u8]) -> Answer
-    ensures { λ r. ⌜ (r, now (table .exit)) ≡ reads u (now (text .entry)) (now (table .entry)) ⌝ }
+    ensures { λ r. ⌜ ReadPromise (reads u (now (text .entry)) (now (table .entry))) r (now (table .exit)) ⌝ }
 {
     if u < 1 {
         return Answer::Refused(10);

@@ -25,8 +25,8 @@ use Rattle.table_format.specs.Rules.{treeCount, arityRule, mostCells, formulaRu
 use Rattle.table_format.specs.Decode.{sound, decode}
 use Rattle.table_format.proofs.Encoding.{decode-complete}
 use Rattle.contracts.specs.declared.Answer.{Answer}
-use Rattle.contracts.specs.declared.Answer.the-variants.{Accepted}
-use Rattle.contracts.specs.Read.{readNumber, tableLength, syntaxGrounds, textGrounds, readGrounds, readOr, reads}
+use Rattle.contracts.specs.declared.Answer.the-variants.{Accepted, Refused}
+use Rattle.contracts.specs.Read.{ReadValues, readRefused, readValues, ReadTold, tableLength, syntaxGrounds, textGrounds, readGrounds, readOr, reads}
 use Rattle.contracts.specs.Admitted.{Admitted, admittedPlan}
 use Rattle.text_core.proofs.Letters.{parsed-sets}
 use Rattle.contracts.proofs.Grounds.{passes, few-sets, ports-in}
@@ -50,24 +50,32 @@ outside-not false true c q = omega arith
 outside-not false false true q = omega arith
 outside-not false false false q = omega arith
 
+-- The values leave one answer alone: two with the same values that reading may give are one.
+pub read-told : (a b : Answer) → ReadTold a → ReadTold b → readValues a ≡ readValues b → a ≡ b
+unfolding readRefused readValues ReadTold
+read-told (Accepted nodes total) (Accepted nodes′ total′) s t e = λ i. Accepted (e i .nodes) (e i .cells)
+read-told (Accepted nodes total) (Refused number) s t e = absurd (t (ap (λ (v : ReadValues). v .number) (sym e)))
+read-told (Refused number) (Accepted nodes total) s t e = absurd (s (ap (λ (v : ReadValues). v .number) e))
+read-told (Refused number) (Refused number′) s t e = λ i. Refused (e i .number)
+
 module _ (u : ℕ) (s B : List ℕ) where
   -- the number that reading answers
-  pub read-number : readNumber (reads u s B .0) ≡ refusal (readGrounds u s (length B))
+  pub read-number : reads u s B .0 .number ≡ refusal (readGrounds u s (length B))
   unfolding reads readGrounds
   read-number = go (parsed s) (refusal (readGrounds u s (length B))) refl
     where
-      go : (r : Result) (g : ℕ) → refusal (textGrounds u s (length B) r) ≡ g → readNumber (readOr g u r B .0) ≡ g
+      go : (r : Result) (g : ℕ) → refusal (textGrounds u s (length B) r) ≡ g → readOr g u r B .0 .number ≡ g
       go failed zero e = unfold textGrounds syntaxGrounds refusal in absurd (outside-not (not (leb 1 u && leb u 64)) (ltb 4096 (length s)) (not (knownBytes s)) e)
-      go (read sets a) zero e = unfold readNumber readOr in refl
-      go r (suc g) e = unfold readNumber readOr in refl
+      go (read sets a) zero e = unfold readRefused readOr in refl
+      go r (suc g) e = unfold readRefused readOr in refl
 
   -- By the grammar and not by the parser: of a text that the grammar derives, the grounds by its sets and its tree; of any other, 3 if
   -- none of 10, 1 and 2 applies.
-  pub read-derived : (sets : List Declared) (a : Tree) → Text (symbols s) sets a → readNumber (reads u s B .0) ≡ refusal (textGrounds u s (length B) (read sets a))
+  pub read-derived : (sets : List Declared) (a : Tree) → Text (symbols s) sets a → reads u s B .0 .number ≡ refusal (textGrounds u s (length B) (read sets a))
   unfolding readGrounds
   read-derived sets a D = read-number ∙ ap (λ (r : Result). refusal (textGrounds u s (length B) r)) (parsed-complete s sets a D)
 
-  pub read-outside : ((sets : List Declared) (a : Tree) → Text (symbols s) sets a → ⊥) → readNumber (reads u s B .0) ≡ refusal (textGrounds u s (length B) failed)
+  pub read-outside : ((sets : List Declared) (a : Tree) → Text (symbols s) sets a → ⊥) → reads u s B .0 .number ≡ refusal (textGrounds u s (length B) failed)
   unfolding readGrounds
   read-outside never = read-number ∙ ap (λ (r : Result). refusal (textGrounds u s (length B) r)) (go (parsed s) refl)
     where
@@ -106,7 +114,7 @@ module _ (u : ℕ) (s B : List ℕ) where
       }
 
   -- an accepted text is admitted
-  pub accepted-admitted : readNumber (reads u s B .0) ≡ 0 → Admitted u s (length B)
+  pub accepted-admitted : reads u s B .0 .number ≡ 0 → Admitted u s (length B)
   unfolding textGrounds readGrounds refusal
   accepted-admitted e =
       let p10 = passes (not (leb 1 u && leb u 64)) 9 _ (sym read-number ∙ e) in
@@ -136,13 +144,12 @@ module _ (u : ℕ) (s B : List ℕ) where
 
     -- The answer and the bytes for an admitted text.
     pub admitted-read : reads u s B
-        ≡ (Accepted (nodeCount (admittedPlan A .formula)) (ownCells (admittedPlan A)), encoding (admittedPlan A) ++ drop (tableLength (admittedPlan A)) B)
+        ≡ (record { number = 0; nodes = nodeCount (admittedPlan A .formula); cells = ownCells (admittedPlan A) }, encoding (admittedPlan A) ++ drop (tableLength (admittedPlan A)) B)
     unfolding reads readOr admittedPlan
     admitted-read = λ i. readOr (no-ground i) u (admitted-parsed i) B
 
-    pub admitted-accepted : readNumber (reads u s B .0) ≡ 0
-    unfolding readNumber
-    admitted-accepted = ap (λ (x : Answer × List ℕ). readNumber (x .0)) admitted-read
+    pub admitted-accepted : reads u s B .0 .number ≡ 0
+    admitted-accepted = ap (λ (x : ReadValues × List ℕ). x .0 .number) admitted-read
 
     -- The plan of an admitted text keeps the rules of a plan.
     pub admitted-rules : planRule (admittedPlan A) ≡ true
@@ -158,6 +165,6 @@ module _ (u : ℕ) (s B : List ℕ) where
     pub read-decodes : decode (reads u s B .1) ≡ sound (admittedPlan A)
     read-decodes = decode-complete _ _ record {
       rest = drop (tableLength (admittedPlan A)) B;
-      is = ap (λ (x : Answer × List ℕ). x .1) admitted-read;
+      is = ap (λ (x : ReadValues × List ℕ). x .1) admitted-read;
       rules = admitted-rules;
     }

@@ -1,4 +1,6 @@
 -- Reading a text: paper 01, sections Plan text and Grounds for refusal.
+use mathlib.Core.Path.{_≡_}
+use mathlib.Core.Logic.{_≢_}
 use mathlib.Core.Bool.{true, false, not, _&&_}
 use mathlib.Core.List.{List, [], _∷_, _++_}
 use Prim.Native.Nat.{ℕ, zero, suc}
@@ -16,18 +18,25 @@ use Rattle.table_format.specs.Bytes.{tableBytes, encoding}
 use Rattle.contracts.specs.declared.Answer.{Answer}
 use Rattle.contracts.specs.declared.Answer.the-variants.{Accepted, Refused}
 
--- "The answer is the number with all other fields 0": the number and the values of each case.
-unfoldable pub readNumber : Answer → ℕ
-readNumber (Accepted nodes total) = 0
-readNumber (Refused number) = number
+-- What reading answers, by 01's number and values: "Reading returns node count and cell total".
+pub record ReadValues : Type 0 where
+  pub number : ℕ
+  pub nodes : ℕ
+  pub cells : ℕ
 
-unfoldable pub readNodes : Answer → ℕ
-readNodes (Accepted nodes total) = nodes
-readNodes (Refused number) = 0
+-- "The answer is the number with all other fields 0."
+unfoldable pub readRefused : ℕ → ReadValues
+readRefused number = record { number = number; nodes = 0; cells = 0 }
 
-unfoldable pub readTotal : Answer → ℕ
-readTotal (Accepted nodes total) = total
-readTotal (Refused number) = 0
+-- "a definition gives this paper's number and values for every case of that enum"
+unfoldable pub readValues : Answer → ReadValues
+readValues (Accepted nodes total) = record { number = 0; nodes = nodes; cells = total }
+readValues (Refused number) = readRefused number
+
+-- No refusal has the number 0, so the values tell the case.
+unfoldable pub ReadTold : Answer → Type 0
+ReadTold (Accepted nodes total) = Unit {0}
+ReadTold (Refused number) = number ≢ 0
 
 -- "Header, 9 bytes"; "Then 8 bytes a node": the length of a plan's table, by its sets and nodes.
 unfoldable pub tableLength : Plan → ℕ
@@ -48,13 +57,20 @@ textGrounds u s room r =
 unfoldable pub readGrounds : ℕ → List ℕ → ℕ → List Ground
 readGrounds u s room = textGrounds u s room (parsed s)
 
--- The answer and every byte of the output table afterwards, where the first ground that applies is given, 0 for none. "Reading
--- returns node count and cell total and writes the plan table." A text outside the grammar meets ground 3.
-unfoldable pub readOr : ℕ → ℕ → Result → List ℕ → Answer × List ℕ
-readOr (suc g) u r before = (Refused (suc g), before)
-readOr zero u failed before = (Refused 3, before)
+-- The number and the values, and every byte of the output table afterwards, where the first ground that applies is given, 0 for none.
+-- "Reading returns node count and cell total and writes the plan table." A text outside the grammar meets ground 3.
+unfoldable pub readOr : ℕ → ℕ → Result → List ℕ → ReadValues × List ℕ
+readOr (suc g) u r before = (readRefused (suc g), before)
+readOr zero u failed before = (readRefused 3, before)
 readOr zero u (read sets a) before =
-    let P = planOf u sets a in (Accepted (nodeCount (P .formula)) (ownCells P), encoding P ++ drop (tableLength P) before)
+    let P = planOf u sets a in
+    (record { number = 0; nodes = nodeCount (P .formula); cells = ownCells P }, encoding P ++ drop (tableLength P) before)
 
-unfoldable pub reads : ℕ → List ℕ → List ℕ → Answer × List ℕ
+unfoldable pub reads : ℕ → List ℕ → List ℕ → ReadValues × List ℕ
 reads u s before = readOr (refusal (readGrounds u s (length before))) u (parsed s) before
+
+-- What `read` promises: its answer by 01's number and values, and every byte of the output table afterwards.
+pub record ReadPromise (given : ReadValues × List ℕ) (r : Answer) (table′ : List ℕ) : Type 0 where
+  pub values-are : readValues r ≡ given .0
+  pub told : ReadTold r
+  pub table-is : table′ ≡ given .1

@@ -26,7 +26,6 @@ use Rattle.text_core.proofs.SameTruth.{plan-true}
 use Rattle.table_format.specs.Decode.{Decoded, sound, decode}
 use Rattle.table_format.proofs.Encoding.{decode-sound}
 use Rattle.table_format.proofs.Facts.{plan-facts}
-use Rattle.contracts.specs.declared.Answer.{Answer}
 use Rattle.contracts.specs.State.{State, tables}
 use Rattle.contracts.specs.Load.{LoadValues, loadGrounds, loads}
 use Rattle.contracts.specs.Call.{planGrounds, tableGrounds, callGrounds}
@@ -34,22 +33,22 @@ use Rattle.contracts.proofs.LoadAnswers.{load-number, load-is, load-zero}
 use Rattle.contracts.proofs.Lists.{load-free}
 use Rattle.demands.specs.ReadThenLoad.{answer, loaded}
 use Rattle.demands.specs.TextToPlan.{StoredTrue, LoadedTrue}
-use Rattle.contracts.specs.Read.{readTotal, readNumber, textGrounds, reads}
+use Rattle.contracts.specs.Read.{ReadValues, textGrounds, reads}
 use Rattle.contracts.specs.Admitted.{admittedPlan, TextTrue, Admitted}
 use Rattle.contracts.proofs.Reading.{read-derived, read-outside, admitted-read, read-decodes, accepted-admitted, admitted-accepted}
 
 -- Reading accepts exactly the admitted texts.
-pub accepted-iff : (u : ℕ) (s B : List ℕ) → readNumber (reads u s B .0) ≡ 0 ↔ Admitted u s (length B)
+pub accepted-iff : (u : ℕ) (s B : List ℕ) → reads u s B .0 .number ≡ 0 ↔ Admitted u s (length B)
 accepted-iff u s B = (accepted-admitted u s B, admitted-accepted u s B)
 
 -- Its refusals by the grammar: of a text that the grammar derives, 4 to 9 and 12 by its sets and its tree, behind 10, 1 and 2; of any
 -- other text 3, behind the same.
 pub refused-derived : (u : ℕ) (s B : List ℕ) (sets : List Declared) (a : Tree) → Text (symbols s) sets a
-    → readNumber (reads u s B .0) ≡ refusal (textGrounds u s (length B) (read sets a))
+    → reads u s B .0 .number ≡ refusal (textGrounds u s (length B) (read sets a))
 refused-derived = read-derived
 
 pub refused-outside : (u : ℕ) (s B : List ℕ) → ((sets : List Declared) (a : Tree) → Text (symbols s) sets a → ⊥)
-    → readNumber (reads u s B .0) ≡ refusal (textGrounds u s (length B) failed)
+    → reads u s B .0 .number ≡ refusal (textGrounds u s (length B) failed)
 refused-outside = read-outside
 
 -- load's answer over a plan: its number and its total
@@ -94,7 +93,7 @@ load-right bytes before h P d =
       masks-kept = ap (λ (x : LoadValues × State). x .1 .masks) e;
     }
 
-module _ (u : ℕ) (s before : List ℕ) (accepted : readNumber (reads u s before .0) ≡ 0) where
+module _ (u : ℕ) (s before : List ℕ) (accepted : reads u s before .0 .number ≡ 0) where
   admitted : Admitted u s (length before)
   admitted = accepted-admitted u s before accepted
 
@@ -124,8 +123,8 @@ module _ (u : ℕ) (s before : List ℕ) (accepted : readNumber (reads u s befor
   stored-true = record { plan = plan; decodes = decodes; same-truth = text-true }
 
 -- Read, then load.
-module _ (u : ℕ) (s before : List ℕ) (accepted : readNumber (answer u s before) ≡ 0) (masks cells : List ℕ) where
-  taken : readNumber (reads u s before .0) ≡ 0
+module _ (u : ℕ) (s before : List ℕ) (accepted : answer u s before .number ≡ 0) (masks cells : List ℕ) where
+  taken : reads u s before .0 .number ≡ 0
   unfolding answer
   taken = accepted
 
@@ -144,11 +143,11 @@ module _ (u : ℕ) (s before : List ℕ) (accepted : readNumber (answer u s befo
   no-ground e = sym (load-number (sound read-plan) (tables masks cells)) ∙ sym (ap (λ (v : LoadValues). v .number) loads-plan) ∙ e
 
   -- Reading and an accepted load return the same cell total.
-  pub same-total : loaded u s before masks cells .number ≡ 0 → loaded u s before masks cells .cells ≡ readTotal (answer u s before)
-  unfolding answer readTotal read-plan plan
+  pub same-total : loaded u s before masks cells .number ≡ 0 → loaded u s before masks cells .cells ≡ answer u s before .cells
+  unfolding answer read-plan plan
   same-total e =
       ap (λ (v : LoadValues). v .cells) loads-plan ∙ total-is read-plan (tables masks cells) (no-ground e)
-      ∙ sym (ap (λ (x : Answer × List ℕ). readTotal (x .0)) (admitted-read u s before (admitted u s before taken)))
+      ∙ sym (ap (λ (x : ReadValues × List ℕ). x .0 .cells) (admitted-read u s before (admitted u s before taken)))
 
   -- Demand 2, end to end: after an accepted reading and an accepted load the root is 0 exactly when the text is true under the masks.
   pub zero-when-true : loaded u s before masks cells .number ≡ 0 → loaded u s before masks cells .root ≡ 0 ↔ TextTrue u masks s

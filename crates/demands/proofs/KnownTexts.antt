@@ -13,7 +13,7 @@ use Rattle.text_core.specs.Names.{setNumber, variableNumber, declaredTwice, mis
 use Rattle.text_core.specs.Core.{jointNode, joint, two, quantifierNode, opposite, relationAt, memberAt, testAt, literalAt, joinWith, place, coreOf, planOf}
 use Rattle.text_core.specs.Grounds.{coreGrounds}
 use Rattle.table_format.specs.Bytes.{headerLength, recordLength, recordsFrom, wordBytes, testRelation, testA, testB, relationByte, aByte, bByte, recordOf, recordBytes, records, header, encoding}
-use Rattle.contracts.specs.Read.{readNumber, tableLength, syntaxGrounds, textGrounds, readGrounds, readOr, reads}
+use Rattle.contracts.specs.Read.{readRefused, tableLength, syntaxGrounds, textGrounds, readGrounds, readOr, reads}
 use Rattle.demands.specs.KnownTexts.{blankTable, AllRead, knownTexts, allAnswered, answers}
 use Rattle.text_core.specs.Names as Names
 
@@ -22,5 +22,5 @@ unfolding relationNumber relationOf literalOf testKind kindNumber nodeCount chil
 texts-read = (refl, (refl, (refl, (refl, (refl, (refl, (refl, tt)))))))
 
 pub texts-answered : allAnswered answers ≡ true
-unfolding relationNumber relationOf literalOf testKind kindNumber nodeCount childDepth cellCount ownCells refusal someOf lettersOf tooDeep blanks afterBlanks singleKind signOf digits numberOf runAt runToken hereAt tokenAt blanksAndSigns among knownByte knownBytes arrowOf quantifierOf parseAt setsAt afterSets parsed Names.among setNumber variableNumber declaredTwice misdeclared misnamedTest misnamed ground5 highConstant ground6 fourth ground7 jointNode joint two quantifierNode opposite relationAt memberAt testAt literalAt joinWith place coreOf planOf coreGrounds headerLength recordLength recordsFrom tableLength syntaxGrounds textGrounds readGrounds readOr reads readNumber blankTable allAnswered answers
+unfolding relationNumber relationOf literalOf testKind kindNumber nodeCount childDepth cellCount ownCells refusal someOf lettersOf tooDeep blanks afterBlanks singleKind signOf digits numberOf runAt runToken hereAt tokenAt blanksAndSigns among knownByte knownBytes arrowOf quantifierOf parseAt setsAt afterSets parsed Names.among setNumber variableNumber declaredTwice misdeclared misnamedTest misnamed ground5 highConstant ground6 fourth ground7 jointNode joint two quantifierNode opposite relationAt memberAt testAt literalAt joinWith place coreOf planOf coreGrounds headerLength recordLength recordsFrom tableLength syntaxGrounds textGrounds readGrounds readRefused readOr reads blankTable allAnswered answers
 texts-answered = refl

@@ -11,9 +11,7 @@ use borrow.Author.Tests.{eqb-true}
 use Rattle.text_tokens.specs.Tokens.{pick}
 use Rattle.table_format.specs.Bytes.{setsField}
 use Rattle.table_format.specs.Decode.{decode}
-use Rattle.contracts.specs.declared.Answer.{Answer}
-use Rattle.contracts.specs.declared.Answer.the-variants.{Accepted, Refused}
-use Rattle.contracts.specs.Read.{readNumber, reads}
+use Rattle.contracts.specs.Read.{ReadValues, reads}
 use Rattle.contracts.specs.Admitted.{TextTrue}
 use Rattle.contracts.specs.State.{tables}
 use Rattle.contracts.specs.Load.{LoadValues, loads}
@@ -47,11 +45,23 @@ unfolding isPenalty
 counted-penalty true y h = load-penalty y h
 counted-penalty false y h = absurd (false≢true h)
 
-read-penalty : (x : Answer) (table ms cells : List ℕ) → isPenalty (readLine x table ms cells) ≡ true
-    → (readNumber x ≡ 0) × FromLoad (readLine x table ms cells) (loads (decode table) (tables ms cells) .0)
-unfolding isPenalty readLine readNumber
-read-penalty (Accepted nodes total) table ms cells h = (refl, counted-penalty (eqb (length ms) (setsField table)) (loads (decode table) (tables ms cells) .0) h)
-read-penalty (Refused number) table ms cells h = absurd (false≢true h)
+read-penalty : (v : ReadValues) (table ms cells : List ℕ) → isPenalty (readLine v table ms cells) ≡ true
+    → (v .number ≡ 0) × FromLoad (readLine v table ms cells) (loads (decode table) (tables ms cells) .0)
+unfolding isPenalty readLine
+read-penalty v table ms cells h = go (eqb (v .number) 0) refl h
+  where
+    counted : Bool
+    counted = eqb (length ms) (setsField table)
+
+    y : Loaded
+    y = loads (decode table) (tables ms cells) .0
+
+    line : Bool → Line
+    line t = pick t (pick counted (loadLine y) (Refusal 0)) (Refusal (v .number))
+
+    go : (t : Bool) → eqb (v .number) 0 ≡ t → isPenalty (line t) ≡ true → (v .number ≡ 0) × FromLoad (line t) y
+    go true e k = (eqb-true _ _ e, counted-penalty counted y k)
+    go false e k = absurd (false≢true k)
 
 module _ (input : List ℕ) where
   abbrev u : ℕ
@@ -63,7 +73,7 @@ module _ (input : List ℕ) where
   abbrev cells : List ℕ
   cells = zeros cellRoom
 
-  penalty-loaded : isPenalty (inputLine input) ≡ true → (readNumber (answer u (text input) before) ≡ 0) × FromLoad (inputLine input) (loaded u (text input) before (masks input) cells)
+  penalty-loaded : isPenalty (inputLine input) ≡ true → (answer u (text input) before .number ≡ 0) × FromLoad (inputLine input) (loaded u (text input) before (masks input) cells)
   unfolding isPenalty inputLine textLine answer loaded
   penalty-loaded h = go (sound input) h
     where
@@ -71,7 +81,7 @@ module _ (input : List ℕ) where
       line = readLine (reads u (text input) before .0) (reads u (text input) before .1) (masks input) cells
 
       go : (t : Bool) → isPenalty (pick t line (Refusal 0)) ≡ true
-          → (readNumber (reads u (text input) before .0) ≡ 0) × FromLoad (pick t line (Refusal 0)) (loads (decode (reads u (text input) before .1)) (tables (masks input) cells) .0)
+          → (reads u (text input) before .0 .number ≡ 0) × FromLoad (pick t line (Refusal 0)) (loads (decode (reads u (text input) before .1)) (tables (masks input) cells) .0)
       go true k = read-penalty (reads u (text input) before .0) (reads u (text input) before .1) (masks input) cells k
       go false k = absurd (false≢true k)
 

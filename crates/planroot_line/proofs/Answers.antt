@@ -18,7 +18,7 @@ use Rattle.table_format.specs.Bytes.{setsField, encoding}
 use Rattle.table_format.specs.Decode.{decode}
 use Rattle.contracts.specs.declared.Answer.{Answer}
 use Rattle.contracts.specs.declared.Answer.the-variants.{Accepted, Refused}
-use Rattle.contracts.specs.Read.{readNumber, tableLength, textGrounds, readGrounds, readOr, reads}
+use Rattle.contracts.specs.Read.{ReadValues, readRefused, readValues, ReadTold, tableLength, textGrounds, readGrounds, readOr, reads, ReadPromise}
 use Rattle.contracts.specs.Admitted.{admittedPlan}
 use Rattle.contracts.proofs.Grounds.{few-sets}
 use Rattle.contracts.proofs.Reading.{accepted-admitted, admitted-read}
@@ -31,14 +31,14 @@ use Rattle.planroot_print.specs.declared.Line.the-variants.{Penalty, Refusal}
 use Rattle.planroot_line.specs.Loading.{loadLine}
 use Rattle.planroot_line.specs.Line.{readLine, textLine}
 use Rattle.planroot_line.specs.inner.Contract.{LinesLoad, LinesPlan, LinesText}
-use Rattle.planroot_line.proofs.Tables.{header-sets}
+use Rattle.planroot_line.proofs.Tables.{header-sets, refused-line}
 
 -- a text that is too long is refused by its length, whatever follows
-too-long : (u : ℕ) (s B : List ℕ) → 4096 < length s → reads u s B ≡ (Refused (cond (leb 1 u && leb u 64) 1 10), B)
+too-long : (u : ℕ) (s B : List ℕ) → 4096 < length s → reads u s B ≡ (readRefused (cond (leb 1 u && leb u 64) 1 10), B)
 unfolding reads textGrounds readGrounds refusal readOr
 too-long u s B h = rw (lt-ltb 4096 (length s) h) (go (leb 1 u && leb u 64) (parsed s))
   where
-    go : (p : Bool) (r : Result) → readOr (cond (not p) 10 1) u r B ≡ (Refused (cond p 1 10), B)
+    go : (p : Bool) (r : Result) → readOr (cond (not p) 10 1) u r B ≡ (readRefused (cond p 1 10), B)
     go true r = refl
     go false r = refl
 
@@ -53,13 +53,13 @@ same-start u t B = go (decLe (length t) 4097)
         too-long u (take 4097 t) B (omega arith) ∙ sym (too-long u t B (omega arith))
 
 -- a table that reading left has at most 16 sets
-pub read-sets : (u : ℕ) (s B O : List ℕ) (x : Answer) (nodes total : ℕ) → (x, O) ≡ reads u s B → x ≡ Accepted nodes total → setsField O ≤ 16
-unfolding readNumber admittedPlan planOf
+pub read-sets : (u : ℕ) (s B O : List ℕ) (x : Answer) (nodes total : ℕ) → ReadPromise (reads u s B) x O → x ≡ Accepted nodes total → setsField O ≤ 16
+unfolding readValues admittedPlan planOf
 read-sets u s B O x nodes total e y =
-    let z : readNumber (reads u s B .0) ≡ 0 = ap (λ (q : Answer × List ℕ). readNumber (q .0)) (sym e) ∙ ap readNumber y in
+    let z : reads u s B .0 .number ≡ 0 = ap (λ (v : ReadValues). v .number) (sym (e .values-are)) ∙ ap (λ (a : Answer). readValues a .number) y in
     let A = accepted-admitted u s B z in
     let P = admittedPlan A in
-    let bytes : O ≡ encoding P ++ drop (tableLength P) B = ap (λ (q : Answer × List ℕ). q .1) (e ∙ admitted-read u s B A) in
+    let bytes : O ≡ encoding P ++ drop (tableLength P) B = e .table-is ∙ ap (λ (q : ReadValues × List ℕ). q .1) (admitted-read u s B A) in
     let n : setsField O ≡ length (A .sets) = ap setsField bytes ∙ header-sets P (drop (tableLength P) B) in
     omega (arith, few-sets (A .sets) (A .tree) (A .names))
 
@@ -89,16 +89,18 @@ module _ (count : ℕ) (ms table cells : List ℕ) (n : ℕ) (N : n ≡ setsFiel
       R (L .told) ∙ ap loadLine (L .values-are ∙ ap (λ (l : List ℕ). loads (decode table) (tables l cells) .0) own)
       ∙ sym (ap (λ (b : Bool). pick b (loadLine (loads (decode table) (tables vs cells) .0)) (Refusal 0)) (eq-eqb (length vs) (setsField table) (long ∙ N)))
 
-module _ (u count : ℕ) (ms s table cells O : List ℕ) (x : Answer) (E : (x, O) ≡ reads u s table) where
-  read-of : (t : List ℕ) → s ≡ take 4097 t → (x, O) ≡ reads u t table
-  read-of t e = E ∙ ap (λ (l : List ℕ). reads u l table) e ∙ same-start u t table
+module _ (u count : ℕ) (ms s table cells O : List ℕ) (x : Answer) (E : ReadPromise (reads u s table) x O) where
+  -- the line by reading's answer, and where that is known
+  line-of : (vs t : List ℕ) → s ≡ take 4097 t → (y : Answer) → x ≡ y → readLine (readValues y) O vs cells ≡ textLine u vs t table cells
+  unfolding textLine
+  line-of vs t e y q =
+      (λ i. readLine ((ap readValues (sym q) ∙ E .values-are) i) (E .table-is i) vs cells)
+      ∙ ap (λ (p : ReadValues × List ℕ). readLine (p .0) (p .1) vs cells) (ap (λ (l : List ℕ). reads u l table) e ∙ same-start u t table)
 
   pub text-refused : (n : ℕ) → x ≡ Refused n → LinesText u count ms s table cells (Refusal n)
-  unfolding LinesText textLine readLine
-  text-refused n y vs t c m e =
-      sym (ap (λ (q : Answer × List ℕ). readLine (q .0) (q .1) vs cells) (sym (read-of t e)) ∙ ap (λ (q : Answer). readLine q O vs cells) y)
+  unfolding LinesText readRefused readValues ReadTold
+  text-refused n y vs t c m e = sym (refused-line (readRefused n) O vs cells (subst ReadTold y (E .told))) ∙ line-of vs t e (Refused n) y
 
   pub text-read : (nodes total : ℕ) (r : Line) → x ≡ Accepted nodes total → LinesPlan count ms O cells r → LinesText u count ms s table cells r
-  unfolding LinesText LinesPlan textLine readLine
-  text-read nodes total r y P vs t c m e =
-      P vs c m ∙ sym (ap (λ (q : Answer × List ℕ). readLine (q .0) (q .1) vs cells) (sym (read-of t e)) ∙ ap (λ (q : Answer). readLine q O vs cells) y)
+  unfolding LinesText LinesPlan readLine readValues
+  text-read nodes total r y P vs t c m e = P vs c m ∙ line-of vs t e (Accepted nodes total) y

@@ -7,8 +7,7 @@ use Prim.Native.Nat.{ℕ, _<_}
 use native.Mathlib.Omega.{arith}
 use lib.ListN.{length}
 use lib.Seq.{take-append-le}
-use Rattle.contracts.specs.declared.Answer.{Answer}
-use Rattle.contracts.specs.Read.{reads}
+use Rattle.contracts.specs.Read.{ReadValues, reads}
 use Rattle.planroot_input.specs.Lines.{sound, ports, masks, text, Settled, wrong, long}
 use Rattle.planroot_input.proofs.Settling.{sound-kept, ports-kept, masks-kept, text-kept}
 use Rattle.planroot_line.specs.Line.{readLine, textLine, inputLine}
@@ -18,7 +17,7 @@ longer-text : (u : ℕ) (ms s more table cells : List ℕ) → 4096 < length s �
 unfolding textLine
 longer-text u ms s more table cells h =
     let same : reads u (s ++ more) table ≡ reads u s table = sym (same-start u (s ++ more) table) ∙ ap (λ (l : List ℕ). reads u l table) (take-append-le 4097 s more (omega arith)) ∙ same-start u s table in
-    ap (λ (q : Answer × List ℕ). readLine (q .0) (q .1) ms cells) same
+    ap (λ (q : ReadValues × List ℕ). readLine (q .0) (q .1) ms cells) same
 
 pub settled-line : (input : List ℕ) → Settled input → (more : List ℕ) → inputLine (input ++ more) ≡ inputLine input
 unfolding inputLine

@@ -1,19 +1,19 @@
 -- The line does not depend on what the program's own tables held. Assumes nothing.
 use mathlib.Core.Path.{_≡_, refl, sym, ap, _∙_}
+use mathlib.Core.Logic.{_≢_}
 use mathlib.Core.List.{List, [], _∷_, _++_}
 use Prim.Native.Nat.{ℕ, zero, suc, _≤_}
 use native.Mathlib.Omega.{arith}
 use lib.Dec.{eqb}
 use lib.ListN.{length, take, drop, length-replicate}
+use borrow.Author.Tests.{ne-eqb}
 use Rattle.logic.specs.Formula.{Plan}
 use Rattle.text_tokens.specs.Tokens.{pick}
 use Rattle.text_grammar.specs.Parser.{Result, failed, read, parsed}
 use Rattle.text_core.specs.Core.{planOf}
 use Rattle.table_format.specs.Bytes.{recordsFrom, headerLength, recordLength, setsField, wordBytes, header, encoding}
 use Rattle.table_format.specs.Decode.{Decoded, sound, decode}
-use Rattle.contracts.specs.declared.Answer.{Answer}
-use Rattle.contracts.specs.declared.Answer.the-variants.{Accepted, Refused}
-use Rattle.contracts.specs.Read.{readNumber, tableLength, readGrounds, readOr, reads}
+use Rattle.contracts.specs.Read.{ReadValues, tableLength, readGrounds, readOr, reads}
 use Rattle.contracts.specs.Admitted.{Admitted, admittedPlan}
 use Rattle.contracts.specs.State.{tables, ownTables}
 use Rattle.contracts.specs.Call.{planGrounds, tableGrounds, callGrounds, callOr, call}
@@ -50,6 +50,11 @@ pub table-enough : {u : ℕ} {s : List ℕ} {n : ℕ} → Admitted u s n → Adm
 unfolding tableLength recordsFrom headerLength recordLength
 table-enough A = admitted-into A tableRoom (omega (arith, A .few-nodes))
 
+-- the line of a refused reading
+pub refused-line : (v : ReadValues) (table ms cells : List ℕ) → v .number ≢ 0 → readLine v table ms cells ≡ Refusal (v .number)
+unfolding readLine
+refused-line v table ms cells f = rw (ne-eqb (v .number) 0 f)
+
 -- reading's answer depends on the table's length alone
 same-answer : (u : ℕ) (s B B′ : List ℕ) → length B ≡ length B′ → reads u s B .0 ≡ reads u s B′ .0
 unfolding reads readOr
@@ -85,21 +90,22 @@ module _ (u : ℕ) (ms s : List ℕ) where
   text-accepted B cells A =
       let P = admittedPlan A in
       let O = reads u s B .1 in
-      let sets : setsField O ≡ P .sets = ap (λ (q : Answer × List ℕ). setsField (q .1)) (admitted-read u s B A) ∙ header-sets P (drop (tableLength P) B) in
-      ap (λ (q : Answer × List ℕ). readLine (q .0) O ms cells) (admitted-read u s B A)
+      let sets : setsField O ≡ P .sets = ap (λ (q : ReadValues × List ℕ). setsField (q .1)) (admitted-read u s B A) ∙ header-sets P (drop (tableLength P) B) in
+      ap (λ (q : ReadValues × List ℕ). readLine (q .0) O ms cells) (admitted-read u s B A)
       ∙ ap (λ (n : ℕ). pick (eqb (length ms) n) (loadLine (loads (decode O) (tables ms cells) .0)) (Refusal 0)) sets
       ∙ ap (λ (d : Decoded). pick (eqb (length ms) (P .sets)) (loadLine (loads d (tables ms cells) .0)) (Refusal 0)) (read-decodes u s B A)
 
   pub same-text-line : (B B′ cells cells′ : List ℕ) → length B ≡ length B′ → length cells ≡ length cells′ → textLine u ms s B cells ≡ textLine u ms s B′ cells′
-  unfolding textLine readLine readNumber planLine admittedPlan admitted-into
-  same-text-line B B′ cells cells′ b c = go (reads u s B .0) refl
+  unfolding textLine planLine admittedPlan admitted-into
+  same-text-line B B′ cells cells′ b c = go (reads u s B .0 .number) refl
     where
-      go : (x : Answer) → reads u s B .0 ≡ x → textLine u ms s B cells ≡ textLine u ms s B′ cells′
-      go (Refused n) e =
-          ap (λ (q : Answer). readLine q (reads u s B .1) ms cells) e
-          ∙ sym (ap (λ (q : Answer). readLine q (reads u s B′ .1) ms cells′) (sym (same-answer u s B B′ b) ∙ e))
-      go (Accepted nodes total) e =
-          let A = accepted-admitted u s B (ap readNumber e) in
+      go : (n : ℕ) → reads u s B .0 .number ≡ n → textLine u ms s B cells ≡ textLine u ms s B′ cells′
+      go (suc g) e =
+          let same = ap (λ (v : ReadValues). v .number) (same-answer u s B B′ b) in
+          refused-line (reads u s B .0) (reads u s B .1) ms cells (omega arith) ∙ ap Refusal same
+          ∙ sym (refused-line (reads u s B′ .0) (reads u s B′ .1) ms cells′ (omega arith))
+      go zero e =
+          let A = accepted-admitted u s B e in
           let A′ = admitted-into A (length B′) (rw (← b) (A .fits)) in
           let P = admittedPlan A in
           text-accepted B cells A

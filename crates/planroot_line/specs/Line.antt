@@ -6,9 +6,7 @@ use lib.ListN.{length, replicate}
 use Rattle.text_tokens.specs.Tokens.{pick}
 use Rattle.table_format.specs.Bytes.{setsField}
 use Rattle.table_format.specs.Decode.{decode}
-use Rattle.contracts.specs.declared.Answer.{Answer}
-use Rattle.contracts.specs.declared.Answer.the-variants.{Accepted, Refused}
-use Rattle.contracts.specs.Read.{reads}
+use Rattle.contracts.specs.Read.{ReadValues, reads}
 use Rattle.contracts.specs.State.{tables}
 use Rattle.contracts.specs.Load.{loads}
 use Rattle.planroot_input.specs.Lines.{sound, ports, masks, text}
@@ -16,12 +14,13 @@ use Rattle.planroot_print.specs.declared.Line.{Line}
 use Rattle.planroot_print.specs.declared.Line.the-variants.{Refusal}
 use Rattle.planroot_line.specs.Loading.{loadLine}
 
--- "N is 0 [..], after the reading's own refusals, if the masks aren't one a set": the line for reading's answer and the table
--- that reading left, with the masks and the cells.
-unfoldable pub readLine : Answer → List ℕ → List ℕ → List ℕ → Line
-readLine (Refused number) table ms cells = Refusal number
-readLine (Accepted nodes total) table ms cells =
-    pick (eqb (length ms) (setsField table)) (loadLine (loads (decode table) (tables ms cells) .0)) (Refusal 0)
+-- "N is 0 [..], after the reading's own refusals, if the masks aren't one a set": the line for what reading answers, by its
+-- number, and the table that reading left, with the masks and the cells.
+unfoldable pub readLine : ReadValues → List ℕ → List ℕ → List ℕ → Line
+readLine v table ms cells =
+    pick (eqb (v .number) 0)
+    (pick (eqb (length ms) (setsField table)) (loadLine (loads (decode table) (tables ms cells) .0)) (Refusal 0))
+    (Refusal (v .number))
 
 unfoldable pub textLine : ℕ → List ℕ → List ℕ → List ℕ → List ℕ → Line
 textLine u ms s table cells = readLine (reads u s table .0) (reads u s table .1) ms cells

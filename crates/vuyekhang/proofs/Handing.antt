@@ -5,6 +5,7 @@ use Prim.Native.Nat.{ℕ}
 use lib.ListN.{length}
 use Rattle.table_format.specs.Decode.{Decoded}
 use Rattle.contracts.specs.declared.Answer.{Answer}
+use Rattle.contracts.specs.Read.{ReadValues, readValues, ReadPromise}
 use Rattle.contracts.specs.declared.Loaded.{Loaded}
 use Rattle.contracts.specs.State.{State}
 use Rattle.contracts.specs.declared.Moved.{Moved}
@@ -21,9 +22,9 @@ use Rattle.answers.specs.Boundary.{ReadFields, ReadGives, LoadFields, LoadGives
 use Rattle.answers.specs.Moving.{MoveFields, MoveGives, TrialGives, ImproveFields, ImproveGives}
 
 -- an answer handed on field by field
-pub read-gives : (a : Answer) (t : List ℕ) (given : Answer × List ℕ) (r : ReadAnswer) → (a, t) ≡ given → ReadFields a r → ReadGives given r t
-read-gives a t given r e f =
-    record { fields = subst (λ (x : Answer × List ℕ). ReadFields (x .0) r) e f; table-is = ap (λ (x : Answer × List ℕ). x .1) e }
+pub read-gives : (a : Answer) (t : List ℕ) (given : ReadValues × List ℕ) (r : ReadAnswer)
+    → ReadPromise given a t → ReadFields (readValues a) r → ReadGives given r t
+read-gives a t given r p f = record { fields = subst (λ (v : ReadValues). ReadFields v r) (p .values-are) f; table-is = p .table-is }
 
 pub load-gives : (given : LoadValues × State) (a : Loaded) (s′ : State) (r : LoadAnswer) → LoadPromise given a s′ → LoadFields (loadValues a) r → LoadGives given r s′
 load-gives given a s′ r p f = record { fields = subst (λ (v : LoadValues). LoadFields v r) (p .values-are) f; tables-are = p .tables-are }

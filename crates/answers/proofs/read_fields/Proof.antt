@@ -1,5 +1,5 @@
 use borrow.Author.Needs.{needs}
-use Rattle.contracts.specs.Read.{readNumber, readNodes, readTotal}
+use Rattle.contracts.specs.Read.{readRefused, readValues}
 use Rattle.answers.proofs.read_fields.Statement.{statement}
 use Rattle.answers.proofs.read_fields.Tie as tie
 
@@ -13,12 +13,12 @@ cast-t6 : tie.Need-cast-t6
 cast-t6 c = search needs
 
 returns : tie.Need-returns
-unfolding readNumber readNodes readTotal
+unfolding readRefused readValues
 returns c =
     search needs
 
 returns-2 : tie.Need-returns-2
-unfolding readNumber readNodes readTotal
+unfolding readRefused readValues
 returns-2 c =
     search needs
 

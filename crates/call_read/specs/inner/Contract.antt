@@ -12,7 +12,7 @@ use Rattle.text_core.specs.Names.{Lettered}
 use Rattle.text_core.specs.Core.{planOf}
 use Rattle.text_core.specs.Grounds.{coreGrounds}
 use Rattle.contracts.specs.declared.Answer.{Answer}
-use Rattle.contracts.specs.Read.{tableLength, readOr}
+use Rattle.contracts.specs.Read.{tableLength, readOr, ReadPromise}
 
 -- A text in the grammar: its tree in the table t, the first of its set letters in another. Ground 5 is decided by the first 17.
 pub record TextKept (t : List ℕ) (e : ℕ) (letters : List ℕ) (n : ℕ) (sets : List Declared) (a : Tree) : Type 0 where
@@ -31,5 +31,4 @@ pub record SomeText (u : ℕ) (t : List ℕ) (e : ℕ) (letters : List ℕ) (n :
 -- Grounds 5 to 9 and 12, and the table.
 unfoldable pub Finishes : ℕ → List ℕ → ℕ → List ℕ → ℕ → List ℕ → List ℕ → Answer → Type 0
 Finishes u t e letters n before after r = (sets : List Declared) (a : Tree) → TextKept t e letters n sets a
-    → _≡_ {A = Answer × List ℕ} (r, after)
-    (readOr (refusal (coreGrounds u sets a ++ ((12, ltb (length before) (tableLength (planOf u sets a))) ∷ []))) u (read sets a) before)
+    → ReadPromise (readOr (refusal (coreGrounds u sets a ++ ((12, ltb (length before) (tableLength (planOf u sets a))) ∷ []))) u (read sets a) before) r after
