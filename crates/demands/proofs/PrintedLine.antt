@@ -53,7 +53,7 @@ read-penalty v table ms cells h = go (eqb (v .number) 0) refl h
     counted : Bool
     counted = eqb (length ms) (setsField table)
 
-    y : Loaded
+    y : LoadValues
     y = loads (decode table) (tables ms cells) .0
 
     line : Bool → Line
