@@ -2,6 +2,7 @@
 pub mod Calls
 pub mod Grounds
 pub mod Reading
+pub mod Told
 pub mod LoadAnswers
 pub mod Lists
 pub mod OwnParts

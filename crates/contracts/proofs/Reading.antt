@@ -24,9 +24,7 @@ use Rattle.table_format.specs.Bytes.{encoding}
 use Rattle.table_format.specs.Rules.{treeCount, arityRule, mostCells, formulaRule, planRule}
 use Rattle.table_format.specs.Decode.{sound, decode}
 use Rattle.table_format.proofs.Encoding.{decode-complete}
-use Rattle.contracts.specs.declared.Answer.{Answer}
-use Rattle.contracts.specs.declared.Answer.the-variants.{Accepted, Refused}
-use Rattle.contracts.specs.Read.{ReadValues, readRefused, readValues, ReadTold, tableLength, syntaxGrounds, textGrounds, readGrounds, readOr, reads}
+use Rattle.contracts.specs.Read.{ReadValues, readRefused, tableLength, syntaxGrounds, textGrounds, readGrounds, readOr, reads}
 use Rattle.contracts.specs.Admitted.{Admitted, admittedPlan}
 use Rattle.text_core.proofs.Letters.{parsed-sets}
 use Rattle.contracts.proofs.Grounds.{passes, few-sets, ports-in}
@@ -49,14 +47,6 @@ outside-not true b c q = omega arith
 outside-not false true c q = omega arith
 outside-not false false true q = omega arith
 outside-not false false false q = omega arith
-
--- The values leave one answer alone: two with the same values that reading may give are one.
-pub read-told : (a b : Answer) → ReadTold a → ReadTold b → readValues a ≡ readValues b → a ≡ b
-unfolding readRefused readValues ReadTold
-read-told (Accepted nodes total) (Accepted nodes′ total′) s t e = λ i. Accepted (e i .nodes) (e i .cells)
-read-told (Accepted nodes total) (Refused number) s t e = absurd (t (ap (λ (v : ReadValues). v .number) (sym e)))
-read-told (Refused number) (Accepted nodes total) s t e = absurd (s (ap (λ (v : ReadValues). v .number) e))
-read-told (Refused number) (Refused number′) s t e = λ i. Refused (e i .number)
 
 module _ (u : ℕ) (s B : List ℕ) where
   -- the number that reading answers

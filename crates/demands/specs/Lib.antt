@@ -1,3 +1,4 @@
 pub mod KnownTexts
 pub mod ReadThenLoad
+pub mod Runs
 pub mod TextToPlan
