@@ -25,6 +25,7 @@ pub record LoadFields (v : LoadValues) (r : LoadAnswer) : Type 0 where
   pub root-is : r .root ≡ v .root
   pub cells-are : r .cells ≡ v .cells
 
+-- The fields of load's answer and the tables afterwards are those that are given.
 pub record LoadGives (given : LoadValues × State) (r : LoadAnswer) (s′ : State) : Type 0 where
   pub fields : LoadFields (given .0) r
   pub tables-are : s′ ≡ given .1

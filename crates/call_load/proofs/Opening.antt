@@ -15,7 +15,7 @@ use Rattle.contracts.proofs.LoadAnswers.{load-refuses}
 use Rattle.call_open.specs.inner.Opening.{openNumber, OpenPlan}
 use Rattle.call_open.proofs.Opening.{one-table, shut-first}
 use Rattle.cells_fill.specs.inner.Fill.{FillReady}
-use Rattle.cells_fill.proofs.Parts.{lentTo, backTo, lent-length}
+use Rattle.logic.proofs.Lent.{lentTo, backTo, lent-length}
 
 -- one of 11 to 13 applies
 pub load-shut : (d : Decoded) (masks xs : List ℕ) (n : ℕ) → (n ≡ 0 → ⊥) → n ≡ openNumber d masks (length xs)

@@ -66,9 +66,9 @@ pub fn make_move(table: &[u8], masks: &mut [u64], cells: &mut [u32], m: Move) ->
     if o.number != 0 {
         return Moved::Refused(o.number);
     }
-    let number = move_number(m, o.ports, o.sets, &masks[..]);
-    if number != 0 {
-        return Moved::Refused(number);
+    let ground = move_number(m, o.ports, o.sets, &masks[..]);
+    if ground != 0 {
+        return Moved::Refused(ground);
     }
     accepted(carry(
         table,

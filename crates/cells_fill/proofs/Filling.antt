@@ -32,7 +32,7 @@ use Rattle.table_format.proofs.Rooted.{every-node}
 use Rattle.cells_join.specs.inner.Joined.{joinAll, merged, joinOf, spreadOf}
 use Rattle.cells_fill.specs.inner.Fill.{startCell, treewise, config, table, StartPlaced, started, FillPlaced, Filled, Fills}
 use Rattle.cells_join.proofs.Prefix.{join-append}
-use Rattle.cells_fill.proofs.Parts.{lentTo, backTo, lent-length, back-to-is, back-to-length}
+use Rattle.logic.proofs.Lent.{lentTo, backTo, lent-length, back-to-is, back-to-length}
 use Rattle.cells_fill.proofs.Values.{literal-spread, own-cell, cells-below, table-tree}
 
 length-table : (u : ℕ) (k : Configuration) (f : Forest) (d : ℕ) → length (table u k f d) ≡ cellCount u f d

@@ -24,7 +24,7 @@ use Rattle.cells_join.specs.inner.Joined.{unitOf, joinAll, joinOf}
 use Rattle.cells_fill.specs.inner.Fill.{startCell, treewise, config, table, FillPlaced, Fills, FillsPlan}
 use Rattle.cells_fill.proofs.Values.{own-cell, table-tree}
 use Rattle.cells_fill.proofs.Filling.{low-below}
-use Rattle.cells_fill.proofs.Parts.{nothing-behind}
+use Rattle.logic.proofs.Lent.{nothing-behind}
 use Rattle.table_format.proofs.Ready.{TableReady, own-zero}
 
 pub placed-plan : (bytes : List ℕ) (P : Plan) (nodes : ℕ) (masks xs : List ℕ) → TableReady bytes P nodes → P .sets ≤ length masks → allWithin (P .ports) (take (P .sets) masks) ≡ true

@@ -21,6 +21,12 @@ use Rattle.contracts.specs.Call.{planGrounds, tableGrounds, callGrounds,
 use Rattle.contracts.specs.OwnParts.{SameTables}
 use Rattle.contracts.proofs.Grounds.{passes}
 
+-- 12 is tried before 13: where the mask table is too short, 12 is answered, whatever ports the masks have.
+pub short-first : (P : Plan) (s : State) (lengths : List ℕ) (more : Plan → Sets → List Ground)
+    → ltb (length (s .masks)) (ownMasks P) ≡ true → refusal (callGrounds (sound P) s lengths more) ≡ 12
+unfolding callGrounds planGrounds tableGrounds refusal
+short-first P s lengths more h = rw (h)
+
 -- What no ground of 11 to 13 leaves of a plan's tables: they are long enough, and no own mask has a port of u or more.
 pub record LentEnough (P : Plan) (s : State) : Type 0 where
   pub masks-enough : ownMasks P ≤ length (s .masks)

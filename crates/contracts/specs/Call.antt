@@ -43,5 +43,6 @@ module _ {A : Type 0} (refused : ℕ → A) where
       (r .0, withRest P (r .1) s)
   callOr (suc g) d act s = (refused (suc g), s)
 
+  -- The call itself: the first ground of its list decides.
   unfoldable pub call : List Ground → Decoded → (Plan → State → A × State) → State → A × State
   call grounds d act s = callOr (refusal grounds) d act s

@@ -26,6 +26,7 @@ pub record MoveValues : Type 0 where
 unfoldable pub moveRefused : ℕ → MoveValues
 moveRefused number = record { number = number; before = 0; after = 0; changed = 0 }
 
+-- An accepted move has the number 0 and "returns root before, root after, and how many cells differ from before".
 unfoldable pub moveAccepted : ℕ → ℕ → ℕ → MoveValues
 moveAccepted before after changed = record { number = 0; before = before; after = after; changed = changed }
 

@@ -54,6 +54,7 @@ unfoldable pub textGrounds : ℕ → List ℕ → ℕ → Result → List Ground
 textGrounds u s room r =
     (10, not (leb 1 u && leb u 64)) ∷ (1, ltb 4096 (length s)) ∷ (2, not (knownBytes s)) ∷ syntaxGrounds u room r
 
+-- The grounds of a text, by what it is parsed to.
 unfoldable pub readGrounds : ℕ → List ℕ → ℕ → List Ground
 readGrounds u s room = textGrounds u s room (parsed s)
 
@@ -66,6 +67,7 @@ readOr zero u (read sets a) before =
     let P = planOf u sets a in
     (record { number = 0; nodes = nodeCount (P .formula); cells = ownCells P }, encoding P ++ drop (tableLength P) before)
 
+-- What reading answers and leaves of the output table, for every text and every table.
 unfoldable pub reads : ℕ → List ℕ → List ℕ → ReadValues × List ℕ
 reads u s before = readOr (refusal (readGrounds u s (length before))) u (parsed s) before
 

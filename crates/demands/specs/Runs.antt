@@ -13,6 +13,7 @@ pub data Asked : Type 0 where
   askTrial : Move → List ℕ → Asked
   askImprove : ℕ → List ℕ → Asked
 
+-- What was asked in an exchange, without the answer.
 unfoldable pub asked : Exchange → Asked
 asked (moveCall m v) = askMove m
 asked (trialCall m scratch v) = askTrial m scratch

@@ -19,6 +19,7 @@ unfoldable pub portOf : Tuple → ℕ → ℕ
 portOf [] v = 0
 portOf (p ∷ e) v = cond (eqb v (length e)) p (portOf e v)
 
+-- The six relations over numbers.
 unfoldable pub Related : Relation → ℕ → ℕ → Type 0
 Related lt a b = a < b
 Related le a b = a ≤ b
@@ -27,6 +28,7 @@ Related ne a b = a ≢ b
 Related ge a b = b ≤ a
 Related gt a b = b < a
 
+-- Truth of a literal's test under a tuple: "`v:S` in, `v/S` not in, `v < w` and its kin, `#S <= 9` and its kin".
 unfoldable pub TestTrue : Configuration → Test → Tuple → Type 0
 TestTrue k (isin v S) e = k .member S (portOf e v) ≡ true
 TestTrue k (notin v S) e = k .member S (portOf e v) ≡ false

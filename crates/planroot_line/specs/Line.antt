@@ -22,6 +22,7 @@ readLine v table ms cells =
     (pick (eqb (length ms) (setsField table)) (loadLine (loads (decode table) (tables ms cells) .0)) (Refusal 0))
     (Refusal (v .number))
 
+-- The line for a text: it is read into the table, and what that answers and leaves decides.
 unfoldable pub textLine : ℕ → List ℕ → List ℕ → List ℕ → List ℕ → Line
 textLine u ms s table cells = readLine (reads u s table .0) (reads u s table .1) ms cells
 
@@ -33,6 +34,7 @@ tableRoom = 4105
 abbrev pub cellRoom : ℕ
 cellRoom = 16384
 
+-- A table that is 0 throughout.
 unfoldable pub zeros : ℕ → List ℕ
 zeros n = replicate n 0
 

@@ -19,10 +19,12 @@ unfoldable pub lineNumber : Line → ℕ
 lineNumber (Penalty root total) = 0
 lineNumber (Refusal number) = number
 
+-- The root's penalty, 0 in a refusal.
 unfoldable pub lineRoot : Line → ℕ
 lineRoot (Penalty root total) = root
 lineRoot (Refusal number) = 0
 
+-- The cell total, 0 in a refusal.
 unfoldable pub lineTotal : Line → ℕ
 lineTotal (Penalty root total) = total
 lineTotal (Refusal number) = 0
@@ -53,6 +55,7 @@ lineEnd = 10 ∷ []
 unfoldable pub penaltyBytes : ℕ → ℕ → List ℕ
 penaltyBytes root total = penaltyWord ++ (decimal root ++ (cellsWord ++ (decimal total ++ lineEnd)))
 
+-- "`refused N`"
 unfoldable pub refusalBytes : ℕ → List ℕ
 refusalBytes number = refusedWord ++ (decimal number ++ lineEnd)
 

@@ -100,6 +100,7 @@ testA (notin v S) = v
 testA (port r v w) = v
 testA (size r S c) = S
 
+-- The same sentence, of b.
 unfoldable pub testB : Test → ℕ
 testB (isin v S) = S
 testB (notin v S) = S

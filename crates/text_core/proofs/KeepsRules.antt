@@ -8,9 +8,8 @@ use lib.Dec.{eqb, leb, ltb}
 use lib.ListN.{length}
 use borrow.Author.Tests.{lt-leb, lt-ltb, le-leb, eq-eqb, ne-eqb, leb-false, ltb-false, not-false}
 use Rattle.logic.specs.Formula.{Test, isin, notin, port, size, Literal, literalOf, Node, root, all, any, lit, Forest, none, tree, testKind, kindNumber, childDepth}
-use Rattle.logic.specs.inner.Literals.{VariablesBelow, VariablesBound, ConstantLow, ConstantsLow}
 use Rattle.logic.specs.Change.{someOf}
-use Rattle.logic.proofs.Lists.{or-left, or-right, and-right, and-true}
+use Rattle.logic.proofs.Lists.{or-left, or-right, and-true}
 use Rattle.logic.proofs.Relations.{test-kind-range}
 use Rattle.text_tree.specs.Tree.{Quantifier, forall, exists, Tree, leaf, neg, par, bind, join, Declared, lettersOf}
 use Rattle.text_tree.proofs.Sets.{letters-length}
@@ -18,7 +17,6 @@ use Rattle.text_core.specs.Names.{among, setNumber, variableNumber, misd
 use Rattle.text_core.specs.Core.{Above, alone, inside, jointNode, Part, joint, two, quantifierNode, memberAt, testAt, literalAt, place, coreOf}
 use Rattle.table_format.specs.Rules.{everyNode, treeCount, arityRule, mayNest, nestingRule, depthRule, testRule, literalRule, innerRule, nodeRule, formulaRule}
 use Rattle.table_format.proofs.FieldRules.{literal-arity}
-use Rattle.table_format.proofs.Facts.{every-rooted, constant-low, variables-below}
 use Rattle.text_core.proofs.Decided.{joined}
 use Rattle.text_core.proofs.SameTruth.{variable-below}
 
@@ -207,12 +205,3 @@ pub core-rules : (sets : List Declared) (a : Tree) → ground5 sets a ≡ false 
     → formulaRule (length sets) (coreOf (lettersOf sets) a) ≡ true
 unfolding ground5
 core-rules sets a h g f = rw (← letters-length sets) (named-rules (lettersOf sets) a (or-right (misdeclared sets) _ h) g f)
-
--- and so what the laws of truth and penalty ask
-module _ (n : ℕ) where
-  pub core-kept : (sets : List ℕ) (a : Tree) → formulaRule n (coreOf sets a) ≡ true → VariablesBound (coreOf sets a) 0 × ConstantsLow (coreOf sets a) 0
-  unfolding coreOf formulaRule VariablesBound ConstantsLow
-  core-kept sets a h =
-      let c = place sets [] true a alone none in
-      let r = and-right (eqb (kindNumber root) 0 && eqb (treeCount none) 0 && arityRule (kindNumber root) (treeCount c)) _ h in
-      (every-rooted n VariablesBelow (variables-below n) c r, every-rooted n (λ d t. ConstantLow t) (constant-low n) c r)

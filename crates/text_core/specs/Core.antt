@@ -39,6 +39,7 @@ quantifierNode true exists = any
 quantifierNode false forall = any
 quantifierNode false exists = all
 
+-- The relation that holds exactly where the given one fails.
 unfoldable pub opposite : Relation → Relation
 opposite lt = ge
 opposite le = gt
@@ -47,10 +48,12 @@ opposite ne = eq
 opposite ge = lt
 opposite gt = le
 
+-- A relation, or its opposite.
 unfoldable pub relationAt : Bool → Relation → Relation
 relationAt true r = r
 relationAt false r = opposite r
 
+-- Membership, or its opposite.
 unfoldable pub memberAt : Bool → ℕ → ℕ → Test
 memberAt true v S = isin v S
 memberAt false v S = notin v S

@@ -15,10 +15,12 @@ use Rattle.text_core.specs.Names.{setNumber}
 abbrev pub Binding : Type 0
 Binding = ℕ × ℕ
 
+-- The port that a letter is bound to: the innermost binding decides.
 unfoldable pub valueOf : List Binding → ℕ → ℕ
 valueOf [] v = 0
 valueOf (b ∷ env) v = cond (eqb v (b .0)) (b .1) (valueOf env v)
 
+-- Truth of a literal's test by its letters: sets by their place in the declaration, variables by the innermost binding.
 unfoldable pub LeafTrue : Configuration → List ℕ → List Binding → Test → Type 0
 LeafTrue k sets env (isin v S) = k .member (setNumber sets S) (valueOf env v) ≡ true
 LeafTrue k sets env (notin v S) = k .member (setNumber sets S) (valueOf env v) ≡ false

@@ -28,6 +28,7 @@ unfoldable pub declaredTwice : List ℕ → Bool
 declaredTwice [] = false
 declaredTwice (x ∷ xs) = among xs x || declaredTwice xs
 
+-- The declaration alone: a letter twice, or more than 16 sets.
 unfoldable pub misdeclared : List Declared → Bool
 misdeclared sets = declaredTwice (lettersOf sets) || ltb 16 (length sets)
 
@@ -46,6 +47,7 @@ misnamed sets vars (par a) = misnamed sets vars a
 misnamed sets vars (bind q v a) = among vars v || misnamed sets (v ∷ vars) a
 misnamed sets vars (join j a b) = misnamed sets vars a || misnamed sets vars b
 
+-- Ground 5 of a text: its declaration, or a name in its formula.
 unfoldable pub ground5 : List Declared → Tree → Bool
 ground5 sets a = misdeclared sets || misnamed (lettersOf sets) [] a
 
@@ -71,6 +73,7 @@ fourth d (par a) = fourth d a
 fourth d (bind q v a) = leb 3 d || fourth (suc d) a
 fourth d (join j a b) = fourth d a || fourth d b
 
+-- Ground 7 of a text.
 unfoldable pub ground7 : Tree → Bool
 ground7 a = fourth 0 a
 
@@ -79,15 +82,18 @@ ground7 a = fourth 0 a
 unfoldable pub Variable : ℕ → Type 0
 Variable v = (97 ≤ v) × (v ≤ 122)
 
+-- A set letter's byte.
 unfoldable pub SetLetter : ℕ → Type 0
 SetLetter S = (65 ≤ S) × (S ≤ 90)
 
+-- A literal's test of such letters and such a constant.
 unfoldable pub LetteredTest : Test → Type 0
 LetteredTest (isin v S) = Variable v × SetLetter S
 LetteredTest (notin v S) = Variable v × SetLetter S
 LetteredTest (port r v w) = Variable v × Variable w
 LetteredTest (size r S c) = SetLetter S × (c ≤ 65)
 
+-- A tree of such tests, whose quantifiers bind variables.
 unfoldable pub Lettered : Tree → Type 0
 Lettered (leaf l) = LetteredTest (l .test)
 Lettered (neg a) = Lettered a

@@ -113,11 +113,12 @@ parseAt (suc f) formula s i = joined s (joinSign formula) (parseAt f disjunction
 abbrev pub setAt : List ℕ → ℕ → Declared
 setAt s i = record { letter = valueAt s i }
 
--- The sets declared at position i, at most f of them, and the position after them.
+-- The sets declared at position i, at most f of them.
 unfoldable pub setsAt : ℕ → List ℕ → ℕ → List Declared
 setsAt zero s i = []
 setsAt (suc f) s i = test (eqb (kindAt s i) setLetter) (λ j. setAt s i ∷ setsAt f s j) (λ j. []) (nextAt s i)
 
+-- The position after them.
 unfoldable pub afterSets : ℕ → List ℕ → ℕ → ℕ
 afterSets zero s i = i
 afterSets (suc f) s i = test (eqb (kindAt s i) setLetter) (afterSets f s) (λ j. i) (nextAt s i)

@@ -4,7 +4,7 @@ use Rattle.cells_fill.specs.inner.Fill.{FillsPlan}
 use Rattle.contracts.proofs.LoadAnswers.{accepted, load-accepts}
 use Rattle.call_open.proofs.Opening.{open-enough, root-cell, few-cells}
 use Rattle.call_load.proofs.Opening.{load-shut, fill-ready, own-back}
-use Rattle.cells_fill.proofs.Parts.{back-to-length}
+use Rattle.logic.proofs.Lent.{back-to-length}
 use borrow.Author.Needs.{needs}
 use Rattle.call_load.proofs.load.Statement.{statement}
 use Rattle.call_load.proofs.load.Tie as tie

@@ -7,7 +7,7 @@ use Rattle.logic.proofs.Lent.{back, back-length}
 use Rattle.table_format.specs.Bytes.{recordLength}
 use Rattle.cells_join.specs.inner.Joined.{merged}
 use Rattle.cells_fill.specs.inner.Fill.{Fills}
-use Rattle.cells_fill.proofs.Parts.{backTo, back-to-length}
+use Rattle.logic.proofs.Lent.{backTo, back-to-length}
 use Rattle.cells_fill.proofs.Filling.{fill-none, fill-facts, fill-tree}
 use borrow.Fn.Kinds.{In}
 use borrow.Fn.PlainCycle.{Measures, is, falls, and}

@@ -5,7 +5,7 @@ use Rattle.logic.proofs.Tables.{tabulate-cong}
 use Rattle.logic.proofs.Within.{within-at}
 use Rattle.cells_join.specs.inner.Joined.{unitOf}
 use Rattle.cells_fill.specs.inner.Fill.{config, started}
-use Rattle.cells_fill.proofs.Parts.{nothing-behind}
+use Rattle.logic.proofs.Lent.{nothing-behind}
 use Rattle.cells_fill.proofs.Starting.{start-literal, start-inner, kind-low}
 use Rattle.cells_fill.proofs.start_cells.Statement.{statement}
 use Rattle.cells_fill.proofs.start_cells.Tie as tie
