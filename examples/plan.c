@@ -1,4 +1,5 @@
-/* Reads plan A of paper 01, loads it, prints its numbers and the cells of one node, and mends the plan by one move.
+/* Reads plan A of paper 01, loads it, prints its numbers and the cells of one node, mends the plan by one move, and lists the moves
+ * that keep it so.
  *
  * Built and run by .ci/run, which holds what it prints to examples/plan.stdout. */
 #include <stdio.h>
@@ -42,13 +43,22 @@ int main(void)
     print("move", vk_move(table, sizeof table, masks, 3, cells, 34, drop), &masks[1]);
     print("move again", vk_move(table, sizeof table, masks, 3, cells, 34, drop), &masks[1]);
 
-    /* The root is 0, so that no move is better; with port 1 back in T a drop is, from S or from T. */
+    /* The root is 0, so that no move is better; with port 1 back in T two drops are, from S and from T: S comes first. */
     vk_improve_answer none = vk_improve(table, sizeof table, masks, 3, cells, 34, scratch, 34, 15);
     printf("improve: number %u, found %u, before %u, after %u\n", none.number, none.found, none.before, none.after);
     vk_move_record add = {.kind = VK_ADD, .s = 1, .p = 1};
     print("move back", vk_move(table, sizeof table, masks, 3, cells, 34, add), &masks[1]);
     vk_improve_answer best = vk_improve(table, sizeof table, masks, 3, cells, 34, scratch, 34, 2);
-    printf("improve by drops: number %u, found %u, kind %u, port %u, before %u, after %u\n", best.number, best.found, best.move.kind,
-           best.move.p, best.before, best.after);
+    printf("improve by drops: number %u, found %u, kind %u, set %u, port %u, before %u, after %u\n", best.number, best.found,
+           best.move.kind, best.move.s, best.move.p, best.before, best.after);
+
+    /* The least root of any move is 0, as now. A list of VK_MOST_MOVES would always do; one of 3 records is too short here. */
+    vk_move_record list[8];
+    vk_count_answer short_list = vk_best_moves(table, sizeof table, masks, 3, cells, 34, scratch, 34, 15, list, 3);
+    printf("best moves into 3 records: number %u, count %u\n", short_list.number, short_list.count);
+    vk_count_answer listed = vk_best_moves(table, sizeof table, masks, 3, cells, 34, scratch, 34, 15, list, 8);
+    printf("best moves: number %u, count %u\n", listed.number, listed.count);
+    for (uint32_t i = 0; i < listed.count; i++)
+        printf("  kind %u, s %u, t %u, p %u, q %u\n", list[i].kind, list[i].s, list[i].t, list[i].p, list[i].q);
     return 0;
 }

@@ -1,5 +1,5 @@
-/* Vuyekhang: a planning engine for the ports of a cabinet, proved in Rattle. Version 0.2: read, load, a node's cells, move,
- * trial and improve.
+/* Vuyekhang: a planning engine for the ports of a cabinet, proved in Rattle. Version 0.3: read, load, a node's cells, move,
+ * trial, improve and the list of best moves.
  *
  * Link target/staticlib/libvuyekhang.a, which `rt staticlib vuyekhang` writes (x86-64, Linux). Each function is proved to meet its
  * contract in crates/vuyekhang/src/lib.rt for every value of its arguments; none keeps anything between two calls. A caller
@@ -13,14 +13,14 @@
  * quantifiers around one token; 5 set undeclared, declared twice or a seventeenth, variable unbound or bound again within its
  * reach; 6 constant above 64; 7 a fourth enclosing quantifier; 8 core over 512 nodes; 9 more than 1,048,576 cells; 10 u outside
  * 1 to 64; 11 plan table breaks a rule or is cut short; 12 cell, scratch, mask or output table too short; 13 a mask with a port of
- * u or more; 14 unknown kind, set, port or kinds sum, or an unused field not 0; 15 illegal move. */
+ * u or more; 14 unknown kind, set, port or kinds sum, or an unused field not 0; 15 illegal move; 16 the list of moves too short. */
 #ifndef VUYEKHANG_H
 #define VUYEKHANG_H
 
 #include <stddef.h>
 #include <stdint.h>
 
-#define VK_VERSION "0.2"
+#define VK_VERSION "0.3"
 
 #ifdef __cplusplus
 extern "C" {
@@ -28,6 +28,9 @@ extern "C" {
 
 /* Every plan table fits this many bytes: 9 and 8 for each of at most 512 nodes. */
 #define VK_MOST_TABLE 4105
+
+/* No plan ever has more legal moves than this, so that a list of so many records never meets 16. */
+#define VK_MOST_MOVES 21504
 
 /* Number, node count, cell total. */
 typedef struct {
@@ -59,7 +62,7 @@ typedef struct {
 vk_part vk_node_cells(const uint8_t *table, size_t table_len, const uint32_t *cells, size_t cells_len, size_t node);
 
 /* A move: kind 1 adds port p to set s, 2 drops it, 3 moves it from set s to set t, 4 puts port q in place of p in set s. A field
- * that its kind does not use is 0. */
+ * that its kind does not use is 0. Moves are ordered by kind, s, t, p, q, smaller first. */
 typedef struct {
     uint32_t kind, s, t, p, q;
 } vk_move_record;
@@ -93,11 +96,23 @@ typedef struct {
     uint32_t before, after, changed;
 } vk_improve_answer;
 
-/* Makes a legal move of some kinds that leaves the least root, if that is smaller than now; which of equally good ones is not said.
- * Kinds is a sum of 1 add, 2 drop, 4 transfer, 8 swap. Tries 11 to 13 as vk_trial does, then 14 (kinds 0 or above 15). Scratch as
- * for vk_trial. */
+/* Makes the first of the legal moves of some kinds that leave the least root, if that is smaller than now. Kinds is a sum of 1 add,
+ * 2 drop, 4 transfer, 8 swap. Tries 11 to 13 as vk_trial does, then 14 (kinds 0 or above 15). Scratch as for vk_trial. */
 vk_improve_answer vk_improve(const uint8_t *table, size_t table_len, uint64_t *masks, size_t masks_len, uint32_t *cells,
                              size_t cells_len, uint32_t *scratch, size_t scratch_len, uint32_t kinds);
+
+/* Number, how many moves were listed. */
+typedef struct {
+    uint32_t number, count;
+} vk_count_answer;
+
+/* Lists the legal moves of some kinds that leave the least root, as vk_trial would answer it, each once and in order, also where
+ * that root is not smaller than now; 0 of them where none is legal. Tries 11 to 14 as vk_improve does, then 16 (list_len, in
+ * records, is below the count). Masks and cells are kept, and so are the list's records past the count. Scratch as for vk_trial. It takes some
+ * 100 KB of stack. */
+vk_count_answer vk_best_moves(const uint8_t *table, size_t table_len, const uint64_t *masks, size_t masks_len,
+                              const uint32_t *cells, size_t cells_len, uint32_t *scratch, size_t scratch_len, uint32_t kinds,
+                              vk_move_record *list, size_t list_len);
 
 #ifdef __cplusplus
 }

@@ -1,3 +1,2 @@
 -- Laws.
 pub mod Fields
-pub mod OneAnswer

@@ -1,17 +1,18 @@
--- What vk_move, vk_trial and vk_improve give: the fields of the C structs by the answer definitions of the calls, and the tables
+-- What vk_move, vk_trial, vk_improve and vk_best_moves give: the fields of the C structs by the answer definitions of the calls, and the tables
 -- afterwards.
 use mathlib.Core.Path.{_≡_}
-use mathlib.Core.List.{List}
+use mathlib.Core.List.{List, _++_, map}
 use Prim.Native.Nat.{ℕ}
-use lib.ListN.{length}
+use lib.ListN.{length, drop}
 use Rattle.table_format.specs.Decode.{Decoded}
 use Rattle.contracts.specs.State.{State}
-use Rattle.contracts.specs.declared.Improved.{Improved}
 use Rattle.contracts.specs.MoveCall.{MoveValues}
 use Rattle.contracts.specs.TrialCall.{ScratchAfter}
-use Rattle.contracts.specs.ImproveCall.{improvedNumber, improvedFound, improvedMove, improvedBefore, improvedAfter, improvedChanged, Improves}
+use Rattle.contracts.specs.ImproveCall.{ImproveValues}
+use Rattle.contracts.specs.BestCall.{CountValues, Listing, recordOf}
 use Rattle.answers.specs.declared.MoveAnswer.{MoveAnswer}
 use Rattle.answers.specs.declared.ImproveAnswer.{ImproveAnswer}
+use Rattle.answers.specs.declared.CountAnswer.{CountAnswer}
 
 -- "The answer is the number with all other fields 0", and the three numbers of an accepted move: each field by the call's own
 -- definitions.
@@ -31,18 +32,28 @@ pub record TrialGives (d : Decoded) (given : MoveValues) (r : MoveAnswer) (scrat
   pub fields : MoveFields given r
   pub scratch-is : ScratchAfter d (r .number) scratch scratch′
 
-pub record ImproveFields (a : Improved) (r : ImproveAnswer) : Type 0 where
-  pub number-is : r .number ≡ improvedNumber a
-  pub found-is : r .found ≡ improvedFound a
-  pub move-is : r .chosen ≡ improvedMove a
-  pub before-is : r .before ≡ improvedBefore a
-  pub after-is : r .after ≡ improvedAfter a
-  pub changed-is : r .changed ≡ improvedChanged a
+-- The same of improve: whether a move was made, and that move.
+pub record ImproveFields (v : ImproveValues) (r : ImproveAnswer) : Type 0 where
+  pub number-is : r .number ≡ v .number
+  pub found-is : r .found ≡ v .found
+  pub move-is : r .chosen ≡ v .chosen
+  pub before-is : r .before ≡ v .before
+  pub after-is : r .after ≡ v .after
+  pub changed-is : r .changed ≡ v .changed
 
--- The struct is one of the answers that improve may give, with every mask, every cell and scratch afterwards. Its fields leave one
--- answer alone: found tells a move from none, and a refusal of `Improves` has no number 0.
-pub record ImproveGives (d : Decoded) (kinds : ℕ) (s : State) (scratch : List ℕ) (r : ImproveAnswer) (s′ : State) (scratch′ : List ℕ) : Type 0 where
-  pub answer : Improved
-  pub fields : ImproveFields answer r
-  pub improves : Improves d kinds s (length scratch) answer s′
+-- The struct, every mask, every cell and scratch afterwards.
+pub record ImproveGives (d : Decoded) (given : ImproveValues × State) (r : ImproveAnswer) (s′ : State) (scratch scratch′ : List ℕ) : Type 0 where
+  pub fields : ImproveFields (given .0) r
+  pub tables-are : s′ ≡ given .1
+  pub scratch-is : ScratchAfter d (r .number) scratch scratch′
+
+-- A number and a count.
+pub record CountFields (v : CountValues) (r : CountAnswer) : Type 0 where
+  pub number-is : r .number ≡ v .number
+  pub count-is : r .count ≡ v .count
+
+-- The struct, every record of the lent list and scratch afterwards.
+pub record ListGives (d : Decoded) (given : Listing) (r : CountAnswer) (list list′ : List (List ℕ)) (scratch scratch′ : List ℕ) : Type 0 where
+  pub fields : CountFields (given .0) r
+  pub list-is : list′ ≡ map recordOf (given .1) ++ drop (length (given .1)) list
   pub scratch-is : ScratchAfter d (r .number) scratch scratch′

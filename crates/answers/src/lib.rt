@@ -1,6 +1,7 @@
 // What the calls answer, as C structs: the structs, and the conversions by the paper's numbers and values.
 use cells_sum::After;
 use contracts::Answer;
+use contracts::Counted;
 use contracts::Improved;
 use contracts::Loaded;
 use contracts::Moved;
@@ -11,9 +12,11 @@ ghost use Rattle.contracts.specs.declared.Moved.the-variants.{Accepted};
 ghost use Rattle.contracts.specs.declared.Improved.the-variants.{Made};
 ghost use Rattle.contracts.specs.Load.{loadValues};
 ghost use Rattle.contracts.specs.MoveCall.{moveValues};
+ghost use Rattle.contracts.specs.ImproveCall.{improveValues};
+ghost use Rattle.contracts.specs.BestCall.{countValues};
 ghost use Rattle.contracts.specs.Read.{readValues};
 ghost use Rattle.answers.specs.Boundary.{ReadFields, LoadFields};
-ghost use Rattle.answers.specs.Moving.{MoveFields, ImproveFields};
+ghost use Rattle.answers.specs.Moving.{MoveFields, ImproveFields, CountFields};
 
 // Root before, root after, and how many cells differ.
 pub fn accepted(r: After) -> Moved
@@ -136,7 +139,7 @@ pub fn move_fields(a: Moved) -> MoveAnswer
 
 // Improve's answer as its C struct; the move is all 0 where none was made.
 pub fn improve_fields(a: Improved) -> ImproveAnswer
-    ensures { λ r. ⌜ ImproveFields a r ⌝ }
+    ensures { λ r. ⌜ ImproveFields (improveValues a) r ⌝ }
 {
     match a {
         Improved::Made {
@@ -167,6 +170,26 @@ pub fn improve_fields(a: Improved) -> ImproveAnswer
             before: 0,
             after: 0,
             changed: 0,
+        },
+    }
+}
+
+// vk_count_answer: 0 or the ground's number, and how many.
+#[repr(C)]
+pub struct CountAnswer {
+    pub number: u32,
+    pub count: u32,
+}
+
+// The answer of a call that counts as its C struct.
+pub fn count_fields(a: Counted) -> CountAnswer
+    ensures { λ r. ⌜ CountFields (countValues a) r ⌝ }
+{
+    match a {
+        Counted::Accepted(count) => CountAnswer { number: 0, count },
+        Counted::Refused(number) => CountAnswer {
+            number: number as u32,
+            count: 0,
         },
     }
 }

@@ -1,4 +1,5 @@
-// The call improve: the best legal move of some kinds, made if it leaves a smaller root than now. Paper 01, section One move.
+// The call improve: the first of the best legal moves of some kinds, made if it leaves a smaller root than now. Paper 01, section One
+// move; paper 02, request 2026-01.
 use answers::made;
 use call_open::open_tables;
 use contracts::Improved;
@@ -6,31 +7,20 @@ use logic::lesser;
 use move_best::Choice;
 use move_best::choose;
 use move_make::carry;
+use move_order::kinds_known;
 ghost use mathlib.Core.Path.{_≡_};
-ghost use mathlib.Core.Bool.{_&&_};
-ghost use lib.Dec.{ltb};
 ghost use lib.ListN.{length};
-ghost use Rattle.logic.specs.Moves.{kindsKnown};
 ghost use Rattle.table_format.specs.Decode.{decode};
 ghost use Rattle.contracts.specs.State.{tables};
 ghost use Rattle.contracts.specs.TrialCall.{ScratchAfter};
-ghost use Rattle.contracts.specs.ImproveCall.{improvedNumber, Improves};
+ghost use Rattle.contracts.specs.ImproveCall.{improveValues, improves, ImprovePromise};
+ghost use Rattle.move_best.specs.inner.Choosing.{lowersBy};
 
-// Whether 14 does not apply to a kinds sum.
-fn kinds_known(kinds: u32) -> bool
-    ensures { λ r. ⌜ r ≡ kindsKnown kinds ⌝ }
-{
-    if 1 <= kinds {
-        return kinds <= 15;
-    }
-    false
-}
-
-// Whether the best candidate, if there is one, leaves a smaller root than now.
+// Whether the first of the best, if there is one, leaves a smaller root than now.
 fn lowers(c: Choice, root: u32) -> bool
-    ensures { λ r. ⌜ r ≡ (c .found && ltb (c .numbers .value) root) ⌝ }
+    ensures { λ r. ⌜ r ≡ lowersBy c root ⌝ }
 {
-    if c.found {
+    if c.count != 0 {
         return c.numbers.value < root;
     }
     false
@@ -44,8 +34,8 @@ pub fn improve(
     scratch: &mut [u32],
     kinds: u32,
 ) -> Improved
-    ensures answer { λ r. ⌜ Improves (decode (now (table .entry))) kinds (tables (now (masks .entry)) (now (cells .entry))) (length (now (scratch .entry))) r (tables (now (masks .exit)) (now (cells .exit))) ⌝ }
-    ensures lent { λ r. ⌜ ScratchAfter (decode (now (table .entry))) (improvedNumber r) (now (scratch .entry)) (now (scratch .exit)) ⌝ }
+    ensures answer { λ r. ⌜ ImprovePromise (improves (decode (now (table .entry))) kinds (tables (now (masks .entry)) (now (cells .entry))) (length (now (scratch .entry)))) r (tables (now (masks .exit)) (now (cells .exit))) ⌝ }
+    ensures lent { λ r. ⌜ ScratchAfter (decode (now (table .entry))) (improveValues r .number) (now (scratch .entry)) (now (scratch .exit)) ⌝ }
 {
     let mut firsts = [0u32; 512];
     let mut ends = [0u16; 512];
@@ -65,6 +55,7 @@ pub fn improve(
     if !kinds_known(kinds) {
         return Improved::Refused(14);
     }
+    let mut places = [0u32; 1];
     let c = choose(
         table,
         &firsts,
@@ -75,6 +66,7 @@ pub fn improve(
         o.ports,
         o.sets,
         kinds,
+        &mut places,
     );
     let root = cells[0];
     if !lowers(c, root) {

@@ -1,45 +1,56 @@
 -- One call more at the end of a run. Assumes nothing.
 use mathlib.Core.Path.{_≡_, refl, sym, ap, ap₂, _∙_, subst}
 use mathlib.Core.Bool.{Bool, true, false}
-use mathlib.Core.List.{List, [], _∷_, _++_, append-assoc, append-nil}
+use mathlib.Core.List.{List, [], _∷_, _++_, append-assoc, append-nil, map}
 use Prim.Native.Nat.{ℕ, suc, _+_, _-_, _*_, _≤_, _<_, min}
 use native.Mathlib.Nat.{lt-of-not-le}
 use native.Mathlib.Decide.{decLe}
 use native.Mathlib.Omega.{arith}
-use lib.ListN.{length, take, drop, length-append, length-drop}
-use lib.Seq.{take-all, length-take-le, drop-drop}
+use lib.ListN.{length, take, drop, length-append, length-drop, take-append-drop, length-map}
+use lib.Seq.{take-all, length-take-le, drop-drop, drop-append-le}
+use Rattle.logic.specs.declared.Move.{Move}
 use Rattle.logic.proofs.Lent.{lent, back, lent-is, back-is}
 use Rattle.contracts.specs.State.{State}
-use Rattle.contracts.specs.Lists.{Exchange, moveCall, trialCall, improveCall, Step, Run, ended, called}
-use Rattle.table_format.specs.Decode.{decode}
+use Rattle.contracts.specs.BestCall.{recordOf}
+use Rattle.contracts.specs.Lists.{Asked, Exchange, moveCall, trialCall, improveCall, bestCall, step, run}
+use Rattle.table_format.specs.Decode.{Decoded, decode}
 use Rattle.call_list.specs.Scratch.{ScratchRun, kept}
 use Rattle.call_list.proofs.Scratch.{scratch-snoc, scratch-length}
-use Rattle.call_list.specs.Encoding.{Encodes, Unknown, SayAll, tenNumbers, movedNumbers, improvedNumbers, answerNumbers, allNumbers}
-use Rattle.call_list.specs.Working.{Worked, Stopped, atEnd, notWhole, unknownTag}
+use Rattle.call_list.specs.Encoding.{Encodes, Unknown, SayAll, tenNumbers, movedNumbers, improvedNumbers, countedNumbers, answerNumbers, allNumbers, listOne, listAfter}
+use Rattle.call_list.specs.Working.{Lent, lends, Worked, Stopped, atEnd, notWhole, unknownTag}
 use Rattle.call_list.specs.inner.Steps.{OneWorked, NoneWorked, OneAfter, NextFits}
 
 -- a run and a step after it
-run-snoc : (bytes : List ℕ) (s s′ s″ : State) (xs : List Exchange) (x : Exchange)
-    → Run bytes s xs s′ → Step bytes s′ x s″ → Run bytes s (xs ++ x ∷ []) s″
-run-snoc bytes s s′ s″ xs x ended y = called y ended
-run-snoc bytes s s′ s″ xs x (called {s′ = t} {xs = rest} z r) y = called z (run-snoc bytes t s′ s″ rest x r y)
+run-snoc : (d : Decoded) (s : State) (cs : List Asked) (c : Asked) → (let r = run d s cs in let x = step d (r .1) c in
+    run d s (cs ++ c ∷ []) ≡ (r .0 ++ x .0 ∷ [], x .1))
+unfolding run
+run-snoc d s [] c = refl
+run-snoc d s (first ∷ cs) c =
+    ap (λ (q : List Exchange × State). (step d s first .0 ∷ q .0, q .1)) (run-snoc d (step d s first .1) cs c)
 
 -- a call said behind others
-say-snoc : (n : ℕ) (numbers : List ℕ) (xs : List Exchange) (x : Exchange) → SayAll n numbers xs → Encodes n (drop (7 * length xs) numbers) x
-    → SayAll n numbers (xs ++ x ∷ [])
+say-snoc : (n k : ℕ) (numbers : List ℕ) (cs : List Asked) (c : Asked) → SayAll n k numbers cs → Encodes n k (drop (7 * length cs) numbers) c
+    → SayAll n k numbers (cs ++ c ∷ [])
 unfolding SayAll
-say-snoc n numbers [] x h k = (k, tt)
-say-snoc n numbers (first ∷ xs) x h k =
-    let more : 7 * suc (length xs) ≡ 7 + 7 * length xs = omega arith in
-    let e : drop (7 * suc (length xs)) numbers ≡ drop (7 * length xs) (drop 7 numbers) =
-    ap (λ (j : ℕ). drop j numbers) more ∙ sym (drop-drop (7 * length xs) 7 numbers) in
-    (h .0, say-snoc n (drop 7 numbers) xs x (h .1) (subst (λ (ys : List ℕ). Encodes n ys x) e k))
+say-snoc n k numbers [] c h e = (e, tt)
+say-snoc n k numbers (first ∷ cs) c h e =
+    let more : 7 * suc (length cs) ≡ 7 + 7 * length cs = omega arith in
+    let q : drop (7 * suc (length cs)) numbers ≡ drop (7 * length cs) (drop 7 numbers) =
+    ap (λ (j : ℕ). drop j numbers) more ∙ sym (drop-drop (7 * length cs) 7 numbers) in
+    (h .0, say-snoc n k (drop 7 numbers) cs c (h .1) (subst (λ (ys : List ℕ). Encodes n k ys c) q e))
+
+-- the list after one call more
+list-snoc : (l : List (List ℕ)) (xs : List Exchange) (x : Exchange) → listAfter l (xs ++ x ∷ []) ≡ listOne (listAfter l xs) x
+unfolding listAfter
+list-snoc l [] x = refl
+list-snoc l (first ∷ xs) x = list-snoc (listOne l first) xs x
 
 length-numbers : (x : Exchange) → length (answerNumbers x) ≡ 10
-unfolding answerNumbers movedNumbers improvedNumbers tenNumbers
+unfolding answerNumbers movedNumbers improvedNumbers countedNumbers tenNumbers
 length-numbers (moveCall m r) = refl
 length-numbers (trialCall m scratch r) = refl
 length-numbers (improveCall kinds scratch r) = refl
+length-numbers (bestCall kinds scratch room r) = refl
 
 length-all : (xs : List Exchange) → length (allNumbers xs) ≡ 10 * length xs
 unfolding allNumbers
@@ -54,102 +65,140 @@ all-snoc (first ∷ xs) x =
     ap (λ (ys : List ℕ). answerNumbers first ++ ys) (all-snoc xs x)
     ∙ sym (append-assoc (answerNumbers first) (allNumbers xs) (answerNumbers x))
 
+-- as many answers as calls
+run-length : (d : Decoded) (s : State) (cs : List Asked) → length (run d s cs .0) ≡ length cs
+unfolding run
+run-length d s [] = refl
+run-length d s (c ∷ cs) = ap suc (run-length d (step d s c .1) cs)
+
 -- a part lent up to the end
 lent-all : (at : ℕ) (xs : List ℕ) → lent at xs ≡ drop at xs
 lent-all at xs = take-all (length xs - at) (drop at xs) (omega (arith, length-drop at xs))
 
+-- a list of which the first records are lent, and given back with some of them written
+pub list-back : (ms : List Move) (l part : List (List ℕ)) (r : ℕ) → r ≤ length l → length part ≡ length (take r l)
+    → part ≡ map recordOf ms ++ drop (length ms) (take r l) → part ++ drop r l ≡ map recordOf ms ++ drop (length ms) l
+list-back ms l part r h e q =
+    let few : length ms ≤ length (take r l) =
+    omega (arith, ap length q, length-append (map recordOf ms) (drop (length ms) (take r l)), length-drop (length ms) (take r l), length-map ms recordOf, e) in
+    ap (λ (ks : List (List ℕ)). ks ++ drop r l) q
+    ∙ append-assoc (map recordOf ms) (drop (length ms) (take r l)) (drop r l)
+    ∙ ap (λ (ks : List (List ℕ)). map recordOf ms ++ ks) (sym (drop-append-le (length ms) (take r l) (drop r l) few) ∙ ap (drop (length ms)) (take-append-drop r l))
+
 -- before the first call
-pub none-yet : (bytes calls : List ℕ) (s : State) (scratch answers : List ℕ)
-    → Worked bytes calls s scratch answers 0 s scratch answers
-unfolding SayAll allNumbers
-none-yet bytes calls s scratch answers = record {
-  exchanges = [];
+pub none-yet : (bytes calls : List ℕ) (b : Lent) → Worked bytes calls b 0 b
+unfolding SayAll allNumbers run listAfter
+none-yet bytes calls b = record {
+  asked = [];
   whole = omega arith;
   room = omega arith;
   worked = refl;
   says = tt;
-  run = ended;
+  tables-are = refl;
   scratch-run = kept;
+  list-is = refl;
   answers-are = refl;
 }
 
-module _ (bytes calls : List ℕ) (s : State) (scratch answers : List ℕ) (count : ℕ) (s′ : State) (scratch′ answers′ : List ℕ)
-    (w : Worked bytes calls s scratch answers count s′ scratch′ answers′) where
-  told-length : length (allNumbers (w .exchanges)) ≡ 10 * count
+-- what is lent to the next call: the room for its own answer
+abbrev pub lentOn : ℕ → Lent → Lent
+lentOn count a = lends (a .tables) (a .scratch) (a .list) (lent (10 * count) (a .answers))
+
+-- and what it gives back
+abbrev pub backOn : ℕ → Lent → Lent → Lent
+backOn count a x = lends (x .tables) (x .scratch) (x .list) (back (10 * count) (a .answers) (x .answers))
+
+module _ (bytes calls : List ℕ) (b : Lent) (count : ℕ) (a : Lent) (w : Worked bytes calls b count a) where
+  abbrev told : List ℕ
+  told = allNumbers (run (decode bytes) (b .tables) (w .asked) .0)
+
+  told-length : length told ≡ 10 * count
   told-length =
-      length-all (w .exchanges) ∙ ap (λ (j : ℕ). 10 * j) (w .worked)
+      length-all (run (decode bytes) (b .tables) (w .asked) .0)
+      ∙ ap (λ (j : ℕ). 10 * j) (run-length (decode bytes) (b .tables) (w .asked) ∙ w .worked)
 
-  pub answers-length : length answers′ ≡ length answers
+  pub answers-length : length (a .answers) ≡ length (b .answers)
   answers-length =
-      ap length (w .answers-are) ∙ length-append (allNumbers (w .exchanges)) (drop (10 * count) answers)
-      ∙ omega (arith, told-length, length-drop (10 * count) answers, w .room)
+      ap length (w .answers-are) ∙ length-append told (drop (10 * count) (b .answers))
+      ∙ omega (arith, told-length, length-drop (10 * count) (b .answers), w .room)
 
-  pub as-long : length scratch′ ≡ length scratch
-  as-long = scratch-length (decode bytes) scratch scratch′ (w .exchanges) (w .scratch-run)
+  pub as-long : length (a .scratch) ≡ length (b .scratch)
+  as-long = scratch-length (decode bytes) (b .scratch) (a .scratch) (run (decode bytes) (b .tables) (w .asked) .0) (w .scratch-run)
 
   -- the part of the answers that is lent, and the answers when it is given back
-  part-is : lent (10 * count) answers′ ≡ drop (10 * count) answers
-  part-is = ap (lent (10 * count)) (w .answers-are) ∙ lent-is (10 * count) (allNumbers (w .exchanges)) (drop (10 * count) answers) told-length
+  part-is : lent (10 * count) (a .answers) ≡ drop (10 * count) (b .answers)
+  part-is = ap (lent (10 * count)) (w .answers-are) ∙ lent-is (10 * count) told (drop (10 * count) (b .answers)) told-length
 
-  given-back : (ys : List ℕ) → back (10 * count) answers′ ys ≡ allNumbers (w .exchanges) ++ ys
+  given-back : (ys : List ℕ) → back (10 * count) (a .answers) ys ≡ told ++ ys
   given-back ys =
       ap (λ (xs : List ℕ). back (10 * count) xs ys) (w .answers-are)
-      ∙ back-is (10 * count) (allNumbers (w .exchanges)) (drop (10 * count) answers) ys told-length
+      ∙ back-is (10 * count) told (drop (10 * count) (b .answers)) ys told-length
 
-  module _ (s″ : State) (scratch″ part : List ℕ) where
-    pub one-more : OneWorked bytes (lent (7 * count) calls) s′ scratch′ (lent (10 * count) answers′) s″ scratch″ part
-        → 7 * count + 7 ≤ length calls → 10 * count + 10 ≤ length answers
-        → Worked bytes calls s scratch answers (count + 1) s″ scratch″ (back (10 * count) answers′ part)
-    one-more o whole room =
+  module _ (x : Lent) where
+    pub one-more : length (a .list) ≡ length (b .list) → OneWorked bytes (lent (7 * count) calls) (lentOn count a) x
+        → 7 * count + 7 ≤ length calls → 10 * count + 10 ≤ length (b .answers) → Worked bytes calls b (count + 1) (backOn count a x)
+    one-more long o whole room =
         let next : 10 * count + 10 ≡ 10 * (count + 1) = omega arith in
+        let old = run (decode bytes) (b .tables) (w .asked) in
+        let y = step (decode bytes) (a .tables) (o .asked) in
+        let z : step (decode bytes) (old .1) (o .asked) ≡ y = ap (λ (t : State). step (decode bytes) t (o .asked)) (sym (w .tables-are)) in
+        let r : run (decode bytes) (b .tables) (w .asked ++ o .asked ∷ []) ≡ (old .0 ++ y .0 ∷ [], y .1) =
+        run-snoc (decode bytes) (b .tables) (w .asked) (o .asked) ∙ ap (λ (q : Exchange × State). (old .0 ++ q .0 ∷ [], q .1)) z in
+        let xs = ap (λ (q : List Exchange × State). q .0) r in
         record {
-          exchanges = w .exchanges ++ o .exchange ∷ [];
+          asked = w .asked ++ o .asked ∷ [];
           whole = omega arith;
           room = omega arith;
-          worked = length-append (w .exchanges) (o .exchange ∷ []) ∙ ap (λ (j : ℕ). j + 1) (w .worked);
-          says = say-snoc (length scratch) calls (w .exchanges) (o .exchange) (w .says)
-              (subst (λ (ys : List ℕ). Encodes (length scratch) ys (o .exchange))
+          worked = length-append (w .asked) (o .asked ∷ []) ∙ ap (λ (j : ℕ). j + 1) (w .worked);
+          says = say-snoc (length (b .scratch)) (length (b .list)) calls (w .asked) (o .asked) (w .says)
+              (subst (λ (ys : List ℕ). Encodes (length (b .scratch)) (length (b .list)) ys (o .asked))
               (lent-all (7 * count) calls ∙ ap (λ (j : ℕ). drop (7 * j) calls) (sym (w .worked)))
-              (subst (λ (n : ℕ). Encodes n (lent (7 * count) calls) (o .exchange)) as-long (o .says)));
-          run = run-snoc bytes _ _ _ (w .exchanges) (o .exchange) (w .run) (o .step);
+              (subst (λ (n : ℕ). Encodes n (length (b .list)) (lent (7 * count) calls) (o .asked)) as-long
+              (subst (λ (n : ℕ). Encodes (length (a .scratch)) n (lent (7 * count) calls) (o .asked)) long (o .says))));
+          tables-are = o .tables-are ∙ sym (ap (λ (q : List Exchange × State). q .1) r);
           scratch-run =
-              scratch-snoc (decode bytes) scratch scratch′ scratch″ (w .exchanges) (o .exchange) (w .scratch-run) (o .scratch-step);
+              subst (λ (es : List Exchange). ScratchRun (decode bytes) (b .scratch) es (x .scratch)) (sym xs)
+              (scratch-snoc (decode bytes) (b .scratch) (a .scratch) (x .scratch) (old .0) (y .0) (w .scratch-run) (o .scratch-step));
+          list-is =
+              o .list-is ∙ ap (λ (l : List (List ℕ)). listOne l (y .0)) (w .list-is) ∙ sym (list-snoc (b .list) (old .0) (y .0))
+              ∙ ap (listAfter (b .list)) (sym xs);
           answers-are =
-              given-back part
-              ∙ ap (λ (ys : List ℕ). allNumbers (w .exchanges) ++ ys)
-              (o .answer-is ∙ ap (λ (ys : List ℕ). answerNumbers (o .exchange) ++ drop 10 ys) part-is
-              ∙ ap (λ (ys : List ℕ). answerNumbers (o .exchange) ++ ys) (drop-drop 10 (10 * count) answers ∙ ap (λ (j : ℕ). drop j answers) next))
-              ∙ sym (append-assoc (allNumbers (w .exchanges)) (answerNumbers (o .exchange)) (drop (10 * (count + 1)) answers))
-              ∙ ap (λ (ys : List ℕ). ys ++ drop (10 * (count + 1)) answers) (sym (all-snoc (w .exchanges) (o .exchange)));
+              given-back (x .answers)
+              ∙ ap (λ (ys : List ℕ). told ++ ys)
+              (o .answer-is ∙ ap (λ (ys : List ℕ). answerNumbers (y .0) ++ drop 10 ys) part-is
+              ∙ ap (λ (ys : List ℕ). answerNumbers (y .0) ++ ys) (drop-drop 10 (10 * count) (b .answers) ∙ ap (λ (j : ℕ). drop j (b .answers)) next))
+              ∙ sym (append-assoc told (answerNumbers (y .0)) (drop (10 * (count + 1)) (b .answers)))
+              ∙ ap (λ (ys : List ℕ). ys ++ drop (10 * (count + 1)) (b .answers)) (sym (all-snoc (old .0) (y .0)) ∙ ap allNumbers (sym xs));
         }
 
-    module _ (o : NoneWorked (lent (7 * count) calls) s′ scratch′ (lent (10 * count) answers′) s″ scratch″ part) where
-      pub none-more : Worked bytes calls s scratch answers count s″ scratch″ (back (10 * count) answers′ part)
-      none-more = record {
-        exchanges = w .exchanges;
-        whole = w .whole;
-        room = w .room;
-        worked = w .worked;
-        says = w .says;
-        run = subst (Run bytes s (w .exchanges)) (sym (o .tables-kept)) (w .run);
-        scratch-run = subst (ScratchRun (decode bytes) scratch (w .exchanges)) (sym (o .scratch-kept)) (w .scratch-run);
-        answers-are = given-back part ∙ ap (λ (ys : List ℕ). allNumbers (w .exchanges) ++ ys) (o .answer-kept ∙ part-is);
-      }
+    module _ (o : NoneWorked (lent (7 * count) calls) (lentOn count a) x) where
+      pub none-more : Worked bytes calls b count (backOn count a x)
+      none-more =
+          subst (λ (l : Lent). Worked bytes calls b count (backOn count a l)) (sym (o .kept))
+          record {
+            asked = w .asked;
+            whole = w .whole;
+            room = w .room;
+            worked = w .worked;
+            says = w .says;
+            tables-are = w .tables-are;
+            scratch-run = w .scratch-run;
+            list-is = w .list-is;
+            answers-are = given-back (lent (10 * count) (a .answers)) ∙ ap (λ (ys : List ℕ). told ++ ys) part-is;
+          }
 
-      pub stopped-there : 7 * count + 7 ≤ length calls → 10 * count + 10 ≤ length answers → Stopped calls (length answers) count
+      pub stopped-there : 7 * count + 7 ≤ length calls → 10 * count + 10 ≤ length (b .answers) → Stopped calls (length (b .answers)) count
       stopped-there whole room = unknownTag whole room (subst Unknown (lent-all (7 * count) calls) (o .unknown))
 
 -- by the answer of the leaf
-module _ (r : Bool) (bytes call : List ℕ) (s : State) (scratch answer : List ℕ) (s′ : State) (scratch′ answer′ : List ℕ) where
-  pub after-true : r ≡ true → OneAfter r bytes call s scratch answer s′ scratch′ answer′
-      → OneWorked bytes call s scratch answer s′ scratch′ answer′
+module _ (r : Bool) (bytes call : List ℕ) (b a : Lent) where
+  pub after-true : r ≡ true → OneAfter r bytes call b a → OneWorked bytes call b a
   unfolding OneAfter
-  after-true e h = subst (λ (x : Bool). OneAfter x bytes call s scratch answer s′ scratch′ answer′) e h
+  after-true e h = subst (λ (x : Bool). OneAfter x bytes call b a) e h
 
-  pub after-false : r ≡ false → OneAfter r bytes call s scratch answer s′ scratch′ answer′
-      → NoneWorked call s scratch answer s′ scratch′ answer′
+  pub after-false : r ≡ false → OneAfter r bytes call b a → NoneWorked call b a
   unfolding OneAfter
-  after-false e h = subst (λ (x : Bool). OneAfter x bytes call s scratch answer s′ scratch′ answer′) e h
+  after-false e h = subst (λ (x : Bool). OneAfter x bytes call b a) e h
 
 pub fits-true : (r : Bool) (calls answers : List ℕ) (count : ℕ) → r ≡ true → NextFits r calls answers count
     → (7 * count + 7 ≤ length calls) × (10 * count + 10 ≤ length answers)
@@ -168,75 +217,64 @@ too-few calls room count h l = go (decLe (length calls) (7 * count))
     go (yes k) = atEnd (omega arith)
     go (no f) = notWhole (lt-of-not-le f) (omega arith)
 
--- the cells of scratch that a call gets
-pub scratch-lent : (xs : List ℕ) (asked x lent : ℕ) → x ≡ asked → lent ≡ min x (length xs) → length (take (lent - 0) xs) ≡ min asked (length xs)
-scratch-lent xs asked x lent e h =
-    length-take-le (lent - 0) xs (omega arith) ∙ omega arith
+-- the cells of scratch, or the records of the list, that a call gets
+pub part-lent : {A : Type 0} (xs : List A) (asked x n : ℕ) → x ≡ asked → n ≡ min x (length xs) → length (take (n - 0) xs) ≡ min asked (length xs)
+part-lent xs asked x n e h = length-take-le (n - 0) xs (omega arith) ∙ omega arith
 
--- What holds before each call: the calls so far were worked, and masks and cells are as long as at the outset.
-pub record Going (bytes calls : List ℕ) (s : State) (scratch answers : List ℕ) (count : ℕ) (s′ : State) (scratch′ answers′ : List ℕ) : Type 0 where
-  pub so-far : Worked bytes calls s scratch answers count s′ scratch′ answers′
-  pub masks-length : length (s′ .masks) ≡ length (s .masks)
-  pub cells-length : length (s′ .cells) ≡ length (s .cells)
+-- What holds before each call: the calls so far were worked, and masks, cells and the list are as long as at the outset.
+pub record Going (bytes calls : List ℕ) (b : Lent) (count : ℕ) (a : Lent) : Type 0 where
+  pub so-far : Worked bytes calls b count a
+  pub masks-length : length (a .tables .masks) ≡ length (b .tables .masks)
+  pub cells-length : length (a .tables .cells) ≡ length (b .tables .cells)
+  pub list-length : length (a .list) ≡ length (b .list)
 
-pub outset : (bytes calls : List ℕ) (s : State) (scratch answers : List ℕ) → Going bytes calls s scratch answers 0 s scratch answers
-outset bytes calls s scratch answers = record {
-  so-far = none-yet bytes calls s scratch answers;
-  masks-length = refl;
-  cells-length = refl;
-}
+pub outset : (bytes calls : List ℕ) (b : Lent) → Going bytes calls b 0 b
+outset bytes calls b = record { so-far = none-yet bytes calls b; masks-length = refl; cells-length = refl; list-length = refl }
 
-module _ (bytes calls : List ℕ) (s : State) (scratch answers : List ℕ) (count : ℕ) (s′ : State) (scratch′ answers′ : List ℕ)
-    (g : Going bytes calls s scratch answers count s′ scratch′ answers′) where
-  pub same-answers : length answers′ ≡ length answers
-  same-answers = answers-length bytes calls s scratch answers count s′ scratch′ answers′ (g .so-far)
+module _ (bytes calls : List ℕ) (b : Lent) (count : ℕ) (a : Lent) (g : Going bytes calls b count a) where
+  pub same-answers : length (a .answers) ≡ length (b .answers)
+  same-answers = answers-length bytes calls b count a (g .so-far)
 
-  pub same-scratch : length scratch′ ≡ length scratch
-  same-scratch = as-long bytes calls s scratch answers count s′ scratch′ answers′ (g .so-far)
+  pub same-scratch : length (a .scratch) ≡ length (b .scratch)
+  same-scratch = as-long bytes calls b count a (g .so-far)
 
   -- what was worked stands within both tables
-  pub within : (7 * count ≤ length calls) × (10 * count ≤ length answers′)
+  pub within : (7 * count ≤ length calls) × (10 * count ≤ length (a .answers))
   within = (g .so-far .whole, omega (arith, same-answers, g .so-far .room))
 
   -- the next call and the room for its answer, where they are there
-  pub one-ready : 7 * count + 7 ≤ length calls → 10 * count + 10 ≤ length answers′
-      → (7 ≤ length (lent (7 * count) calls)) × (10 ≤ length (lent (10 * count) answers′))
+  pub one-ready : 7 * count + 7 ≤ length calls → 10 * count + 10 ≤ length (a .answers)
+      → (7 ≤ length (lent (7 * count) calls)) × (10 ≤ length (lent (10 * count) (a .answers)))
   one-ready h k = (
     rw (lent-all (7 * count) calls) (rw (length-drop (7 * count) calls) (omega arith)),
-    rw (lent-all (10 * count) answers′) (rw (length-drop (10 * count) answers′) (omega arith)),
+    rw (lent-all (10 * count) (a .answers)) (rw (length-drop (10 * count) (a .answers)) (omega arith)),
   )
 
-  module _ (s″ : State) (scratch″ part : List ℕ) (r : Bool)
-      (o : OneAfter r bytes (lent (7 * count) calls) s′ scratch′ (lent (10 * count) answers′) s″ scratch″ part)
-      (fits : (7 * count + 7 ≤ length calls) × (10 * count + 10 ≤ length answers′)) where
-    pub goes-on : r ≡ true → length (s″ .masks) ≡ length (s′ .masks) → length (s″ .cells) ≡ length (s′ .cells)
-        → Going bytes calls s scratch answers (count + 1) s″ scratch″ (back (10 * count) answers′ part)
-    goes-on e lm lc = record {
+  module _ (x : Lent) (r : Bool) (o : OneAfter r bytes (lent (7 * count) calls) (lentOn count a) x)
+      (fits : (7 * count + 7 ≤ length calls) × (10 * count + 10 ≤ length (a .answers))) where
+    pub goes-on : r ≡ true → length (x .tables .masks) ≡ length (a .tables .masks) → length (x .tables .cells) ≡ length (a .tables .cells)
+        → length (x .list) ≡ length (a .list) → Going bytes calls b (count + 1) (backOn count a x)
+    goes-on e lm lc ll = record {
       so-far =
-          one-more bytes calls s scratch answers count s′ scratch′ answers′ (g .so-far) s″ scratch″ part
-          (after-true r bytes (lent (7 * count) calls) s′ scratch′ (lent (10 * count) answers′) s″ scratch″ part e o)
+          one-more bytes calls b count a (g .so-far) x (g .list-length) (after-true r bytes (lent (7 * count) calls) (lentOn count a) x e o)
           (fits .0) (omega (arith, fits .1, same-answers));
       masks-length = lm ∙ g .masks-length;
       cells-length = lc ∙ g .cells-length;
+      list-length = ll ∙ g .list-length;
     }
 
     module _ (e : r ≡ false) where
-      nothing-done : NoneWorked (lent (7 * count) calls) s′ scratch′ (lent (10 * count) answers′) s″ scratch″ part
-      nothing-done =
-          after-false r bytes (lent (7 * count) calls) s′ scratch′ (lent (10 * count) answers′) s″ scratch″ part e o
+      nothing-done : NoneWorked (lent (7 * count) calls) (lentOn count a) x
+      nothing-done = after-false r bytes (lent (7 * count) calls) (lentOn count a) x e o
 
-      pub worked-there : Worked bytes calls s scratch answers count s″ scratch″ (back (10 * count) answers′ part)
-      worked-there =
-          none-more bytes calls s scratch answers count s′ scratch′ answers′ (g .so-far) s″ scratch″ part nothing-done
+      pub worked-there : Worked bytes calls b count (backOn count a x)
+      worked-there = none-more bytes calls b count a (g .so-far) x nothing-done
 
-      pub unknown-there : Stopped calls (length answers) count
-      unknown-there =
-          stopped-there bytes calls s scratch answers count s′ scratch′ answers′ (g .so-far) s″ scratch″ part nothing-done
-          (fits .0) (omega (arith, fits .1, same-answers))
+      pub unknown-there : Stopped calls (length (b .answers)) count
+      unknown-there = stopped-there bytes calls b count a (g .so-far) x nothing-done (fits .0) (omega (arith, fits .1, same-answers))
 
-      pub answers-there : length (back (10 * count) answers′ part) ≡ length answers
-      answers-there =
-          answers-length bytes calls s scratch answers count s″ scratch″ (back (10 * count) answers′ part) worked-there
+      pub answers-there : length (backOn count a x .answers) ≡ length (b .answers)
+      answers-there = answers-length bytes calls b count (backOn count a x) worked-there
 
-  pub ends-there : (r : Bool) → r ≡ false → NextFits r calls answers′ count → Stopped calls (length answers) count
-  ends-there r e h = subst (λ (n : ℕ). Stopped calls n count) same-answers (fits-false r calls answers′ count e h)
+  pub ends-there : (r : Bool) → r ≡ false → NextFits r calls (a .answers) count → Stopped calls (length (b .answers)) count
+  ends-there r e h = subst (λ (n : ℕ). Stopped calls n count) same-answers (fits-false r calls (a .answers) count e h)

@@ -1,4 +1,5 @@
 -- Laws.
 pub mod Extending
+pub mod OneCall
 pub mod Scratch
 pub mod Telling

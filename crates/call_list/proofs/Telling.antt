@@ -7,10 +7,12 @@ use lib.ListN.{length, set, drop}
 use Rattle.logic.specs.declared.Move.{Move}
 use Rattle.contracts.specs.declared.Moved.{Moved}
 use Rattle.contracts.specs.declared.Improved.{Improved}
+use Rattle.contracts.specs.declared.Counted.{Counted}
 use Rattle.contracts.specs.MoveCall.{moveValues}
 use Rattle.logic.specs.Moves.{noMove}
-use Rattle.contracts.specs.ImproveCall.{improvedNumber, improvedFound, improvedMove, improvedBefore, improvedAfter, improvedChanged}
-use Rattle.call_list.specs.Encoding.{tenNumbers, movedNumbers, improvedNumbers}
+use Rattle.contracts.specs.ImproveCall.{improveValues}
+use Rattle.contracts.specs.BestCall.{countValues}
+use Rattle.call_list.specs.Encoding.{tenNumbers, movedNumbers, improvedNumbers, countedNumbers}
 
 -- ten stores leave the ten numbers and what stood behind them
 pub ten-set : (xs : List ℕ) (a b c d e f g h i j : ℕ) → 10 ≤ length xs
@@ -38,11 +40,20 @@ told-moved r known m xs ys e f h =
     h ∙ ap (λ (x : Move). tenNumbers (v .number) 0 x (v .before) (v .after) (v .changed) ++ drop 10 xs) f
     ∙ ap (λ (x : Moved). movedNumbers (moveValues x) ++ drop 10 xs) (sym e)
 
-pub told-improved : (r known : Improved) (m : Move) (xs ys : List ℕ) → r ≡ known → m ≡ improvedMove known
-    → ys ≡ tenNumbers (improvedNumber known) (improvedFound known) m (improvedBefore known) (improvedAfter known) (improvedChanged known) ++ drop 10 xs
-    → ys ≡ improvedNumbers r ++ drop 10 xs
+pub told-improved : (r known : Improved) (m : Move) (xs ys : List ℕ) → r ≡ known → m ≡ improveValues known .chosen
+    → (let v = improveValues known in ys ≡ tenNumbers (v .number) (v .found) m (v .before) (v .after) (v .changed) ++ drop 10 xs)
+    → ys ≡ improvedNumbers (improveValues r) ++ drop 10 xs
 unfolding improvedNumbers
 told-improved r known m xs ys e f h =
-    h
-    ∙ ap (λ (x : Move). tenNumbers (improvedNumber known) (improvedFound known) x (improvedBefore known) (improvedAfter known) (improvedChanged known) ++ drop 10 xs) f
-    ∙ ap (λ (x : Improved). improvedNumbers x ++ drop 10 xs) (sym e)
+    let v = improveValues known in
+    h ∙ ap (λ (x : Move). tenNumbers (v .number) (v .found) x (v .before) (v .after) (v .changed) ++ drop 10 xs) f
+    ∙ ap (λ (x : Improved). improvedNumbers (improveValues x) ++ drop 10 xs) (sym e)
+
+pub told-counted : (r known : Counted) (m : Move) (xs ys : List ℕ) → r ≡ known → m ≡ noMove
+    → (let v = countValues known in ys ≡ tenNumbers (v .number) (v .count) m 0 0 0 ++ drop 10 xs)
+    → ys ≡ countedNumbers (countValues r) ++ drop 10 xs
+unfolding countedNumbers
+told-counted r known m xs ys e f h =
+    let v = countValues known in
+    h ∙ ap (λ (x : Move). tenNumbers (v .number) (v .count) x 0 0 0 ++ drop 10 xs) f
+    ∙ ap (λ (x : Counted). countedNumbers (countValues x) ++ drop 10 xs) (sym e)

@@ -5,23 +5,24 @@ use Prim.Native.Nat.{ℕ}
 use lib.ListN.{length, take, drop}
 use Rattle.table_format.specs.Decode.{Decoded}
 use Rattle.contracts.specs.TrialCall.{ScratchAfter}
-use Rattle.contracts.specs.ImproveCall.{improvedNumber}
-use Rattle.contracts.specs.Lists.{Exchange, moveCall, trialCall, improveCall}
+use Rattle.contracts.specs.Lists.{Exchange, moveCall, trialCall, improveCall, bestCall}
 
 -- What a call is lent of scratch: a move none of it.
 unfoldable pub lentTo : Exchange → List ℕ
 lentTo (moveCall m r) = []
 lentTo (trialCall m scratch r) = scratch
 lentTo (improveCall kinds scratch r) = scratch
+lentTo (bestCall kinds scratch room r) = scratch
 
 -- The paper's number of an answer.
 unfoldable pub answerNumber : Exchange → ℕ
 answerNumber (moveCall m r) = r .number
 answerNumber (trialCall m scratch r) = r .number
-answerNumber (improveCall kinds scratch r) = improvedNumber r
+answerNumber (improveCall kinds scratch r) = r .number
+answerNumber (bestCall kinds scratch room r) = r .0 .number
 
 -- "Trial returns the same three numbers and writes only a scratch table of at least as many cells" (paper 01, section One move);
--- improve likewise. One call: it is lent the front of scratch as the last call left it, writes of that what `ScratchAfter` allows,
+-- improve and the best moves likewise. One call: it is lent the front of scratch as the last call left it, writes of that what `ScratchAfter` allows,
 -- and nothing behind it.
 pub record ScratchOne (d : Decoded) (x : Exchange) (before after : List ℕ) : Type 0 where
   pub front : take (length (lentTo x)) before ≡ lentTo x

@@ -5,21 +5,34 @@ use Prim.Native.Nat.{ℕ, _+_, _*_, _≤_, _<_}
 use lib.ListN.{length, drop}
 use Rattle.table_format.specs.Decode.{decode}
 use Rattle.contracts.specs.State.{State}
-use Rattle.contracts.specs.Lists.{Exchange, Run}
+use Rattle.contracts.specs.Lists.{Asked, run}
 use Rattle.call_list.specs.Scratch.{ScratchRun}
-use Rattle.call_list.specs.Encoding.{Unknown, SayAll, allNumbers}
+use Rattle.call_list.specs.Encoding.{Unknown, SayAll, allNumbers, listAfter}
+
+-- What is lent to a list of calls: the tables that its calls share, scratch, a list for the best moves, and the room for the answers.
+pub record Lent : Type 0 where
+  pub tables : State
+  pub scratch : List ℕ
+  pub list : List (List ℕ)
+  pub answers : List ℕ
+
+-- The same, one after the other.
+abbrev pub lends : State → List ℕ → List (List ℕ) → List ℕ → Lent
+lends s scratch list answers = record { tables = s; scratch = scratch; list = list; answers = answers }
 
 -- "Its contract gives, for every list, a run in the sense of the theorem whose calls are the list's and whose answers are the
--- table's": the first `count` calls, their answers, and what stood behind those as it was. Scratch goes from call to call.
-pub record Worked (bytes calls : List ℕ) (s : State) (scratch answers : List ℕ) (count : ℕ) (s′ : State) (scratch′ answers′ : List ℕ) : Type 0 where
-  pub exchanges : List Exchange
+-- table's": the first `count` calls, their answers, and what stood behind those as it was. Scratch and the list of records go from call
+-- to call.
+pub record Worked (bytes calls : List ℕ) (before : Lent) (count : ℕ) (after : Lent) : Type 0 where
+  pub asked : List Asked
   pub whole : 7 * count ≤ length calls
-  pub room : 10 * count ≤ length answers
-  pub worked : length exchanges ≡ count
-  pub says : SayAll (length scratch) calls exchanges
-  pub run : Run bytes s exchanges s′
-  pub scratch-run : ScratchRun (decode bytes) scratch exchanges scratch′
-  pub answers-are : answers′ ≡ allNumbers exchanges ++ drop (10 * count) answers
+  pub room : 10 * count ≤ length (before .answers)
+  pub worked : length asked ≡ count
+  pub says : SayAll (length (before .scratch)) (length (before .list)) calls asked
+  pub tables-are : after .tables ≡ run (decode bytes) (before .tables) asked .1
+  pub scratch-run : ScratchRun (decode bytes) (before .scratch) (run (decode bytes) (before .tables) asked .0) (after .scratch)
+  pub list-is : after .list ≡ listAfter (before .list) (run (decode bytes) (before .tables) asked .0)
+  pub answers-are : after .answers ≡ allNumbers (run (decode bytes) (before .tables) asked .0) ++ drop (10 * count) (before .answers)
 
 -- Why a list ends after some calls: it has no more; "fewer than 7 numbers left"; "fewer than 10 numbers left" for the answer; an
 -- unknown tag. Each is tried after those before it, so that only one applies.

@@ -1,7 +1,9 @@
 // Works a list of encoded calls. Paper 01, section Lists of calls.
+use call_best::best_moves;
 use call_improve::improve;
 use call_move::make_move;
 use call_move::trial;
+use contracts::Counted;
 use contracts::Improved;
 use contracts::Moved;
 use logic::Move;
@@ -14,9 +16,11 @@ ghost use Prim.Native.Nat.{_*_, _≤_};
 ghost use lib.ListN.{length, drop};
 ghost use Rattle.contracts.specs.State.{tables};
 ghost use Rattle.contracts.specs.MoveCall.{moveValues};
-ghost use Rattle.call_list.specs.Encoding.{moveOf, tenNumbers, movedNumbers, improvedNumbers};
+ghost use Rattle.contracts.specs.ImproveCall.{improveValues};
+ghost use Rattle.contracts.specs.BestCall.{countValues};
+ghost use Rattle.call_list.specs.Encoding.{moveOf, tenNumbers, movedNumbers, improvedNumbers, countedNumbers};
 ghost use Rattle.call_list.specs.inner.Steps.{OneAfter, NextFits};
-ghost use Rattle.call_list.specs.Working.{Worked, Stopped};
+ghost use Rattle.call_list.specs.Working.{lends, Worked, Stopped};
 
 // How many numbers say a call, and how many an answer.
 const CALL: usize = 7;
@@ -58,7 +62,7 @@ fn tell_moved(r: Moved, answer: &mut [u32])
 // The answer to improve: the chosen move is told.
 fn tell_improved(r: Improved, answer: &mut [u32])
     requires { ⌜ 10 ≤ length (now answer) ⌝ }
-    ensures { λ _. ⌜ now (answer .exit) ≡ improvedNumbers r ++ drop 10 (now (answer .entry)) ⌝ }
+    ensures { λ _. ⌜ now (answer .exit) ≡ improvedNumbers (improveValues r) ++ drop 10 (now (answer .entry)) ⌝ }
 {
     match r {
         Improved::Made {
@@ -69,6 +73,17 @@ fn tell_improved(r: Improved, answer: &mut [u32])
         } => tell(0, 1, chosen, before, after, changed, answer),
         Improved::NoBetter { root } => tell(0, 0, no_move(), root, root, 0, answer),
         Improved::Refused(number) => tell(number as u32, 0, no_move(), 0, 0, 0, answer),
+    }
+}
+
+// The answer to a listing: how many were found is told.
+fn tell_counted(r: Counted, answer: &mut [u32])
+    requires { ⌜ 10 ≤ length (now answer) ⌝ }
+    ensures { λ _. ⌜ now (answer .exit) ≡ countedNumbers (countValues r) ++ drop 10 (now (answer .entry)) ⌝ }
+{
+    match r {
+        Counted::Accepted(count) => tell(0, count, no_move(), 0, 0, 0, answer),
+        Counted::Refused(number) => tell(number as u32, 0, no_move(), 0, 0, 0, answer),
     }
 }
 
@@ -86,17 +101,18 @@ fn move_of(call: &[u32]) -> Move
     }
 }
 
-// One call by its tag: 1 a move, 2 a trial, 3 improve. Any other tag is unknown, and nothing is written for it.
+// One call by its tag: 1 a move, 2 a trial, 3 improve, 4 the best moves. Any other tag is unknown, and nothing is written for it.
 fn work_one(
     table: &[u8],
     masks: &mut [u64],
     cells: &mut [u32],
     scratch: &mut [u32],
+    list: &mut [[u32; 5]],
     call: &[u32],
     answer: &mut [u32],
 ) -> bool
     requires { ⌜ (7 ≤ length (now call)) × (10 ≤ length (now answer)) ⌝ }
-    ensures { λ r. ⌜ OneAfter r (now (table .entry)) (now (call .entry)) (tables (now (masks .entry)) (now (cells .entry))) (now (scratch .entry)) (now (answer .entry)) (tables (now (masks .exit)) (now (cells .exit))) (now (scratch .exit)) (now (answer .exit)) ⌝ }
+    ensures { λ r. ⌜ OneAfter r (now (table .entry)) (now (call .entry)) (lends (tables (now (masks .entry)) (now (cells .entry))) (now (scratch .entry)) (now (list .entry)) (now (answer .entry))) (lends (tables (now (masks .exit)) (now (cells .exit))) (now (scratch .exit)) (now (list .exit)) (now (answer .exit))) ⌝ }
 {
     let tag = call[0];
     let m = move_of(call);
@@ -115,6 +131,21 @@ fn work_one(
     if tag == 3 {
         tell_improved(
             improve(table, masks, cells, &mut scratch[0..lent], m.kind),
+            answer,
+        );
+        return true;
+    }
+    if tag == 4 {
+        let room = lesser(wide(m.s), list.len());
+        tell_counted(
+            best_moves(
+                table,
+                &masks[..],
+                &cells[..],
+                &mut scratch[0..lent],
+                m.kind,
+                &mut list[0..room],
+            ),
             answer,
         );
         return true;
@@ -142,10 +173,11 @@ pub fn work(
     masks: &mut [u64],
     cells: &mut [u32],
     scratch: &mut [u32],
+    list: &mut [[u32; 5]],
     calls: &[u32],
     answers: &mut [u32],
 ) -> usize
-    ensures run { λ r. ⌜ Worked (now (table .entry)) (now (calls .entry)) (tables (now (masks .entry)) (now (cells .entry))) (now (scratch .entry)) (now (answers .entry)) r (tables (now (masks .exit)) (now (cells .exit))) (now (scratch .exit)) (now (answers .exit)) ⌝ }
+    ensures run { λ r. ⌜ Worked (now (table .entry)) (now (calls .entry)) (lends (tables (now (masks .entry)) (now (cells .entry))) (now (scratch .entry)) (now (list .entry)) (now (answers .entry))) r (lends (tables (now (masks .exit)) (now (cells .exit))) (now (scratch .exit)) (now (list .exit)) (now (answers .exit))) ⌝ }
     ensures stopped { λ r. ⌜ Stopped (now (calls .entry)) (length (now (answers .entry))) r ⌝ }
 {
     let mut worked = 0;
@@ -157,6 +189,7 @@ pub fn work(
             masks,
             cells,
             scratch,
+            list,
             &calls[at..],
             &mut answers[to..],
         ) {

@@ -1,2 +1,3 @@
 -- Laws.
+pub mod OfKinds
 pub mod Opening

@@ -1,5 +1,8 @@
 -- Laws of the calls' definitions.
+pub mod KnownMoves
+pub mod Best
 pub mod Calls
+pub mod Candidates
 pub mod Grounds
 pub mod Reading
 pub mod Told

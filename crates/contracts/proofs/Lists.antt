@@ -1,6 +1,6 @@
 -- Every run from an accepted load is right, by induction over its calls. Assumes nothing.
 use mathlib.Core.Path.{_≡_, refl, sym, ap, _∙_, subst}
-use mathlib.Core.List.{List, [], _++_}
+use mathlib.Core.List.{List, [], _∷_, _++_}
 use Prim.Native.Nat.{ℕ}
 use native.Mathlib.Omega.{arith}
 use lib.ListN.{take, drop, take-append-drop}
@@ -16,7 +16,7 @@ use Rattle.contracts.specs.Load.{loadGrounds, loads}
 use Rattle.contracts.proofs.Calls.{lent-enough}
 use Rattle.contracts.proofs.LoadAnswers.{load-number, load-cells}
 use Rattle.contracts.specs.Book.{Book, firstBook, bookStep}
-use Rattle.contracts.specs.Lists.{Exchange, Run, ended, called, feed, bookAfter, bookCells, AllRight}
+use Rattle.contracts.specs.Lists.{Asked, step, run, feed, bookAfter, bookCells, AllRight}
 use Rattle.contracts.proofs.Steps.{StateHolds, own-holds, step-right}
 
 -- An accepted load implies that no ground applies,
@@ -61,11 +61,12 @@ module _ (P : Plan) (before : State) (h : loads (sound P) before .0 .number ≡ 
 
 -- A list of calls from any tables that hold what they must.
 pub run-right : (bytes : List ℕ) (P : Plan) → decode bytes ≡ sound P → (b : Book) (tail-masks tail-cells : List ℕ)
-    → (s : State) (xs : List Exchange) (s″ : State) → StateHolds P b tail-masks tail-cells s → Run bytes s xs s″
-    → AllRight P b xs × StateHolds P (bookAfter P b xs) tail-masks tail-cells s″
-unfolding AllRight bookAfter
-run-right bytes P d b tm tc s xs s″ h ended = (tt, h)
-run-right bytes P d b tm tc s xs s″ h (called {s′ = s′} {x = x} {xs = rest} y r) =
-    let q = step-right bytes P d b tm tc s s′ h x y in
-    let w = run-right bytes P d (bookStep P b (feed x)) tm tc s′ rest s″ (q .1) r in
+    → (s : State) (cs : List Asked) → StateHolds P b tail-masks tail-cells s
+    → (let r = run (sound P) s cs in AllRight P b (r .0) × StateHolds P (bookAfter P b (r .0)) tail-masks tail-cells (r .1))
+unfolding AllRight bookAfter run
+run-right bytes P d b tm tc s [] h = (tt, h)
+run-right bytes P d b tm tc s (c ∷ cs) h =
+    let r = step (sound P) s c in
+    let q = step-right bytes P d b tm tc s h c in
+    let w = run-right bytes P d (bookStep P b (feed (r .0))) tm tc (r .1) cs (q .1) in
     ((q .0, w .0), w .1)

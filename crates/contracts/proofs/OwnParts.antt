@@ -1,31 +1,30 @@
 -- "Bytes, masks and cells past a plan's own are never written or read": load, moves, trials and improve over two inputs. Assumes nothing.
-use mathlib.Core.Path.{_≡_, refl, sym, ap, _∙_, subst}
-use mathlib.Core.Bool.{Bool, false, not, _||_}
+use mathlib.Core.Path.{_≡_, refl, sym, ap, _∙_}
+use mathlib.Core.Bool.{Bool, true, false, cond, not, _||_}
 use mathlib.Core.List.{List, [], _∷_}
-use Prim.Native.Nat.{ℕ, zero, suc, _≤_}
+use Prim.Native.Nat.{ℕ, _≤_}
 use lib.Dec.{ltb}
 use lib.ListN.{length, take}
 use lib.Seq.{length-take-le}
 use Rattle.logic.specs.declared.Move.{Move}
 use Rattle.logic.specs.Formula.{Plan}
-use Rattle.logic.specs.Configuration.{ownMasks, spelled}
+use Rattle.logic.specs.Configuration.{Sets, ownMasks, spelled}
 use Rattle.logic.specs.Cells.{ownCells, cells}
-use Rattle.logic.specs.Moves.{refusal, moveGrounds, kindsKnown}
+use Rattle.logic.specs.Moves.{Ground, refusal, moveGrounds, kindsKnown}
 use Rattle.logic.specs.Change.{someOf, newCells}
 use Rattle.logic.proofs.Tables.{length-layout}
 use Rattle.logic.proofs.Theorems.{length-cells}
-use Rattle.table_format.specs.Decode.{Decoded, broken, sound}
-use Rattle.contracts.specs.State.{State, ownTables, withRest}
+use Rattle.table_format.specs.Decode.{sound}
+use Rattle.contracts.specs.State.{State, ownTables}
 use Rattle.contracts.specs.Call.{planGrounds, callGrounds}
-use Rattle.contracts.specs.declared.Improved.{Improved}
 use Rattle.contracts.specs.Load.{loadRefused, loadGrounds, loadedMasks, loadedTables, loadsOwn, loads}
 use Rattle.contracts.specs.MoveCall.{moveRefused, moveCallGrounds, cellsAfter, tablesAfter, movesOwn, moves}
 use Rattle.contracts.specs.TrialCall.{trialsOwn, trials}
-use Rattle.contracts.specs.ImproveCall.{improveGrounds, Chosen, ImprovesOr, Improves}
-use Rattle.contracts.proofs.Calls.{lent-enough, AsLong, own-long, SamePast, same-past, rest-past, rest-own, same-own, same-grounds, call-past, call-same}
+use Rattle.contracts.specs.ImproveCall.{ImproveValues, improveRefused, improveMade, noBetter, improveGrounds, rootNow, rootAfter, bestMoves, improvesBy, improvesOwn, improves}
+use Rattle.contracts.specs.BestCall.{listRefused, bestGrounds, listsOwn, lists}
+use Rattle.contracts.proofs.Calls.{lent-enough, AsLong, own-long, SamePast, same-own, same-grounds, call-past, call-same}
 use Rattle.contracts.proofs.Within.{move-length}
-use Rattle.contracts.specs.OwnParts.{SameTables, Allows, SameLent}
-use Rattle.contracts.specs.declared.Improved.the-variants as improved
+use Rattle.contracts.specs.OwnParts.{SameTables}
 
 length-after : (P : Plan) (m : Move) (own cells : List ℕ) → ownCells P ≤ length cells
     → length (cellsAfter P m own (take (ownCells P) cells)) ≡ length (take (ownCells P) cells)
@@ -56,12 +55,23 @@ trial-fits : (m : Move) (P : Plan) (s : State) (lengths : List ℕ) → refusal 
 unfolding trialsOwn
 trial-fits m P s lengths e = own-long P s
 
-improve-fits : (P : Plan) (kinds : ℕ) (s : State) → ownCells P ≤ length (s .cells) → (r : Improved) (own′ : State)
-    → Chosen P kinds (ownTables P s) r own′ → AsLong P own′ s
-unfolding Chosen
-improve-fits P kinds s h (improved.Made m b a n) own′ x = rw (x .tables-are) (made-long P m s h)
-improve-fits P kinds s h (improved.NoBetter root) own′ x = rw (x .tables-kept) (own-long P s)
-improve-fits P kinds s h (improved.Refused number) own′ x = absurd x
+either-long : (P : Plan) (s : State) (b : Bool) (v w : ImproveValues × State) → AsLong P (v .1) s → AsLong P (w .1) s → AsLong P (cond b v w .1) s
+either-long P s true v w x y = x
+either-long P s false v w x y = y
+
+improve-long : (P : Plan) (s : State) → ownCells P ≤ length (s .cells) → (ms : List Move) → AsLong P (improvesBy ms P (ownTables P s) .1) s
+unfolding improvesBy movesOwn
+improve-long P s h [] = own-long P s
+improve-long P s h (m ∷ ms) =
+    let own = ownTables P s in
+    either-long P s (ltb (rootAfter P m (own .masks) (own .cells)) (rootNow (own .cells)))
+    (improveMade m (movesOwn m P own .0), movesOwn m P own .1) (noBetter (rootNow (own .cells)), own) (made-long P m s h) (own-long P s)
+
+improve-fits : (kinds : ℕ) (P : Plan) (s : State) (scratch : ℕ) → refusal (improveGrounds (sound P) s (scratch ∷ []) kinds) ≡ 0
+    → AsLong P (improvesOwn kinds P (ownTables P s) .1) s
+unfolding improveGrounds improvesOwn
+improve-fits kinds P s scratch e =
+    improve-long P s (lent-enough P s (scratch ∷ []) (λ Q k. (14, not (kindsKnown kinds)) ∷ []) e .cells-enough) (bestMoves P kinds (ownTables P s))
 
 module _ (P : Plan) (s : State) where
   -- "An accepted move writes its masks and touched cells": what is past the plan's own masks and cells stays, accepted or not.
@@ -74,24 +84,11 @@ module _ (P : Plan) (s : State) where
   unfolding loads
   load-past = call-past loadRefused loadsOwn P (loadGrounds (sound P) s) s (load-fits P s)
 
-  improve-enough : (kinds scratch-length : ℕ) → refusal (improveGrounds (sound P) s (scratch-length ∷ []) kinds) ≡ 0 → ownCells P ≤ length (s .cells)
-  unfolding improveGrounds
-  improve-enough kinds scratch-length e = lent-enough P s (scratch-length ∷ []) (λ Q k. (14, not (kindsKnown kinds)) ∷ []) e .cells-enough
-
-  -- The same, whatever improve answers.
-  pub improve-past : (kinds scratch-length : ℕ) (r : Improved) (s′ : State) → Improves (sound P) kinds s scratch-length r s′ → SamePast P s s′
-  unfolding Improves ImprovesOr
-  improve-past kinds scratch-length r s′ = go (refusal (improveGrounds (sound P) s (scratch-length ∷ []) kinds)) (improve-enough kinds scratch-length)
-    where
-      go : (g : ℕ) → (g ≡ 0 → ownCells P ≤ length (s .cells)) → ImprovesOr g (sound P) kinds s r s′ → SamePast P s s′
-      go zero f x = rw (x .tables-are) (rest-past P (x .own) s (improve-fits P kinds s (f refl) r (x .own) (x .chosen)))
-      go (suc g) f x = rw (x .1) (same-past P s)
-
-pub same-back : (P : Plan) (s s′ : State) → SameTables P s s′ → SameTables P s′ s
-same-back P s s′ t = record {
-  same-masks = record { entries = sym (t .same-masks .entries); enough = sym (t .same-masks .enough) };
-  same-cells = record { entries = sym (t .same-cells .entries); enough = sym (t .same-cells .enough) };
-}
+  -- The same of improve.
+  pub improve-past : (kinds scratch : ℕ) → SamePast P s (improves (sound P) kinds s scratch .1)
+  unfolding improves
+  improve-past kinds scratch =
+      call-past improveRefused (improvesOwn kinds) P (improveGrounds (sound P) s (scratch ∷ []) kinds) s (improve-fits kinds P s scratch)
 
 module _ (P : Plan) (s s′ : State) (t : SameTables P s s′) where
   -- the same answer, and the same own tables afterwards
@@ -115,58 +112,21 @@ module _ (P : Plan) (s s′ : State) (t : SameTables P s s′) where
       (same-grounds P s s′ (length scratch ∷ []) (length scratch′ ∷ []) (λ Q k. moveGrounds Q k m) t (ap (λ (b : Bool). b || false) e))
       (trial-fits m P s (length scratch ∷ [])) (trial-fits m P s′ (length scratch′ ∷ [])) .0
 
--- the plan of a decoded table
-planOr : Plan → Decoded → Plan
-planOr P broken = P
-planOr P (sound Q) = Q
+  pub improve-sound : (kinds : ℕ) (scratch scratch′ : List ℕ) → ltb (length scratch) (ownCells P) ≡ ltb (length scratch′) (ownCells P)
+      → (improves (sound P) kinds s (length scratch) .0 ≡ improves (sound P) kinds s′ (length scratch′) .0)
+      × (ownTables P (improves (sound P) kinds s (length scratch) .1) ≡ ownTables P (improves (sound P) kinds s′ (length scratch′) .1))
+  unfolding improves improveGrounds someOf
+  improve-sound kinds scratch scratch′ e =
+      call-same improveRefused (improvesOwn kinds) P (improveGrounds (sound P) s (length scratch ∷ []) kinds) (improveGrounds (sound P) s′ (length scratch′ ∷ []) kinds) s s′ t
+      (same-grounds P s s′ (length scratch ∷ []) (length scratch′ ∷ []) (λ Q k. (14, not (kindsKnown kinds)) ∷ []) t (ap (λ (b : Bool). b || false) e))
+      (improve-fits kinds P s (length scratch)) (improve-fits kinds P s′ (length scratch′))
 
-one-sound : (P Q : Plan) → sound P ≡ sound Q → P ≡ Q
-unfolding planOr
-one-sound P Q e = ap (planOr P) e
-
-module _ (P : Plan) (s s′ : State) (t : SameTables P s s′) (kinds : ℕ) (scratch′ : List ℕ) (r : Improved) (s₁ : State) where
-  -- by the first ground that applies to both
-  improve-allows : (g : ℕ) → refusal (improveGrounds (sound P) s′ (length scratch′ ∷ []) kinds) ≡ g → (g ≡ 0 → ownCells P ≤ length (s .cells))
-      → ImprovesOr g (sound P) kinds s r s₁ → Allows (sound P) kinds s′ scratch′ r s₁
-  unfolding Improves ImprovesOr
-  improve-allows zero q f x =
-      let own = x .own in
-      let y : Chosen P kinds (ownTables P s′) r own = subst (λ (z : State). Chosen P kinds z r own) (same-own P s s′ t) (x .chosen) in
-      record {
-        left = withRest P own s′;
-        allowed = subst (λ (g : ℕ). ImprovesOr g (sound P) kinds s′ r (withRest P own s′)) (sym q) record { own = own; chosen = y; tables-are = refl };
-        own = λ Q e. subst (λ (R : Plan). ownTables R (withRest P own s′) ≡ ownTables R s₁) (one-sound P Q e)
-            (rest-own P own s′ (improve-fits P kinds s′ (improve-enough P s′ kinds (length scratch′) q) r own y)
-            ∙ sym (ap (ownTables P) (x .tables-are) ∙ rest-own P own s (improve-fits P kinds s (f refl) r own (x .chosen))));
-      }
-  improve-allows (suc g) q f x = record {
-    left = s′;
-    allowed = subst (λ (i : ℕ). ImprovesOr i (sound P) kinds s′ r s′) (sym q) (x .0, refl);
-    own = λ Q e. subst (λ (R : Plan). ownTables R s′ ≡ ownTables R s₁) (one-sound P Q e) (sym (same-own P s s′ t) ∙ ap (ownTables P) (sym (x .1)));
-  }
-
-improve-sound : (P : Plan) (s s′ : State) → SameTables P s s′ → (kinds : ℕ) (scratch scratch′ : List ℕ)
-    → ltb (length scratch) (ownCells P) ≡ ltb (length scratch′) (ownCells P) → (r : Improved) (s₁ : State)
-    → Improves (sound P) kinds s (length scratch) r s₁ → Allows (sound P) kinds s′ scratch′ r s₁
-unfolding Improves improveGrounds someOf
-improve-sound P s s′ t kinds scratch scratch′ e r s₁ =
-    improve-allows P s s′ t kinds scratch′ r s₁ (refusal (improveGrounds (sound P) s (length scratch ∷ []) kinds))
-    (sym (same-grounds P s s′ (length scratch ∷ []) (length scratch′ ∷ []) (λ Q k. (14, not (kindsKnown kinds)) ∷ []) t (ap (λ (b : Bool). b || false) e)))
-    (improve-enough P s kinds (length scratch))
-
-isSound : Decoded → Type 0
-isSound broken = ⊥
-isSound (sound P) = Unit {0}
-
-broken-not : (P : Plan) → broken ≡ sound P → ⊥
-unfolding isSound
-broken-not P e = subst isSound (sym e) tt
-
-pub improve-any : (d : Decoded) (s s′ : State) (scratch scratch′ : List ℕ) (kinds : ℕ)
-    → ((P : Plan) → d ≡ sound P → SameLent P s s′ scratch scratch′) → (r : Improved) (s₁ : State)
-    → Improves d kinds s (length scratch) r s₁ → Allows d kinds s′ scratch′ r s₁
-unfolding Improves ImprovesOr improveGrounds callGrounds planGrounds refusal
-improve-any broken s s′ scratch scratch′ kinds same r s₁ x =
-    record { left = s′; allowed = (x .0, refl); own = λ P e. absurd (broken-not P e) }
-improve-any (sound P) s s′ scratch scratch′ kinds same r s₁ x =
-    improve-sound P s s′ (same P refl .same) kinds scratch scratch′ (same P refl .enough) r s₁ x
+  pub lists-sound : (kinds : ℕ) (scratch scratch′ : List ℕ) (room : ℕ) → ltb (length scratch) (ownCells P) ≡ ltb (length scratch′) (ownCells P)
+      → lists (sound P) kinds s (length scratch) room ≡ lists (sound P) kinds s′ (length scratch′) room
+  unfolding lists bestGrounds listsOwn someOf callGrounds planGrounds
+  lists-sound kinds scratch scratch′ room e =
+      let more : State → Plan → Sets → List Ground = λ o Q k. (14, not (kindsKnown kinds)) ∷ (16, ltb room (length (bestMoves Q kinds o))) ∷ [] in
+      call-same listRefused (listsOwn kinds) P (bestGrounds (sound P) s (length scratch ∷ []) kinds room) (bestGrounds (sound P) s′ (length scratch′ ∷ []) kinds room) s s′ t
+      (same-grounds P s s′ (length scratch ∷ []) (length scratch′ ∷ []) (λ Q k. more (ownTables Q s) Q k) t (ap (λ (b : Bool). b || false) e)
+      ∙ ap (λ (o : State). refusal (callGrounds (sound P) s′ (length scratch′ ∷ []) (λ Q k. more o Q k))) (same-own P s s′ t))
+      (λ z. own-long P s) (λ z. own-long P s′) .0

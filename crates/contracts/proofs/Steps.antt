@@ -1,14 +1,15 @@
--- One call keeps what is kept: for every call and every answer that the calls' definitions allow, the answer is right under the
--- book's sets, and masks and cells are the book's afterwards. Assumes nothing.
+-- One call keeps what is kept: for every call, the answer that the calls' definitions give is right under the book's sets, and masks and
+-- cells are the book's afterwards. Assumes nothing.
 use mathlib.Core.Path.{_≡_, refl, sym, ap, _∙_, subst}
 use mathlib.Core.Bool.{Bool, true, false, cond, not, _||_}
-use mathlib.Core.List.{List, [], _∷_, _++_}
+use mathlib.Core.Logic.{inl, inr}
+use mathlib.Core.List.{List, [], _∷_, _++_, List·Memᴰ, List·Memᴰ·head, List·Memᴰ·not-nil}
 use Prim.Native.Nat.{ℕ, zero, suc, _≤_}
 use native.Mathlib.Omega.{arith}
 use lib.Dec.{eqb, ltb}
 use lib.ListN.{length, getD, take, drop, length-append}
 use lib.Seq.{take-at, drop-at, length-take-le}
-use borrow.Author.Tests.{ne-eqb, not-false}
+use borrow.Author.Tests.{ne-eqb, not-false, ltb-true, ltb-false}
 use Rattle.logic.specs.declared.Move.{Move}
 use Rattle.logic.specs.Formula.{Plan}
 use Rattle.logic.specs.Configuration.{Sets, configuration, inMasks, ownMasks, spelled, allWithin}
@@ -17,23 +18,26 @@ use Rattle.logic.specs.Moves.{Ground, refusal, moveGrounds, known, legal, moveM
 use Rattle.logic.specs.Change.{someOf, pairsChange, differing}
 use Rattle.logic.proofs.Moves.{move-masks, move-spells}
 use Rattle.logic.proofs.Theorems.{move-true, length-cells}
-use Rattle.table_format.specs.Decode.{Decoded, sound, decode}
+use Rattle.table_format.specs.Decode.{sound, decode}
 use Rattle.table_format.specs.inner.Facts.{PlanFacts}
 use Rattle.table_format.proofs.Encoding.{decode-sound}
 use Rattle.table_format.proofs.Facts.{plan-facts}
 use Rattle.contracts.specs.State.{State, tables, ownTables, withRest}
-use Rattle.contracts.specs.declared.Improved.{Improved}
 use Rattle.contracts.specs.Call.{callGrounds, callOr, call}
-use Rattle.contracts.specs.MoveCall.{MoveValues, moveRefused, moveAccepted, moveCallGrounds, cellsAfter, moveAnswer, tablesAfter, movesOwn, moves}
+use Rattle.contracts.specs.MoveCall.{moveRefused, moveAccepted, moveCallGrounds, cellsAfter, moveAnswer, tablesAfter, movesOwn, moves}
 use Rattle.contracts.specs.TrialCall.{trialsOwn, trials}
-use Rattle.contracts.specs.ImproveCall.{improveGrounds, rootNow, rootAfter, MadeBest, NoneBetter, Chosen, ImprovesOr, Improves}
+use Rattle.contracts.specs.Least.{NoneBelow}
+use Rattle.contracts.specs.MoveOrder.{candidates, Candidate}
+use Rattle.contracts.specs.ImproveCall.{ImproveValues, improveRefused, improveMade, noBetter, improveGrounds, rootNow, rootAfter, bestMoves, improvesBy, improvesOwn, improves}
+use Rattle.contracts.specs.BestCall.{countAccepted, listRefused, bestGrounds, listsOwn, lists}
 use Rattle.contracts.specs.Book.{Book, fedMove, bookMade, movedBook, chosenStep, bookStep}
-use Rattle.contracts.specs.Lists.{Exchange, moveCall, trialCall, improveCall, Step, feed, bookRoot, bookCells, NumbersRight, MovedRight, scratchGround, BestMade, NoneLowers, ImprovedRight, Right, AsBook}
+use Rattle.contracts.specs.Lists.{Asked, askMove, askTrial, askImprove, askBest, step, feed, bookRoot, bookCells, NumbersRight, MovedRight, scratchGround, bookBest, FirstOf, ImprovedRight, ListedRight, Right, AsBook}
+use Rattle.contracts.proofs.Candidates.{candidate-in, in-candidate}
+use Rattle.contracts.proofs.Best.{best-is, best-none, best-same}
 use Rattle.contracts.proofs.Calls.{LentEnough, tables-pass}
 use Rattle.contracts.proofs.Grounds.{passes}
 use Rattle.contracts.proofs.Within.{move-within, move-length}
 use Rattle.logic.proofs.Changed as changed
-use Rattle.contracts.specs.declared.Improved.the-variants as improved
 
 -- the book that own masks spell, and its tables
 abbrev spelt : List ℕ → Book
@@ -129,51 +133,82 @@ module _ (P : Plan) (facts : PlanFacts P) where
       × OwnKept P (movedBook P m j) (tablesAfter P m s))
       o (λ h. (made-numbers m (own .masks) h (omega (arith, o .enough)), made-kept m (own .masks) h (o .enough) (o .within)))
 
-  -- an accepted improve that makes a move
-  best-made : (kinds : ℕ) (own : List ℕ) → length own ≡ ownMasks P → (m : Move) (b a n : ℕ) (own′ : State)
-      → MadeBest P kinds (bookTables P own) m b a n own′ → BestMade P (inMasks own) kinds m b a n
-  best-made kinds own l m b a n own′ x =
-      let old = bookCells P (inMasks own) in
-      let h = x .candidate .is-legal in
-      let r = root-made m own h (omega arith) in
-      let q = made-numbers m own h (omega arith) in
-      record {
-        candidate = x .candidate;
-        lowers = rw (← r) (rw (← (q .before-right)) (x .smaller));
-        least = λ m′ g. rw (← r) (rw (← (root-made m′ own (g .is-legal) (omega arith))) (x .least m′ g));
-        numbers = record {
-          before-right = x .before-is ∙ q .before-right;
-          after-right = x .after-is ∙ q .after-right;
-          changed-right = x .changed-is ∙ q .changed-right;
-          changed-touched = rw (x .changed-is) (q .changed-touched);
-        };
-      }
+  -- The best moves over tables that hold the book's penalties are those of the book.
+  best-book : (kinds : ℕ) (own : List ℕ) → length own ≡ ownMasks P → bestMoves P kinds (bookTables P own) ≡ bookBest P (inMasks own) kinds
+  unfolding bestMoves bookBest
+  best-book kinds own l =
+      best-same _ _ (candidates P kinds (inMasks own))
+      (λ m d. root-made m own (in-candidate P kinds (inMasks own) m d .is-legal) (omega arith))
 
-  none-lowers : (kinds : ℕ) (own : List ℕ) → length own ≡ ownMasks P → (root : ℕ) (own′ : State)
-      → NoneBetter P kinds (bookTables P own) root own′ → NoneLowers P (inMasks own) kinds root
-  unfolding rootNow bookRoot rootPenalty bookCells
-  none-lowers kinds own l root own′ x = record {
-    none = λ m g. rw (← (root-made m own (g .is-legal) (omega arith))) (x .none-smaller m g);
-    root-right = x .root-is;
-  }
+  -- an accepted improve, by the best moves of the book
+  module _ (kinds : ℕ) (own : List ℕ) (l : length own ≡ ownMasks P) (w : allWithin (P .ports) own ≡ true) where
+    abbrev k : Sets
+    k = inMasks own
 
-  improve-at : (kinds : ℕ) (own : List ℕ) → length own ≡ ownMasks P → allWithin (P .ports) own ≡ true
-      → (r : Improved) (own′ : State) → Chosen P kinds (bookTables P own) r own′
-      → ImprovedRight 0 P (inMasks own) kinds r × OwnKept P (chosenStep P (spelt own) r) own′
-  unfolding Chosen ImprovedRight chosenStep
-  improve-at kinds own l w (improved.Made m b a n) own′ x =
-      (best-made kinds own l m b a n own′ x, rw (x .tables-are) (made-kept m own (x .candidate .is-legal) l w))
-  improve-at kinds own l w (improved.NoBetter root) own′ x =
-      (none-lowers kinds own l root own′ x, rw (x .tables-kept) (record { spells = refl; enough = l; within = w; penalties = refl }))
-  improve-at kinds own l w (improved.Refused number) own′ x = absurd x
+    abbrev old : State
+    old = bookTables P own
 
-  -- An accepted improve, over the plan's own parts, for every answer that is allowed.
-  pub improve-own : (kinds : ℕ) (b : Book) (own : State) → OwnKept P b own → (r : Improved) (own′ : State)
-      → Chosen P kinds own r own′ → ImprovedRight 0 P (b .sets) kinds r × OwnKept P (chosenStep P b r) own′
-  improve-own kinds b own o r own′ =
+    abbrev ImproveHolds : ImproveValues × State → Type 0
+    ImproveHolds r = ImprovedRight 0 P k kinds (r .0) × OwnKept P (chosenStep P (spelt own) (r .0)) (r .1)
+
+    stays : NoneBelow (Candidate P kinds k) (λ x. bookRoot P (bookMade P x k)) (bookRoot P k) → ImproveHolds (noBetter (rootNow (old .cells)), old)
+    unfolding ImprovedRight chosenStep noBetter rootNow bookRoot rootPenalty bookCells
+    stays h = (inr (record { none = h; values-right = refl }), record { spells = refl; enough = l; within = w; penalties = refl })
+
+    module _ (m : Move) (ms : List Move) (e : bookBest P k kinds ≡ m ∷ ms) where
+      first : List·Memᴰ m (candidates P kinds k) × ((n : Move) → List·Memᴰ n (candidates P kinds k) → bookRoot P (bookMade P m k) ≤ bookRoot P (bookMade P n k))
+      unfolding bookBest
+      first = best-is (λ x. bookRoot P (bookMade P x k)) (candidates P kinds k) m (subst (List·Memᴰ m) (sym e) (List·Memᴰ·head refl))
+
+      one : Candidate P kinds k m
+      one = in-candidate P kinds k m (first .0)
+
+      least : NoneBelow (Candidate P kinds k) (λ x. bookRoot P (bookMade P x k)) (bookRoot P (bookMade P m k))
+      least n c = first .1 n (candidate-in P kinds k n c)
+
+      by-first : (b : Bool) → ltb (rootAfter P m own (old .cells)) (rootNow (old .cells)) ≡ b
+          → ImproveHolds (cond b (improveMade m (movesOwn m P old .0), movesOwn m P old .1) (noBetter (rootNow (old .cells)), old))
+      unfolding ImprovedRight chosenStep improveMade movesOwn moveAnswer moveAccepted rootNow rootAfter FirstOf
+      by-first true q =
+          let n = made-numbers m own (one .is-legal) (omega arith) in (
+            inl record {
+              accepted = refl;
+              found = refl;
+              candidate = one;
+              lowers = let h = ltb-true (rootAfter P m own (old .cells)) (rootNow (old .cells)) q in omega (arith, h, n .after-right, n .before-right);
+              least = least;
+              first = subst (λ (ks : List Move). FirstOf ks m) (sym e) refl;
+              numbers = n;
+            },
+            made-kept m own (one .is-legal) l w,
+          )
+      by-first false q = stays (λ n c.
+          let h = ltb-false (rootAfter P m own (old .cells)) (rootNow (old .cells)) q in
+          let r = made-numbers m own (one .is-legal) (omega arith) in
+          omega (arith, h, least n c, r .after-right, r .before-right))
+
+    by-best : (ms : List Move) → bookBest P k kinds ≡ ms → ImproveHolds (improvesBy ms P old)
+    unfolding improvesBy bookBest
+    by-best [] e =
+        stays (λ n c. absurd (List·Memᴰ·not-nil
+        (subst (List·Memᴰ n) (best-none (λ x. bookRoot P (bookMade P x k)) (candidates P kinds k) e) (candidate-in P kinds k n c))))
+    by-best (m ∷ ms) e = by-first m ms e (ltb (rootAfter P m own (old .cells)) (rootNow (old .cells))) refl
+
+    improve-at : ImproveHolds (improvesOwn kinds P old)
+    unfolding improvesOwn
+    improve-at = subst (λ (ms : List Move). ImproveHolds (improvesBy ms P old)) (sym (best-book kinds own l)) (by-best (bookBest P k kinds) refl)
+
+  -- An accepted improve, over the plan's own parts.
+  pub improve-own : (kinds : ℕ) (b : Book) (own : State) → OwnKept P b own
+      → ImprovedRight 0 P (b .sets) kinds (improvesOwn kinds P own .0) × OwnKept P (chosenStep P b (improvesOwn kinds P own .0)) (improvesOwn kinds P own .1)
+  improve-own kinds b own o =
       of-book b own
-      (λ j s. Chosen P kinds s r own′ → ImprovedRight 0 P (j .sets) kinds r × OwnKept P (chosenStep P j r) own′)
-      o (improve-at kinds (own .masks) (o .enough) (o .within) r own′)
+      (λ j s. ImprovedRight 0 P (j .sets) kinds (improvesOwn kinds P s .0) × OwnKept P (chosenStep P j (improvesOwn kinds P s .0)) (improvesOwn kinds P s .1))
+      o (improve-at kinds (own .masks) (o .enough) (o .within))
+
+  -- The best moves, over the plan's own parts.
+  pub best-own : (kinds : ℕ) (b : Book) (own : State) → OwnKept P b own → bestMoves P kinds own ≡ bookBest P (b .sets) kinds
+  best-own kinds b own o = of-book b own (λ j s. bestMoves P kinds s ≡ bookBest P (j .sets) kinds) o (best-book kinds (own .masks) (o .enough))
 
 -- What stands before and after each call of a list: masks and cells are the book's, and no mask has a port of u or more.
 pub record StateHolds (P : Plan) (b : Book) (tail-masks tail-cells : List ℕ) (s : State) : Type 0 where
@@ -232,10 +267,13 @@ module _ (P : Plan) (b : Book) (tail-masks tail-cells : List ℕ) (s : State) wh
       front : take (ownMasks P) (s .masks) ≡ own .masks
       front = ap (take (ownMasks P)) m ∙ take-at (own .masks) tail-masks (ownMasks P) (o .enough)
 
-module _ (P : Plan) (facts : PlanFacts P) (b : Book) (tail-masks tail-cells : List ℕ) (s s′ : State) (h : StateHolds P b tail-masks tail-cells s) where
+module _ (P : Plan) (facts : PlanFacts P) (b : Book) (tail-masks tail-cells : List ℕ) (s : State) (h : StateHolds P b tail-masks tail-cells s) where
   -- the plan's own parts, and what follows of them for the tables afterwards
   abbrev own : State
   own = ownTables P s
+
+  abbrev Holds : Book → State → Type 0
+  Holds j t = StateHolds P j tail-masks tail-cells t
 
   kept : OwnKept P b own
   kept = holds-own P b tail-masks tail-cells s h
@@ -243,76 +281,91 @@ module _ (P : Plan) (facts : PlanFacts P) (b : Book) (tail-masks tail-cells : Li
   lent : LentEnough P s
   lent = record { masks-enough = h .kept .enough-masks; cells-enough = h .enough-cells; within = h .within }
 
-  after : (b′ : Book) (own′ : State) → OwnKept P b′ own′ → s′ ≡ withRest P own′ s → StateHolds P b′ tail-masks tail-cells s′
-  after b′ own′ o e = own-holds P b′ tail-masks tail-cells s′ own′ o (e ∙ rest-is P b tail-masks tail-cells s h own′)
+  after : (b′ : Book) (own′ : State) → OwnKept P b′ own′ → Holds b′ (withRest P own′ s)
+  after b′ own′ o = own-holds P b′ tail-masks tail-cells (withRest P own′ s) own′ o (rest-is P b tail-masks tail-cells s h own′)
 
   -- a move by the first ground that applies to it
-  move-at : (m : Move) (r : MoveValues) (g : ℕ) → refusal (moveGrounds P (b .sets) m) ≡ g → (r, s′) ≡ callOr moveRefused g (sound P) (movesOwn m) s
-      → MovedRight g P (b .sets) m r × StateHolds P (cond (eqb g 0) (movedBook P m b) b) tail-masks tail-cells s′
+  move-at : (m : Move) (g : ℕ) → refusal (moveGrounds P (b .sets) m) ≡ g
+      → (let r = callOr moveRefused g (sound P) (movesOwn m) s in MovedRight g P (b .sets) m (r .0) × Holds (cond (eqb g 0) (movedBook P m b) b) (r .1))
   unfolding callOr movesOwn moveAnswer moveAccepted MovedRight rootNow rootAfter
-  move-at m r zero q e =
+  move-at m zero q =
       let o = move-own P facts m b own kept (grounds-legal P (b .sets) m q) in
-      (rw (ap (λ (t : MoveValues × State). t .0) e) (refl, o .0), after (movedBook P m b) (tablesAfter P m own) (o .1) (ap (λ (t : MoveValues × State). t .1) e))
-  move-at m r (suc g) q e = (
-    ap (λ (t : MoveValues × State). t .0) e,
-    rw (ne-eqb (suc g) 0 (λ z. omega arith)) (subst (StateHolds P b tail-masks tail-cells) (sym (ap (λ (t : MoveValues × State). t .1) e)) h),
-  )
+      ((refl, o .0), after (movedBook P m b) (tablesAfter P m own) (o .1))
+  move-at m (suc g) q = (refl, rw (ne-eqb (suc g) 0 (λ z. omega arith)) h)
 
-  move-step : (m : Move) (r : MoveValues) → (r, s′) ≡ moves (sound P) m s
-      → MovedRight (refusal (moveGrounds P (b .sets) m)) P (b .sets) m r × StateHolds P (bookStep P b (fedMove m)) tail-masks tail-cells s′
+  move-step : (m : Move) → (let r = moves (sound P) m s in
+      MovedRight (refusal (moveGrounds P (b .sets) m)) P (b .sets) m (r .0) × Holds (bookStep P b (fedMove m)) (r .1))
   unfolding moves moveCallGrounds call bookStep someOf refusal
-  move-step m r e =
-      let g : refusal (callGrounds (sound P) s [] (λ Q k. moveGrounds Q k m)) ≡ refusal (moveGrounds P (b .sets) m) =
+  move-step m =
+      let gs = moveGrounds P (b .sets) m in
+      let g : refusal (callGrounds (sound P) s [] (λ Q k. moveGrounds Q k m)) ≡ refusal gs =
       tables-pass P s [] (λ Q k. moveGrounds Q k m) lent
       ∙ ap (λ (j : Sets). refusal (moveGrounds P j m)) (h .kept .masks-are) in
-      move-at m r (refusal (moveGrounds P (b .sets) m)) refl (e ∙ ap (λ (i : ℕ). callOr moveRefused i (sound P) (movesOwn m) s) g)
+      subst (λ (i : ℕ). (let r = callOr moveRefused i (sound P) (movesOwn m) s in
+      MovedRight (refusal gs) P (b .sets) m (r .0) × Holds (cond (eqb (refusal gs) 0) (movedBook P m b) b) (r .1))) (sym g)
+      (move-at m (refusal gs) refl)
 
-  trial-at : (m : Move) (r : MoveValues) (g : ℕ) → (g ≡ 0 → legal P (b .sets) m ≡ true) → r ≡ callOr moveRefused g (sound P) (trialsOwn m) s .0
-      → MovedRight g P (b .sets) m r
+  trial-at : (m : Move) (g : ℕ) → (g ≡ 0 → legal P (b .sets) m ≡ true) → MovedRight g P (b .sets) m (callOr moveRefused g (sound P) (trialsOwn m) s .0)
   unfolding callOr trialsOwn moveAnswer moveAccepted MovedRight rootNow rootAfter
-  trial-at m r zero H e = rw e (refl, move-own P facts m b own kept (H refl) .0)
-  trial-at m r (suc g) H e = e
+  trial-at m zero H = (refl, move-own P facts m b own kept (H refl) .0)
+  trial-at m (suc g) H = refl
 
-  trial-step : (m : Move) (scratch : List ℕ) (r : MoveValues) → r ≡ trials (sound P) m s (length scratch)
-      → MovedRight (refusal (scratchGround P scratch ∷ moveGrounds P (b .sets) m)) P (b .sets) m r
+  trial-step : (m : Move) (scratch : List ℕ)
+      → MovedRight (refusal (scratchGround P scratch ∷ moveGrounds P (b .sets) m)) P (b .sets) m (trials (sound P) m s (length scratch))
   unfolding trials moveCallGrounds call scratchGround
-  trial-step m scratch r e =
+  trial-step m scratch =
+      let gs = scratchGround P scratch ∷ moveGrounds P (b .sets) m in
       let g = scratch-passes P s scratch (λ Q k. moveGrounds Q k m) lent
       ∙ ap (λ (j : Sets). refusal (scratchGround P scratch ∷ moveGrounds P j m)) (h .kept .masks-are) in
-      trial-at m r (refusal (scratchGround P scratch ∷ moveGrounds P (b .sets) m))
-      (λ z. grounds-legal P (b .sets) m (later-ground 11 (ltb (length scratch) (ownCells P)) (moveGrounds P (b .sets) m) z))
-      (e ∙ ap (λ (i : ℕ). callOr moveRefused i (sound P) (trialsOwn m) s .0) g)
+      subst (λ (i : ℕ). MovedRight (refusal gs) P (b .sets) m (callOr moveRefused i (sound P) (trialsOwn m) s .0)) (sym g)
+      (trial-at m (refusal gs)
+      (λ z. grounds-legal P (b .sets) m (later-ground 11 (ltb (length scratch) (ownCells P)) (moveGrounds P (b .sets) m) z)))
 
-  improve-case : (kinds : ℕ) (r : Improved) (g : ℕ) → ImprovesOr g (sound P) kinds s r s′
-      → ImprovedRight g P (b .sets) kinds r × StateHolds P (chosenStep P b r) tail-masks tail-cells s′
-  unfolding ImprovesOr ImprovedRight chosenStep
-  improve-case kinds r zero x =
-      let q = improve-own P facts kinds b own kept r (x .own) (x .chosen) in
-      (q .0, after (chosenStep P b r) (x .own) (q .1) (x .tables-are))
-  improve-case kinds r (suc g) x = (x .0, rw (x .0, x .1) h)
+  improve-case : (kinds : ℕ) (g : ℕ) → (let r = callOr improveRefused g (sound P) (improvesOwn kinds) s in
+      ImprovedRight g P (b .sets) kinds (r .0) × Holds (chosenStep P b (r .0)) (r .1))
+  unfolding callOr
+  improve-case kinds zero =
+      let q = improve-own P facts kinds b own kept in
+      (q .0, after (chosenStep P b (improvesOwn kinds P own .0)) (improvesOwn kinds P own .1) (q .1))
+  improve-case kinds (suc g) = unfold ImprovedRight chosenStep improveRefused in (refl, h)
 
-  improve-step : (kinds : ℕ) (scratch : List ℕ) (r : Improved) → Improves (sound P) kinds s (length scratch) r s′
-      → ImprovedRight (refusal (scratchGround P scratch ∷ (14, not (kindsKnown kinds)) ∷ [])) P (b .sets) kinds r
-      × StateHolds P (chosenStep P b r) tail-masks tail-cells s′
-  unfolding Improves improveGrounds
-  improve-step kinds scratch r x =
+  improve-step : (kinds : ℕ) (scratch : List ℕ) → (let r = improves (sound P) kinds s (length scratch) in
+      ImprovedRight (refusal (scratchGround P scratch ∷ (14, not (kindsKnown kinds)) ∷ [])) P (b .sets) kinds (r .0) × Holds (chosenStep P b (r .0)) (r .1))
+  unfolding improves improveGrounds call
+  improve-step kinds scratch =
       let gs : List Ground = (14, not (kindsKnown kinds)) ∷ [] in
       let g = scratch-passes P s scratch (λ Q k. gs) lent in
-      improve-case kinds r (refusal (scratchGround P scratch ∷ gs)) (subst (λ (i : ℕ). ImprovesOr i (sound P) kinds s r s′) g x)
+      subst (λ (i : ℕ). (let r = callOr improveRefused i (sound P) (improvesOwn kinds) s in
+      ImprovedRight (refusal (scratchGround P scratch ∷ gs)) P (b .sets) kinds (r .0) × Holds (chosenStep P b (r .0)) (r .1))) (sym g)
+      (improve-case kinds (refusal (scratchGround P scratch ∷ gs)))
+
+  list-case : (kinds : ℕ) (g : ℕ) → ListedRight g P (b .sets) kinds (callOr listRefused g (sound P) (listsOwn kinds) s .0)
+  unfolding callOr listsOwn ListedRight
+  list-case kinds zero = ap (λ (ms : List Move). (countAccepted (length ms), ms)) (best-own P facts kinds b own kept)
+  list-case kinds (suc g) = refl
+
+  list-step : (kinds : ℕ) (scratch : List ℕ) (room : ℕ)
+      → ListedRight (refusal (scratchGround P scratch ∷ (14, not (kindsKnown kinds)) ∷ (16, ltb room (length (bookBest P (b .sets) kinds))) ∷ [])) P (b .sets) kinds
+      (lists (sound P) kinds s (length scratch) room)
+  unfolding lists bestGrounds call
+  list-step kinds scratch room =
+      let gs : List Move → List Ground = λ ms. (14, not (kindsKnown kinds)) ∷ (16, ltb room (length ms)) ∷ [] in
+      let g = scratch-passes P s scratch (λ Q k. gs (bestMoves Q kinds (ownTables Q s))) lent
+      ∙ ap (λ (ms : List Move). refusal (scratchGround P scratch ∷ gs ms)) (best-own P facts kinds b own kept) in
+      subst (λ (i : ℕ). ListedRight (refusal (scratchGround P scratch ∷ gs (bookBest P (b .sets) kinds))) P (b .sets) kinds (callOr listRefused i (sound P) (listsOwn kinds) s .0))
+      (sym g) (list-case kinds (refusal (scratchGround P scratch ∷ gs (bookBest P (b .sets) kinds))))
 
   -- a call of each kind
-  step-at : (bytes : List ℕ) → decode bytes ≡ sound P → (x : Exchange) → Step bytes s x s′
-      → Right P b x × StateHolds P (bookStep P b (feed x)) tail-masks tail-cells s′
-  unfolding Step Right feed bookStep
-  step-at bytes d (moveCall m r) e = move-step m r (e ∙ ap (λ (y : Decoded). moves y m s) d)
-  step-at bytes d (trialCall m scratch r) e =
-      (trial-step m scratch r (e .0 ∙ ap (λ (y : Decoded). trials y m s (length scratch)) d), subst (StateHolds P b tail-masks tail-cells) (sym (e .1)) h)
-  step-at bytes d (improveCall kinds scratch r) e =
-      improve-step kinds scratch r (subst (λ (y : Decoded). Improves y kinds s (length scratch) r s′) d e)
+  step-at : (c : Asked) → (let r = step (sound P) s c in Right P b (r .0) × Holds (bookStep P b (feed (r .0))) (r .1))
+  unfolding step Right feed bookStep
+  step-at (askMove m) = move-step m
+  step-at (askTrial m scratch) = (trial-step m scratch, h)
+  step-at (askImprove kinds scratch) = improve-step kinds scratch
+  step-at (askBest kinds scratch room) = (list-step kinds scratch room, h)
 
--- One call: its answer is right under the book before it, and afterwards masks and cells are those of the next book.
-pub step-right : (bytes : List ℕ) (P : Plan) → decode bytes ≡ sound P → (b : Book) (tail-masks tail-cells : List ℕ) (s s′ : State)
-    → StateHolds P b tail-masks tail-cells s → (x : Exchange) → Step bytes s x s′
-    → Right P b x × StateHolds P (bookStep P b (feed x)) tail-masks tail-cells s′
-step-right bytes P d b tail-masks tail-cells s s′ h =
-    step-at P (plan-facts P (decode-sound bytes P d .rules)) b tail-masks tail-cells s s′ h bytes d
+-- One call over a plan that has a table: its answer is right under the book before it, and afterwards masks and cells are those of the
+-- next book.
+pub step-right : (bytes : List ℕ) (P : Plan) → decode bytes ≡ sound P → (b : Book) (tail-masks tail-cells : List ℕ) (s : State)
+    → StateHolds P b tail-masks tail-cells s → (c : Asked)
+    → (let r = step (sound P) s c in Right P b (r .0) × StateHolds P (bookStep P b (feed (r .0))) tail-masks tail-cells (r .1))
+step-right bytes P d b tail-masks tail-cells s h = step-at P (plan-facts P (decode-sound bytes P d .rules)) b tail-masks tail-cells s h

@@ -7,7 +7,9 @@ pub mod NodeCells
 pub mod OwnParts
 pub mod Book
 pub mod ImproveCall
+pub mod BestCall
 pub mod Least
 pub mod Lists
 pub mod MoveCall
+pub mod MoveOrder
 pub mod TrialCall

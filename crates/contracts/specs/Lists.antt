@@ -1,5 +1,6 @@
 -- Lists of calls, and demand 3 as one claim over every list. Paper 01, section Lists of calls.
 use mathlib.Core.Path.{_≡_}
+use mathlib.Core.Logic.{_⊎_}
 use mathlib.Core.Bool.{not}
 use mathlib.Core.List.{List, [], _∷_, _++_}
 use Prim.Native.Nat.{ℕ, zero, suc, _≤_, _<_}
@@ -11,39 +12,57 @@ use Rattle.logic.specs.Configuration.{Sets, configuration, inMasks, ownMasks}
 use Rattle.logic.specs.Cells.{ownCells, cells as planCells, rootPenalty}
 use Rattle.logic.specs.Moves.{Ground, refusal, moveGrounds, movePairs, kindsKnown}
 use Rattle.logic.specs.Change.{pairsChange, differing, touchedCount}
-use Rattle.table_format.specs.Decode.{decode}
+use Rattle.table_format.specs.Decode.{Decoded}
 use Rattle.contracts.specs.State.{State}
-use Rattle.contracts.specs.declared.Improved.{Improved}
 use Rattle.contracts.specs.MoveCall.{MoveValues, moveRefused, moves}
 use Rattle.contracts.specs.TrialCall.{trials}
-use Rattle.contracts.specs.ImproveCall.{Candidate, Improves}
+use Rattle.contracts.specs.MoveOrder.{candidates, Candidate, bestOf}
+use Rattle.contracts.specs.ImproveCall.{ImproveValues, improveRefused, noBetter, improves}
+use Rattle.contracts.specs.BestCall.{Listing, countAccepted, listRefused, lists}
 use Rattle.contracts.specs.Least.{NoneBelow}
-use Rattle.contracts.specs.Book.{Book, Fed, fedMove, fedTrial, fedImprove, bookMade, bookStep}
-use Rattle.contracts.specs.declared.Improved.the-variants as improved
+use Rattle.contracts.specs.Book.{Book, Fed, fedMove, fedTrial, fedImprove, fedBest, bookMade, bookStep}
 
--- One call of a list with its answer: its kind, its arguments, the scratch that it is lent, and what it answered. "Scratch may be
--- another table at every call, hold anything or be too short."
+-- A call of a list: its kind, its arguments, the scratch that it is lent, and how many records its list has. "Scratch may be another
+-- table at every call, hold anything or be too short."
+pub data Asked : Type 0 where
+  askMove : Move → Asked
+  askTrial : Move → List ℕ → Asked
+  askImprove : ℕ → List ℕ → Asked
+  askBest : ℕ → List ℕ → ℕ → Asked
+
+-- A call with what it answered.
 pub data Exchange : Type 0 where
   moveCall : Move → MoveValues → Exchange
   trialCall : Move → List ℕ → MoveValues → Exchange
-  improveCall : ℕ → List ℕ → Improved → Exchange
+  improveCall : ℕ → List ℕ → ImproveValues → Exchange
+  bestCall : ℕ → List ℕ → ℕ → Listing → Exchange
 
--- One call, by the very definitions that the calls' contracts cite; s is the state before it and s′ the state after it.
-unfoldable pub Step : List ℕ → State → Exchange → State → Type 0
-Step bytes s (moveCall m r) s′ = (r, s′) ≡ moves (decode bytes) m s
-Step bytes s (trialCall m scratch r) s′ = (r ≡ trials (decode bytes) m s (length scratch)) × (s′ ≡ s)
-Step bytes s (improveCall kinds scratch r) s′ = Improves (decode bytes) kinds s (length scratch) r s′
+-- One call over a plan table and the tables as the last call left them, by the very definitions that the calls' contracts cite: what it
+-- answers, and the tables afterwards.
+unfoldable pub step : Decoded → State → Asked → Exchange × State
+step d s (askMove m) =
+    let r = moves d m s in
+    (moveCall m (r .0), r .1)
+step d s (askTrial m scratch) = (trialCall m scratch (trials d m s (length scratch)), s)
+step d s (askImprove kinds scratch) =
+    let r = improves d kinds s (length scratch) in
+    (improveCall kinds scratch (r .0), r .1)
+step d s (askBest kinds scratch room) = (bestCall kinds scratch room (lists d kinds s (length scratch) room), s)
 
--- Call after call, each with an answer that its definition allows.
-pub data Run (bytes : List ℕ) : State → List Exchange → State → Type 0 where
-  ended : {s : State} → Run bytes s [] s
-  called : {s s′ s″ : State} {x : Exchange} {xs : List Exchange} → Step bytes s x s′ → Run bytes s′ xs s″ → Run bytes s (x ∷ xs) s″
+-- Call after call: every list of calls has one list of answers, and leaves one pair of tables.
+unfoldable pub run : Decoded → State → List Asked → List Exchange × State
+run d s [] = ([], s)
+run d s (c ∷ cs) =
+    let r = step d s c in
+    let rest = run d (r .1) cs in
+    (r .0 ∷ rest .0, rest .1)
 
 -- What the book is fed of a call and its answer: improve's answer alone.
 unfoldable pub feed : Exchange → Fed
 feed (moveCall m r) = fedMove m
 feed (trialCall m scratch r) = fedTrial m
 feed (improveCall kinds scratch r) = fedImprove kinds r
+feed (bestCall kinds scratch room r) = fedBest kinds
 
 -- The book after a list.
 unfoldable pub bookAfter : Plan → Book → List Exchange → Book
@@ -74,23 +93,40 @@ MovedRight (suc g) P k m v = v ≡ moveRefused (suc g)
 unfoldable pub scratchGround : Plan → List ℕ → Ground
 scratchGround P scratch = (12, ltb (length scratch) (ownCells P))
 
+-- The legal moves of the kinds that leave the least root by Definition 5 under the book's sets, in the order of moves.
+unfoldable pub bookBest : Plan → Sets → ℕ → List Move
+bookBest P k kinds = bestOf (λ m. bookRoot P (bookMade P m k)) (candidates P kinds k)
+
+-- A list's first move.
+unfoldable pub FirstOf : List Move → Move → Type 0
+FirstOf [] m = ⊥
+FirstOf (n ∷ ms) m = m ≡ n
+
 -- "'No better move' exactly when no legal move of the kinds lowers the root", with the root's penalty; else a legal move of the
--- kinds that lowers it, and no other legal move of the kinds leaves a smaller root.
-pub record BestMade (P : Plan) (k : Sets) (kinds : ℕ) (m : Move) (before after changed : ℕ) : Type 0 where
-  pub candidate : Candidate P kinds k m
-  pub lowers : bookRoot P (bookMade P m k) < bookRoot P k
-  pub least : NoneBelow (Candidate P kinds k) (λ x. bookRoot P (bookMade P x k)) (bookRoot P (bookMade P m k))
-  pub numbers : NumbersRight P k m before after changed
+-- kinds that lowers it, no other legal move of the kinds leaves a smaller root, and it is "the first of the best".
+pub record BestMade (P : Plan) (k : Sets) (kinds : ℕ) (v : ImproveValues) : Type 0 where
+  pub accepted : v .number ≡ 0
+  pub found : v .found ≡ 1
+  pub candidate : Candidate P kinds k (v .chosen)
+  pub lowers : bookRoot P (bookMade P (v .chosen) k) < bookRoot P k
+  pub least : NoneBelow (Candidate P kinds k) (λ x. bookRoot P (bookMade P x k)) (bookRoot P (bookMade P (v .chosen) k))
+  pub first : FirstOf (bookBest P k kinds) (v .chosen)
+  pub numbers : NumbersRight P k (v .chosen) (v .before) (v .after) (v .changed)
 
-pub record NoneLowers (P : Plan) (k : Sets) (kinds : ℕ) (root : ℕ) : Type 0 where
+-- No legal move of the kinds lowers the root.
+pub record NoneLowers (P : Plan) (k : Sets) (kinds : ℕ) (v : ImproveValues) : Type 0 where
   pub none : NoneBelow (Candidate P kinds k) (λ x. bookRoot P (bookMade P x k)) (bookRoot P k)
-  pub root-right : root ≡ bookRoot P k
+  pub values-right : v ≡ noBetter (bookRoot P k)
 
-unfoldable pub ImprovedRight : ℕ → Plan → Sets → ℕ → Improved → Type 0
-ImprovedRight zero P k kinds (improved.Made chosen before after changed) = BestMade P k kinds chosen before after changed
-ImprovedRight zero P k kinds (improved.NoBetter root) = NoneLowers P k kinds root
-ImprovedRight zero P k kinds (improved.Refused number) = ⊥
-ImprovedRight (suc g) P k kinds r = r ≡ improved.Refused (suc g)
+-- An improve that meets a ground answers its number; any other is one of the two.
+unfoldable pub ImprovedRight : ℕ → Plan → Sets → ℕ → ImproveValues → Type 0
+ImprovedRight zero P k kinds v = BestMade P k kinds v ⊎ NoneLowers P k kinds v
+ImprovedRight (suc g) P k kinds v = v ≡ improveRefused (suc g)
+
+-- The best moves are listed, with how many there are; or the first ground's number, and none.
+unfoldable pub ListedRight : ℕ → Plan → Sets → ℕ → Listing → Type 0
+ListedRight zero P k kinds r = r ≡ (countAccepted (length (bookBest P k kinds)), bookBest P k kinds)
+ListedRight (suc g) P k kinds r = r ≡ listRefused (suc g)
 
 -- An answer is right under the book before its call.
 unfoldable pub Right : Plan → Book → Exchange → Type 0
@@ -98,6 +134,8 @@ Right P b (moveCall m r) = MovedRight (refusal (moveGrounds P (b .sets) m)) P (b
 Right P b (trialCall m scratch r) = MovedRight (refusal (scratchGround P scratch ∷ moveGrounds P (b .sets) m)) P (b .sets) m r
 Right P b (improveCall kinds scratch r) =
     ImprovedRight (refusal (scratchGround P scratch ∷ (14, not (kindsKnown kinds)) ∷ [])) P (b .sets) kinds r
+Right P b (bestCall kinds scratch room r) =
+    ListedRight (refusal (scratchGround P scratch ∷ (14, not (kindsKnown kinds)) ∷ (16, ltb room (length (bookBest P (b .sets) kinds))) ∷ [])) P (b .sets) kinds r
 
 unfoldable pub AllRight : Plan → Book → List Exchange → Type 0
 AllRight P b [] = Unit {0}

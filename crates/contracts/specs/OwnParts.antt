@@ -7,10 +7,7 @@ use lib.ListN.{length, take}
 use Rattle.logic.specs.Formula.{Plan}
 use Rattle.logic.specs.Configuration.{ownMasks}
 use Rattle.logic.specs.Cells.{ownCells}
-use Rattle.table_format.specs.Decode.{Decoded, sound}
-use Rattle.contracts.specs.State.{State, ownTables}
-use Rattle.contracts.specs.declared.Improved.{Improved}
-use Rattle.contracts.specs.ImproveCall.{Improves}
+use Rattle.contracts.specs.State.{State}
 
 -- The first n entries of two lists are the same, and both lists have so many or neither.
 pub record SameFirst (n : ℕ) (l l′ : List ℕ) : Type 0 where
@@ -21,12 +18,6 @@ pub record SameFirst (n : ℕ) (l l′ : List ℕ) : Type 0 where
 pub record SameTables (P : Plan) (s s′ : State) : Type 0 where
   pub same-masks : SameFirst (ownMasks P) (s .masks) (s′ .masks)
   pub same-cells : SameFirst (ownCells P) (s .cells) (s′ .cells)
-
--- The answer r with the plan's own part of s₁ afterwards is one that improve may give over these tables.
-pub record Allows (d : Decoded) (kinds : ℕ) (s : State) (scratch : List ℕ) (r : Improved) (s₁ : State) : Type 0 where
-  pub left : State
-  pub allowed : Improves d kinds s (length scratch) r left
-  pub own : (P : Plan) → d ≡ sound P → ownTables P left ≡ ownTables P s₁
 
 -- The tables of two calls that are lent scratch: of scratch only that both have enough or neither has.
 pub record SameLent (P : Plan) (s s′ : State) (scratch scratch′ : List ℕ) : Type 0 where

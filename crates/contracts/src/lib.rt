@@ -41,3 +41,9 @@ pub enum Improved {
     },
     Refused(u8),
 }
+
+// How many: of the best moves.
+pub enum Counted {
+    Accepted(u32),
+    Refused(u8),
+}

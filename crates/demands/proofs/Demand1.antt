@@ -2,7 +2,7 @@
 -- writes nothing." What a call answers and leaves is a function of the plan's own bytes, masks and cells and of the tables' lengths:
 -- two calls whose own parts agree answer the same, and leave what stands behind them as it was. That every call ends, and
 -- that its answer and tables are those of the definitions, is each call's contract.
-use mathlib.Core.Path.{_≡_, refl, sym, ap, _∙_, subst}
+use mathlib.Core.Path.{_≡_, refl, sym, ap, _∙_}
 use mathlib.Core.List.{List}
 use Prim.Native.Nat.{ℕ}
 use lib.ListN.{drop, length}
@@ -14,17 +14,18 @@ use Rattle.table_format.proofs.Own.{own-agree}
 use Rattle.logic.specs.Moves.{refusal}
 use Rattle.contracts.specs.Call.{planGrounds, callGrounds, callOr, call}
 use Rattle.contracts.specs.Load.{loadGrounds, loads}
-use Rattle.call_list.specs.Working.{Worked}
+use Rattle.call_list.specs.Working.{Lent, Worked}
 use Rattle.contracts.specs.NodeCells.{nodeCells}
 use Rattle.call_list.proofs.Scratch.{scratch-length, scratch-past}
 use Rattle.contracts.proofs.NodeAnswers.{node-own}
-use Rattle.contracts.specs.declared.Improved.{Improved}
 use Rattle.contracts.specs.State.{State, ownTables}
 use Rattle.contracts.specs.MoveCall.{moveCallGrounds, moves}
 use Rattle.contracts.specs.TrialCall.{scratchOwn, trials}
-use Rattle.contracts.specs.ImproveCall.{Improves}
-use Rattle.contracts.specs.OwnParts.{SameFirst, SameTables, SameLent, Allows}
-use Rattle.contracts.proofs.OwnParts.{load-sound, move-sound, trial-sound, same-back, improve-any}
+use Rattle.contracts.specs.ImproveCall.{improveGrounds, improves}
+use Rattle.contracts.specs.BestCall.{bestGrounds, lists}
+use Rattle.contracts.specs.Lists.{run}
+use Rattle.contracts.specs.OwnParts.{SameFirst, SameTables, SameLent}
+use Rattle.contracts.proofs.OwnParts.{load-sound, move-sound, trial-sound, improve-sound, lists-sound}
 
 -- Two calls of one kind whose tables agree on the plan's own bytes, masks and cells, and on being long enough for them: if they answer
 -- alike over one broken table and over one plan, they have the same answer and leave the same own masks and cells.
@@ -83,26 +84,43 @@ trial-own-parts l l′ s s′ scratch scratch′ m b same =
     go broken e = refl
     go (sound P) e = trial-sound P s s′ (same P e .same) m scratch scratch′ (same P e .enough)
 
--- The same of improve: over both tables the same answers are allowed, with the same own masks and cells afterwards.
+-- The same of improve.
 pub improve-own-parts : (l l′ : List ℕ) (s s′ : State) (scratch scratch′ : List ℕ) (kinds : ℕ) → SameFirst (ownBytes l) l l′
-    → ((P : Plan) → decode l ≡ sound P → SameLent P s s′ scratch scratch′) → (r : Improved) (s₁ : State)
-    → (Improves (decode l) kinds s (length scratch) r s₁ → Allows (decode l′) kinds s′ scratch′ r s₁)
-    × (Improves (decode l′) kinds s′ (length scratch′) r s₁ → Allows (decode l) kinds s scratch r s₁)
-improve-own-parts l l′ s s′ scratch scratch′ kinds b same r s₁ = (
-  (λ x. subst (λ (d : Decoded). Allows d kinds s′ scratch′ r s₁) agree (improve-any (decode l) s s′ scratch scratch′ kinds same r s₁ x)),
-  (λ x. improve-any (decode l) s′ s scratch′ scratch kinds
-      (λ P e. record { same = same-back P s s′ (same P e .same); enough = sym (same P e .enough) })
-      r s₁ (subst (λ (d : Decoded). Improves d kinds s′ (length scratch′) r s₁) (sym agree) x)),
+    → ((P : Plan) → decode l ≡ sound P → SameLent P s s′ scratch scratch′)
+    → (improves (decode l) kinds s (length scratch) .0 ≡ improves (decode l′) kinds s′ (length scratch′) .0)
+    × ((P : Plan) → decode l ≡ sound P
+    → ownTables P (improves (decode l) kinds s (length scratch) .1) ≡ ownTables P (improves (decode l′) kinds s′ (length scratch′) .1))
+unfolding improves improveGrounds callGrounds planGrounds refusal call callOr
+improve-own-parts l l′ s s′ scratch scratch′ kinds b same = (
+  go (decode l) refl ∙ ap (λ (d : Decoded). improves d kinds s′ (length scratch′) .0) agree,
+  λ P e. ap (λ (d : Decoded). ownTables P (improves d kinds s (length scratch) .1)) e
+      ∙ improve-sound P s s′ (same P e .same) kinds scratch scratch′ (same P e .enough) .1
+      ∙ ap (λ (d : Decoded). ownTables P (improves d kinds s′ (length scratch′) .1)) (sym e ∙ agree),
 )
   where
     agree : decode l ≡ decode l′
     agree = own-agree l l′ (b .entries) (b .enough)
 
+    go : (d : Decoded) → decode l ≡ d → improves d kinds s (length scratch) .0 ≡ improves d kinds s′ (length scratch′) .0
+    go broken e = refl
+    go (sound P) e = improve-sound P s s′ (same P e .same) kinds scratch scratch′ (same P e .enough) .0
+
+-- The same of the best moves, whatever the lent list holds.
+pub lists-own-parts : (l l′ : List ℕ) (s s′ : State) (scratch scratch′ : List ℕ) (kinds room : ℕ) → SameFirst (ownBytes l) l l′
+    → ((P : Plan) → decode l ≡ sound P → SameLent P s s′ scratch scratch′)
+    → lists (decode l) kinds s (length scratch) room ≡ lists (decode l′) kinds s′ (length scratch′) room
+unfolding lists bestGrounds callGrounds planGrounds refusal call callOr
+lists-own-parts l l′ s s′ scratch scratch′ kinds room b same =
+    go (decode l) refl ∙ ap (λ (d : Decoded). lists d kinds s′ (length scratch′) room) (own-agree l l′ (b .entries) (b .enough))
+  where
+    go : (d : Decoded) → decode l ≡ d → lists d kinds s (length scratch) room ≡ lists d kinds s′ (length scratch′) room
+    go broken e = refl
+    go (sound P) e = lists-sound P s s′ (same P e .same) kinds scratch scratch′ room (same P e .enough)
+
 -- Whatever the list, no cell of scratch past the plan's own is written, and none at all where the table is broken.
-pub work-past : (bytes calls : List ℕ) (s : State) (scratch answers : List ℕ) (count : ℕ) (s′ : State) (scratch′ answers′ : List ℕ)
-    → Worked bytes calls s scratch answers count s′ scratch′ answers′
-    → (length scratch′ ≡ length scratch) × (drop (scratchOwn (decode bytes)) scratch′ ≡ drop (scratchOwn (decode bytes)) scratch)
-work-past bytes calls s scratch answers count s′ scratch′ answers′ w = (
-  scratch-length (decode bytes) scratch scratch′ (w .exchanges) (w .scratch-run),
-  scratch-past (decode bytes) scratch scratch′ (w .exchanges) (w .scratch-run),
+pub work-past : (bytes calls : List ℕ) (b : Lent) (count : ℕ) (a : Lent) → Worked bytes calls b count a
+    → (length (a .scratch) ≡ length (b .scratch)) × (drop (scratchOwn (decode bytes)) (a .scratch) ≡ drop (scratchOwn (decode bytes)) (b .scratch))
+work-past bytes calls b count a w = (
+  scratch-length (decode bytes) (b .scratch) (a .scratch) (run (decode bytes) (b .tables) (w .asked) .0) (w .scratch-run),
+  scratch-past (decode bytes) (b .scratch) (a .scratch) (run (decode bytes) (b .tables) (w .asked) .0) (w .scratch-run),
 )

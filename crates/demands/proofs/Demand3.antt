@@ -1,67 +1,86 @@
 -- Demand 3, one claim over every list of calls: from the tables as an accepted load leaves them, the masks are those of the book,
 -- each cell holds Definition 5's penalty under them, and every answer is right.
-use mathlib.Core.Path.{_≡_, refl, sym, ap, _∙_, subst}
-use mathlib.Core.Logic.{_↔_}
-use mathlib.Core.List.{List}
+use mathlib.Core.Path.{_≡_, sym, ap, _∙_, subst}
+use mathlib.Core.Logic.{inl, inr, _↔_}
+use mathlib.Core.List.{List, List·Memᴰ}
 use Prim.Native.Nat.{ℕ}
 use native.Mathlib.Omega.{arith}
 use lib.ListN.{drop}
+use Rattle.logic.specs.declared.Move.{Move}
 use Rattle.logic.specs.Formula.{Plan}
 use Rattle.logic.specs.Configuration.{Sets, ownMasks}
 use Rattle.logic.specs.Cells.{ownCells}
-use Rattle.call_list.specs.Working.{Worked}
+use Rattle.call_list.specs.Working.{Lent, Worked}
 use Rattle.table_format.specs.Decode.{Decoded, sound, decode}
-use Rattle.contracts.specs.Load.{LoadValues, loads}
-use Rattle.contracts.specs.declared.Improved.{Improved}
+use Rattle.contracts.specs.Load.{loads}
 use Rattle.contracts.specs.State.{State}
 use Rattle.contracts.specs.Least.{NoneBelow}
-use Rattle.contracts.specs.ImproveCall.{Candidate}
+use Rattle.contracts.specs.MoveOrder.{candidates, Candidate, Rising}
+use Rattle.contracts.specs.ImproveCall.{ImproveValues, noBetter}
 use Rattle.contracts.specs.Book.{firstBook, bookMade}
-use Rattle.contracts.specs.Lists.{Exchange, Run, bookAfter, bookRoot, ImprovedRight, AllRight, AsBook}
+use Rattle.contracts.specs.Lists.{Asked, run, bookAfter, bookRoot, bookBest, ImprovedRight, AllRight, AsBook}
+use Rattle.contracts.proofs.Candidates.{candidate-in, in-candidate}
+use Rattle.contracts.proofs.Best.{best-is, is-best, best-in-order}
 use Rattle.contracts.proofs.Lists.{load-holds, run-right}
-use Rattle.contracts.proofs.Steps.{StateHolds}
-use Rattle.contracts.specs.declared.Improved.the-variants as improved
+use Rattle.move_legal.specs.inner.Legal.{Sized}
+use Rattle.move_order.proofs.Listing.{candidates-rising}
 
--- Demand 3. From the tables as an accepted load leaves them, for every list of calls and all answers that the calls' contracts
--- allow: each answer is right under the book's sets before its call; afterwards the masks are the book's sets, each cell is
--- Definition 5's penalty under them, and what is past the plan's own is as it was.
+-- Demand 3. From the tables as an accepted load leaves them, for every list of calls: each answer is right under the book's sets before
+-- its call; afterwards the masks are the book's sets, each cell is Definition 5's penalty under them, and what is past the plan's own is
+-- as it was. `run` is a function, so every list has its answers.
 pub lists-right : (bytes : List ℕ) (before : State) → loads (decode bytes) before .0 .number ≡ 0
-    → (P : Plan) → decode bytes ≡ sound P → (xs : List Exchange) (s : State) → (let loaded = loads (decode bytes) before .1 in
-    Run bytes loaded xs s
-    → AllRight P (firstBook P loaded) xs
-    × AsBook P (bookAfter P (firstBook P loaded) xs) (drop (ownMasks P) (before .masks)) (drop (ownCells P) (before .cells)) s)
-lists-right bytes before h P d xs s r =
-    let e : loads (decode bytes) before ≡ loads (sound P) before = ap (λ (x : Decoded). loads x before) d in
-    let loaded = loads (decode bytes) before .1 in
-    let l = sym (ap (λ (x : LoadValues × State). x .0 .number) e) ∙ h in
-    let holds = subst (λ (t : State). StateHolds P (firstBook P t) (drop (ownMasks P) (before .masks)) (drop (ownCells P) (before .cells)) t)
-    (sym (ap (λ (x : LoadValues × State). x .1) e)) (load-holds P before l) in
-    let q = run-right bytes P d (firstBook P loaded) (drop (ownMasks P) (before .masks)) (drop (ownCells P) (before .cells)) loaded xs s holds r in
+    → (P : Plan) → decode bytes ≡ sound P → (cs : List Asked) → (let loaded = loads (decode bytes) before .1 in
+    let r = run (decode bytes) loaded cs in
+    AllRight P (firstBook P loaded) (r .0)
+    × AsBook P (bookAfter P (firstBook P loaded) (r .0)) (drop (ownMasks P) (before .masks)) (drop (ownCells P) (before .cells)) (r .1))
+lists-right bytes before h P d cs =
+    let l = sym (ap (λ (x : Decoded). loads x before .0 .number) d) ∙ h in
+    let loaded = loads (sound P) before .1 in
+    let q = run-right bytes P d (firstBook P loaded) (drop (ownMasks P) (before .masks)) (drop (ownCells P) (before .cells)) loaded cs (load-holds P before l) in
+    subst (λ (x : Decoded). (let loaded′ = loads x before .1 in
+    let r = run x loaded′ cs in
+    AllRight P (firstBook P loaded′) (r .0)
+    × AsBook P (bookAfter P (firstBook P loaded′) (r .0)) (drop (ownMasks P) (before .masks)) (drop (ownCells P) (before .cells)) (r .1))) (sym d)
     (q .0, q .1 .kept)
 
-isNoBetter : Improved → Type 0
-isNoBetter (improved.Made chosen before after changed) = ⊥
-isNoBetter (improved.NoBetter root) = Unit {0}
-isNoBetter (improved.Refused number) = ⊥
-
 -- An accepted improve that is right answers "no better move" exactly when no legal move of its kinds lowers the root.
-pub no-better-exactly : (P : Plan) (k : Sets) (kinds : ℕ) (r : Improved) → ImprovedRight 0 P k kinds r
-    → ((root : ℕ) × (r ≡ improved.NoBetter root)) ↔ NoneBelow (Candidate P kinds k) (λ m. bookRoot P (bookMade P m k)) (bookRoot P k)
-unfolding ImprovedRight isNoBetter
-no-better-exactly P k kinds (improved.Made m b a n) x = (
-  (λ e. absurd (subst isNoBetter (sym (e .1)) tt)),
-  (λ H. let h = H m (x .candidate) in absurd (omega (arith, x .lowers))),
+pub no-better-exactly : (P : Plan) (k : Sets) (kinds : ℕ) (v : ImproveValues) → ImprovedRight 0 P k kinds v
+    → (v .found ≡ 0) ↔ NoneBelow (Candidate P kinds k) (λ m. bookRoot P (bookMade P m k)) (bookRoot P k)
+unfolding ImprovedRight
+no-better-exactly P k kinds v (inl x) = (
+  (λ e. absurd (omega (arith, e, x .found))),
+  (λ H. let h = H (v .chosen) (x .candidate) in absurd (omega (arith, x .lowers, h))),
 )
-no-better-exactly P k kinds (improved.NoBetter root) x = ((λ e. x .none), (λ H. (root, refl)))
-no-better-exactly P k kinds (improved.Refused number) x = absurd x
+no-better-exactly P k kinds v (inr x) = unfold noBetter in ((λ e. x .none), (λ H. ap (λ (w : ImproveValues). w .found) (x .values-right)))
+
+-- "all legal moves of the given kinds that leave the least root": the moves that a right listing has are exactly the legal moves of the
+-- kinds after which no other such move leaves a smaller root.
+pub best-exactly : (P : Plan) (k : Sets) (kinds : ℕ) (m : Move)
+    → List·Memᴰ m (bookBest P k kinds) ↔ (Candidate P kinds k m × NoneBelow (Candidate P kinds k) (λ x. bookRoot P (bookMade P x k)) (bookRoot P (bookMade P m k)))
+unfolding bookBest
+best-exactly P k kinds m = (
+  (λ h. let q = best-is (λ x. bookRoot P (bookMade P x k)) (candidates P kinds k) m h in
+      (in-candidate P kinds k m (q .0), λ n c. q .1 n (candidate-in P kinds k n c))),
+  (λ h. is-best (λ x. bookRoot P (bookMade P x k)) (candidates P kinds k) m (candidate-in P kinds k m (h .0)) (λ n d. h .1 n (in-candidate P kinds k n d))),
+)
+
+-- "each once, in this order": each stands before all that follow it.
+pub best-rising : (P : Plan) → Sized (P .ports) (P .sets) → (k : Sets) (kinds : ℕ) → Rising (bookBest P k kinds)
+unfolding bookBest
+best-rising P Z k kinds = best-in-order (λ x. bookRoot P (bookMade P x k)) (candidates P kinds k) (candidates-rising P Z kinds k)
 
 -- After an accepted load every answer that `work` writes is right under the book's sets before its call, and it leaves the masks
 -- as the book's sets and each cell as Definition 5's penalty under them, with what is past the plan's own as it was.
 pub work-right : (bytes : List ℕ) (before : State) → loads (decode bytes) before .0 .number ≡ 0
-    → (P : Plan) → decode bytes ≡ sound P → (calls scratch answers : List ℕ) (count : ℕ) (s : State) (scratch′ answers′ : List ℕ)
+    → (P : Plan) → decode bytes ≡ sound P → (calls : List ℕ) (b : Lent) (count : ℕ) (a : Lent)
     → (let loaded = loads (decode bytes) before .1 in
-    (w : Worked bytes calls loaded scratch answers count s scratch′ answers′)
-    → AllRight P (firstBook P loaded) (w .exchanges)
-    × AsBook P (bookAfter P (firstBook P loaded) (w .exchanges)) (drop (ownMasks P) (before .masks)) (drop (ownCells P) (before .cells)) s)
-work-right bytes before h P d calls scratch answers count s scratch′ answers′ w =
-    lists-right bytes before h P d (w .exchanges) s (w .run)
+    b .tables ≡ loaded → (w : Worked bytes calls b count a)
+    → AllRight P (firstBook P loaded) (run (decode bytes) loaded (w .asked) .0)
+    × AsBook P (bookAfter P (firstBook P loaded) (run (decode bytes) loaded (w .asked) .0)) (drop (ownMasks P) (before .masks)) (drop (ownCells P) (before .cells)) (a .tables))
+work-right bytes before h P d calls b count a e w =
+    let loaded = loads (decode bytes) before .1 in
+    let q = lists-right bytes before h P d (w .asked) in (
+      q .0,
+      subst (AsBook P (bookAfter P (firstBook P loaded) (run (decode bytes) loaded (w .asked) .0)) (drop (ownMasks P) (before .masks)) (drop (ownCells P) (before .cells)))
+          (sym (w .tables-are ∙ ap (λ (s : State). run (decode bytes) s (w .asked) .1) e)) (q .1),
+    )

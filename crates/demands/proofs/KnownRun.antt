@@ -1,13 +1,12 @@
 -- Computed calls over plan A: each kind of move accepted once and refused once, its pairs and its place in a sum of kinds; and two
 -- lists of calls with their answers. Assumes nothing.
-use mathlib.Core.Path.{_≡_, refl, sym, ap, _∙_, subst}
+use mathlib.Core.Path.{_≡_, refl, ap, subst}
 use mathlib.Core.Bool.{Bool, true, false}
 use mathlib.Core.List.{List, [], _∷_, _++_}
-use Prim.Native.Nat.{ℕ, _≤_}
-use native.Mathlib.Omega.{arith}
-use lib.ListN.{length, replicate}
+use Prim.Native.Nat.{ℕ}
+use lib.ListN.{replicate}
 use Rattle.logic.specs.declared.Move.{Move}
-use Rattle.logic.specs.Formula.{literalOf, testKind, kindNumber, nodeCount, childDepth}
+use Rattle.logic.specs.Formula.{none, literalOf, testKind, kindNumber, nodeCount, childDepth}
 use Rattle.logic.specs.Configuration.{indicator, portsIn, configuration, configured, inMask, inMasks, ownMasks, spelled, withinPorts, enter, leave, allWithin}
 use Rattle.logic.specs.Truth.{portOf}
 use Rattle.logic.specs.Penalty.{compare, sizePenalty, testPenalty, literalPenalty, sum, least, copy, combine, eachPort, below, penalties, penalty}
@@ -23,17 +22,17 @@ use Rattle.contracts.specs.State.{State, tables, ownTables, withRest}
 use Rattle.contracts.specs.Call.{planGrounds, tableGrounds, callGrounds, callOr, call}
 use Rattle.contracts.specs.Book.{firstBook}
 use Rattle.contracts.specs.Load.{LoadValues, loadRefused, loadGrounds, loadedMasks, loadedTables, loadsOwn, loads}
-use Rattle.contracts.specs.declared.Improved.{Improved}
 use Rattle.contracts.specs.MoveCall.{MoveValues, moveRefused, moveAccepted, moveCallGrounds, cellsAfter, moveAnswer, tablesAfter, movesOwn, moves}
 use Rattle.contracts.specs.TrialCall.{trialsOwn, trials}
-use Rattle.contracts.specs.ImproveCall.{improveGrounds, rootNow, rootAfter, Chosen, ImprovesOr, Improves}
-use Rattle.contracts.specs.Lists.{Exchange, moveCall, trialCall, improveCall, Step, Run, ended, called, bookAfter, AllRight, AsBook}
+use Rattle.contracts.specs.ImproveCall.{improveRefused, improveMade, noBetter, improveGrounds, rootNow, rootAfter, bestMoves, improvesBy, improvesOwn, improves}
+use Rattle.contracts.specs.BestCall.{countRefused, countAccepted, bestGrounds, listRefused, listsOwn, lists}
+use Rattle.contracts.specs.MoveOrder.{fieldsAre, allMoves, kept, candidates, noneSmaller, bestOf}
+use Rattle.contracts.specs.Lists.{Asked, askMove, askTrial, askImprove, askBest, Exchange, moveCall, trialCall, improveCall, bestCall, step, run, bookAfter, AllRight, AsBook}
 use Rattle.demands.proofs.Demand3.{lists-right}
-use Rattle.contracts.specs.declared.Improved.the-variants as improved
 
 -- what computes here
 computing : Unit {0}
-unfolding literalOf testKind kindNumber nodeCount childDepth indicator portsIn configuration configured inMask inMasks ownMasks spelled withinPorts enter leave portOf compare sizePenalty testPenalty literalPenalty sum least copy combine eachPort below penalties penalty cellCount placeOf tupleAt tabulate siblingFirst layout ownCells cells rootPenalty moveKind fieldsKnown fieldsFit known fits legal refusal moveGrounds kindMasks namedMasks moveMasks kindPairs namedPairs movePairs kindWeight kindsKnown ofKinds someOf pairsChange memberHit hit nodeHit forestHit touched modulus differences newNumbers renew cellOf renewals newCell newCells differing literal over plan planA move everyNode treeCount arityRule mayNest nestingRule depthRule testRule literalRule innerRule nodeRule formulaRule mostCells planRule allWithin loadGrounds loadedMasks loadedTables loadRefused loadsOwn loads planGrounds tableGrounds callGrounds callOr call moveCallGrounds cellsAfter moveRefused moveAccepted moveAnswer movesOwn moves trialsOwn trials improveGrounds rootNow rootAfter Chosen ImprovesOr Improves Step ownTables withRest tablesAfter
+unfolding literalOf testKind kindNumber nodeCount childDepth indicator portsIn configuration configured inMask inMasks ownMasks spelled withinPorts enter leave portOf compare sizePenalty testPenalty literalPenalty sum least copy combine eachPort below penalties penalty cellCount placeOf tupleAt tabulate siblingFirst layout ownCells cells rootPenalty moveKind fieldsKnown fieldsFit known fits legal refusal moveGrounds kindMasks namedMasks moveMasks kindPairs namedPairs movePairs kindWeight kindsKnown ofKinds someOf pairsChange memberHit hit nodeHit forestHit touched modulus differences newNumbers renew cellOf renewals newCell newCells differing literal over plan planA move everyNode treeCount arityRule mayNest nestingRule depthRule testRule literalRule innerRule nodeRule formulaRule mostCells planRule allWithin loadGrounds loadedMasks loadedTables loadRefused loadsOwn loads planGrounds tableGrounds callGrounds callOr call moveCallGrounds cellsAfter moveRefused moveAccepted moveAnswer movesOwn moves trialsOwn trials improveRefused improveMade noBetter improveGrounds rootNow rootAfter fieldsAre allMoves kept candidates noneSmaller bestOf bestMoves improvesBy improvesOwn improves countRefused countAccepted bestGrounds listRefused listsOwn lists step run ownTables withRest tablesAfter
 computing = tt
 
 -- plan A's cells under its masks, and after each of four moves
@@ -162,100 +161,73 @@ scratch = replicate 34 4294967295
 abbrev short : List ℕ
 short = replicate 33 0
 
-from-zero : (n : ℕ) → 0 ≤ n
-from-zero n = omega arith
-
 abbrev stateA : State
 stateA = state (masksWith 3 7 1) cellsA
 
 abbrev stateDrop : State
 stateDrop = state (masksWith 3 5 1) cellsDrop
 
--- once the root is 0 no move leaves a smaller one
-none-better : Improves (sound planA) 15 stateDrop (length scratch) (improved.NoBetter 0) stateDrop
-unfolding computing
-none-better = record {
-  own = tables (3 ∷ 5 ∷ 1 ∷ []) cellsDrop;
-  chosen = record { none-smaller = λ m c. from-zero _; root-is = refl; tables-kept = refl };
-  tables-are = refl;
-}
-
--- B's drop leaves the root 0, and no move leaves a smaller one
-drop-best : Improves (sound planA) 15 stateA (length scratch) (improved.Made (move 2 1 0 1 0) 1 0 8) stateDrop
-unfolding computing
-drop-best = record {
-  own = tables (3 ∷ 5 ∷ 1 ∷ []) cellsDrop;
-  chosen = record {
-    candidate = record { of-kinds = refl; is-legal = refl };
-    smaller = omega arith;
-    least = λ m c. from-zero _;
-    before-is = refl;
-    after-is = refl;
-    changed-is = refl;
-    tables-are = refl;
-  };
-  tables-are = refl;
-}
-
--- refused for scratch that is too short, and for a sum of 0
-improve-short : Improves (sound planA) 15 stateA (length short) (improved.Refused 12) stateA
-unfolding computing
-improve-short = (refl, refl)
-
-improve-none : Improves (sound planA) 0 stateA (length scratch) (improved.Refused 14) stateA
-unfolding computing
-improve-none = (refl, refl)
-
--- one call of a list over plan A's table
-move-called : (m : Move) (r : MoveValues) (s s′ : State) → (r, s′) ≡ moves (sound planA) m s → Step bytesA s (moveCall m r) s′
-unfolding Step
-move-called m r s s′ e = e ∙ ap (λ (d : Decoded). moves d m s) (sym decode-A)
-
-trial-called : (m : Move) (lent-scratch : List ℕ) (r : MoveValues) (s : State)
-    → r ≡ trials (sound planA) m s (length lent-scratch) → Step bytesA s (trialCall m lent-scratch r) s
-unfolding Step
-trial-called m lent-scratch r s e = (e ∙ ap (λ (d : Decoded). trials d m s (length lent-scratch)) (sym decode-A), refl)
-
-improve-called : (kinds : ℕ) (lent-scratch : List ℕ) (r : Improved) (s s′ : State)
-    → Improves (sound planA) kinds s (length lent-scratch) r s′ → Step bytesA s (improveCall kinds lent-scratch r) s′
-unfolding Step
-improve-called kinds lent-scratch r s s′ x = subst (λ (d : Decoded). Improves d kinds s (length lent-scratch) r s′) (sym decode-A) x
-
 -- A list from the tables as the load leaves them: B's drop (1 before, 0 after, 8 changed), an add that is refused, and "no better
 -- move" of any kind.
+abbrev pub knownCalls : List Asked
+knownCalls = askMove (move 2 1 0 1 0) ∷ askMove (move 1 0 0 0 0) ∷ askImprove 15 scratch ∷ []
+
 abbrev pub knownExchanges : List Exchange
-knownExchanges = moveCall (move 2 1 0 1 0) (moveAccepted 1 0 8) ∷ moveCall (move 1 0 0 0 0) (moveRefused 15) ∷ improveCall 15 scratch (improved.NoBetter 0) ∷ []
+knownExchanges = moveCall (move 2 1 0 1 0) (moveAccepted 1 0 8) ∷ moveCall (move 1 0 0 0 0) (moveRefused 15) ∷ improveCall 15 scratch (noBetter 0) ∷ []
 
-pub known-run : Run bytesA stateA knownExchanges stateDrop
+pub known-run : run (decode bytesA) stateA knownCalls ≡ (knownExchanges, stateDrop)
 unfolding computing
-known-run =
-    called (move-called (move 2 1 0 1 0) (moveAccepted 1 0 8) stateA stateDrop refl)
-    (called (move-called (move 1 0 0 0 0) (moveRefused 15) stateDrop stateDrop refl)
-    (called (improve-called 15 scratch (improved.NoBetter 0) stateDrop stateDrop none-better) ended))
+known-run = ap (λ (d : Decoded). run d stateA knownCalls) decode-A
 
--- Another: improve with each of its answers, and trials.
-pub known-run-improve : Run bytesA stateA
-    (improveCall 15 short (improved.Refused 12) ∷ improveCall 0 scratch (improved.Refused 14)
-    ∷ trialCall (move 2 1 0 1 0) scratch (moveAccepted 1 0 8) ∷ trialCall (move 2 1 0 1 0) short (moveRefused 12)
-    ∷ trialCall (move 1 0 0 0 0) scratch (moveRefused 15) ∷ improveCall 15 scratch (improved.Made (move 2 1 0 1 0) 1 0 8)
-    ∷ improveCall 15 scratch (improved.NoBetter 0) ∷ [])
-    stateDrop
+-- Two moves of all kinds leave the root 0: 1 dropped from S, and 1 dropped from T. Improve makes the first of them, whatever stands in
+-- scratch; then no move is better, but the adds that leave the least root are listed, "even if that root isn't lower than now".
+abbrev twoBest : List Move
+twoBest = move 2 0 0 1 0 ∷ move 2 1 0 1 0 ∷ []
+
+abbrev twoAdds : List Move
+twoAdds = move 1 0 0 1 0 ∷ move 1 0 0 2 0 ∷ []
+
+abbrev stateFirst : State
+stateFirst = moves (sound planA) (move 2 0 0 1 0) stateA .1
+
+pub known-run-best : run (sound planA) stateA
+    (askImprove 15 short ∷ askImprove 0 scratch
+    ∷ askBest 15 short 2 ∷ askBest 16 scratch 2 ∷ askBest 15 scratch 1 ∷ askBest 15 scratch 2 ∷ askBest 15 scratch 5
+    ∷ askImprove 15 scratch ∷ askImprove 15 scratch ∷ askBest 1 scratch 2 ∷ [])
+    ≡ (
+      improveCall 15 short (improveRefused 12) ∷ improveCall 0 scratch (improveRefused 14)
+          ∷ bestCall 15 short 2 (listRefused 12) ∷ bestCall 16 scratch 2 (listRefused 14) ∷ bestCall 15 scratch 1 (listRefused 16)
+          ∷ bestCall 15 scratch 2 (countAccepted 2, twoBest) ∷ bestCall 15 scratch 5 (countAccepted 2, twoBest)
+          ∷ improveCall 15 scratch (improveMade (move 2 0 0 1 0) (moveAccepted 1 0 8)) ∷ improveCall 15 scratch (noBetter 0)
+          ∷ bestCall 1 scratch 2 (countAccepted 2, twoAdds) ∷ [],
+      stateFirst,
+    )
 unfolding computing
-known-run-improve =
-    called (improve-called 15 short (improved.Refused 12) stateA stateA improve-short)
-    (called (improve-called 0 scratch (improved.Refused 14) stateA stateA improve-none)
-    (called (trial-called (move 2 1 0 1 0) scratch (moveAccepted 1 0 8) stateA refl)
-    (called (trial-called (move 2 1 0 1 0) short (moveRefused 12) stateA refl)
-    (called (trial-called (move 1 0 0 0 0) scratch (moveRefused 15) stateA refl)
-    (called (improve-called 15 scratch (improved.Made (move 2 1 0 1 0) 1 0 8) stateA stateDrop drop-best)
-    (called (improve-called 15 scratch (improved.NoBetter 0) stateDrop stateDrop none-better) ended))))))
+known-run-best = refl
+
+-- Trials answer what the moves would, and leave the tables.
+pub known-run-trial : run (sound planA) stateA (askTrial (move 2 1 0 1 0) scratch ∷ askTrial (move 2 1 0 1 0) short ∷ askTrial (move 1 0 0 0 0) scratch ∷ [])
+    ≡ (
+      trialCall (move 2 1 0 1 0) scratch (moveAccepted 1 0 8) ∷ trialCall (move 2 1 0 1 0) short (moveRefused 12)
+          ∷ trialCall (move 1 0 0 0 0) scratch (moveRefused 15) ∷ [],
+      stateA,
+    )
+unfolding computing
+known-run-trial = refl
+
+-- No legal move: one set of one port, the port in it, and adds asked for.
+pub known-none : bestMoves (record { ports = 1; sets = 1; formula = none }) 1 (tables (1 ∷ []) []) ≡ []
+unfolding computing
+known-none = refl
 
 -- Demand 3's theorem at the first list: what it promises of a list that there is.
 pub known-list-right : AllRight planA (firstBook planA stateA) knownExchanges
     × AsBook planA (bookAfter planA (firstBook planA stateA) knownExchanges) (255 ∷ []) (77 ∷ []) stateDrop
 unfolding ownMasks ownCells cellCount childDepth planA plan over literal
 known-list-right =
-    subst (λ (s : State). Run bytesA s knownExchanges stateDrop
-    → AllRight planA (firstBook planA s) knownExchanges
-    × AsBook planA (bookAfter planA (firstBook planA s) knownExchanges) (255 ∷ []) (77 ∷ []) stateDrop) (ap (λ (x : LoadValues × State). x .1) known-load)
-    (lists-right bytesA unloaded (ap (λ (x : LoadValues × State). x .0 .number) known-load) planA decode-A knownExchanges stateDrop) known-run
+    subst (λ (r : List Exchange × State). AllRight planA (firstBook planA stateA) (r .0)
+    × AsBook planA (bookAfter planA (firstBook planA stateA) (r .0)) (255 ∷ []) (77 ∷ []) (r .1)) known-run
+    (subst (λ (s : State). AllRight planA (firstBook planA s) (run (decode bytesA) s knownCalls .0)
+    × AsBook planA (bookAfter planA (firstBook planA s) (run (decode bytesA) s knownCalls .0)) (255 ∷ []) (77 ∷ []) (run (decode bytesA) s knownCalls .1))
+    (ap (λ (x : LoadValues × State). x .1) known-load)
+    (lists-right bytesA unloaded (ap (λ (x : LoadValues × State). x .0 .number) known-load) planA decode-A knownCalls))

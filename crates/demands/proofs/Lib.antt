@@ -4,6 +4,5 @@ pub mod Demand2
 pub mod Demand1
 pub mod KnownRun
 pub mod Demand3
-pub mod EveryList
 pub mod KnownLine
 pub mod PrintedLine

@@ -1,4 +1,3 @@
 pub mod KnownTexts
 pub mod ReadThenLoad
-pub mod Runs
 pub mod TextToPlan

@@ -1,35 +1,54 @@
--- Whether the choice lowers the root. Assumes nothing.
-use mathlib.Core.Path.{_≡_, refl, sym, ap, _∙_, subst}
-use mathlib.Core.Bool.{Bool, true, false, _&&_}
-use mathlib.Core.List.{List}
-use Prim.Native.Nat.{ℕ, _≤_}
+-- What the choice says of improve: whether it lowers the root, and which move is made. Assumes nothing.
+use mathlib.Core.Path.{_≡_, sym, ap, _∙_}
+use mathlib.Core.Bool.{true, false, false≢true}
+use mathlib.Core.List.{List, [], _∷_, List·Memᴰ, List·Memᴰ·head}
+use Prim.Native.Nat.{ℕ}
 use native.Mathlib.Omega.{arith}
 use lib.Dec.{ltb}
-use borrow.Author.Tests.{ltb-false}
+use borrow.Author.Tests.{eq-eqb, ne-eqb}
 use Rattle.logic.specs.declared.Move.{Move}
 use Rattle.logic.specs.Formula.{Plan}
 use Rattle.logic.specs.Configuration.{inMasks}
-use Rattle.contracts.specs.Least.{NoneBelow}
-use Rattle.contracts.specs.ImproveCall.{rootNow, rootAfter, Candidate}
+use Rattle.contracts.specs.State.{State}
+use Rattle.contracts.specs.MoveOrder.{candidates, Candidate}
+use Rattle.contracts.specs.MoveCall.{movesOwn}
+use Rattle.contracts.specs.ImproveCall.{improveMade, noBetter, rootNow, rootAfter, bestMoves, improvesBy}
+use Rattle.contracts.proofs.Candidates.{in-candidate}
+use Rattle.contracts.proofs.Best.{best-is}
 use Rattle.move_best.specs.declared.Choice.{Choice}
-use Rattle.move_best.specs.inner.Choosing.{BestFound, FoundOr}
+use Rattle.move_best.specs.inner.Choosing.{BestIs, lowersBy}
 
-module _ (P : Plan) (kinds : ℕ) (own before : List ℕ) (r : Choice) (h : FoundOr (r .found) (Candidate P kinds (inMasks own)) P own before r) where
-  pub best-found : r .found ≡ true → BestFound (Candidate P kinds (inMasks own)) P own before r
-  unfolding FoundOr
-  best-found e = subst (λ (f : Bool). FoundOr f (Candidate P kinds (inMasks own)) P own before r) e h
+module _ (P : Plan) (own : State) (c : Choice) (root : ℕ) (root-is : root ≡ rootNow (own .cells)) where
+  none-there : c .count ≡ 0 → lowersBy c root ≡ false
+  unfolding lowersBy
+  none-there e = rw (eq-eqb (c .count) 0 e)
 
-  none-found : r .found ≡ false → (m : Move) → Candidate P kinds (inMasks own) m → ⊥
-  unfolding FoundOr
-  none-found e = subst (λ (f : Bool). FoundOr f (Candidate P kinds (inMasks own)) P own before r) e h
+  some-there : (m : Move) (ms : List Move) → BestIs (m ∷ ms) P own c → lowersBy c root ≡ ltb (rootAfter P m (own .masks) (own .cells)) (rootNow (own .cells))
+  unfolding lowersBy BestIs
+  some-there m ms b = rw (ne-eqb (c .count) 0 (λ z. omega (arith, b .0, z)), b .2 .after-is, root-is)
 
-  -- a choice that does not lower the root leaves none that does
-  pub none-lower : (root : ℕ) → root ≡ rootNow before → (r .found && ltb (r .numbers .value) root) ≡ false
-      → NoneBelow (Candidate P kinds (inMasks own)) (λ x. rootAfter P x own before) (rootNow before)
-  none-lower root e q = go (r .found) refl
-    where
-      go : (f : Bool) → r .found ≡ f → (m : Move) → Candidate P kinds (inMasks own) m → rootNow before ≤ rootAfter P m own before
-      go true f m c =
-          let l = ltb-false (r .numbers .value) root (ap (λ (b : Bool). b && ltb (r .numbers .value) root) (sym f) ∙ q) in
-          omega (arith, l, e, best-found f .least m c)
-      go false f m c = absurd (none-found f m c)
+  -- a choice that does not lower the root, or none at all
+  pub improve-stays : (ms : List Move) → BestIs ms P own c → lowersBy c root ≡ false → improvesBy ms P own ≡ (noBetter root, own)
+  unfolding improvesBy
+  improve-stays [] b f = ap (λ (r : ℕ). (noBetter r, own)) (sym root-is)
+  improve-stays (m ∷ ms) b f = rw (sym (some-there m ms b) ∙ f, root-is)
+
+  -- a choice that lowers it is made
+  pub improve-makes : (ms : List Move) → BestIs ms P own c → lowersBy c root ≡ true
+      → improvesBy ms P own ≡ (improveMade (c .m) (movesOwn (c .m) P own .0), movesOwn (c .m) P own .1)
+  unfolding improvesBy BestIs
+  improve-makes [] b f = absurd (false≢true (sym (none-there b) ∙ f))
+  improve-makes (m ∷ ms) b f = rw (sym (some-there m ms b) ∙ f, b .1)
+
+  -- and is one of the candidates
+  chosen-in : (ms : List Move) → BestIs ms P own c → lowersBy c root ≡ true → List·Memᴰ (c .m) ms
+  unfolding BestIs
+  chosen-in [] b f = absurd (false≢true (sym (none-there b) ∙ f))
+  chosen-in (m ∷ ms) b f = List·Memᴰ·head (b .1)
+
+  pub chosen-candidate : (kinds : ℕ) → BestIs (bestMoves P kinds own) P own c → lowersBy c root ≡ true → Candidate P kinds (inMasks (own .masks)) (c .m)
+  unfolding bestMoves
+  chosen-candidate kinds b f =
+      in-candidate P kinds (inMasks (own .masks)) (c .m)
+      (best-is (λ m. rootAfter P m (own .masks) (own .cells)) (candidates P kinds (inMasks (own .masks))) (c .m)
+      (chosen-in (bestMoves P kinds own) b f) .0)

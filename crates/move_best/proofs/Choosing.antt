@@ -1,142 +1,210 @@
--- The fold over the candidates: what holds of the best so far at each step. Assumes nothing.
+-- One candidate more: what holds of the best so far, of their places and of what is left. Assumes nothing.
 use mathlib.Core.Path.{_≡_, refl, sym, ap, _∙_, subst}
-use mathlib.Core.Bool.{Bool, true, false, cond, _&&_, true≢false, false≢true}
-use mathlib.Core.List.{List}
-use Prim.Native.Nat.{ℕ, suc, _-_, _≤_, _<_}
+use mathlib.Core.Logic.{_≢_}
+use mathlib.Core.Bool.{Bool, true, false, cond, _||_, true≢false}
+use mathlib.Core.List.{List, [], _∷_, _++_, append-assoc, append-nil, List·Memᴰ, List·Memᴰ·head, Memᴰ·append-right}
+use Prim.Native.Nat.{ℕ, suc, _+_, _-_, _≤_, _<_}
 use native.Mathlib.Omega.{arith}
 use native.Mathlib.Decide.{decLt}
-use lib.Dec.{leb}
-use borrow.Author.Tests.{leb-true, leb-false}
+use lib.Dec.{eqb}
+use lib.ListN.{length, set, length-append}
+use borrow.Author.Tests.{lt-ltb, le-ltb, eq-eqb, ne-eqb}
 use Rattle.logic.specs.declared.Move.{Move}
 use Rattle.logic.specs.Formula.{Plan}
 use Rattle.logic.specs.Configuration.{inMasks}
-use Rattle.logic.specs.Moves.{noMove}
-use Rattle.logic.proofs.Lists.{and-left, and-right}
 use Rattle.cells_sum.specs.declared.After.{After}
-use Rattle.contracts.specs.ImproveCall.{rootAfter, Candidate}
+use Rattle.contracts.specs.State.{State}
+use Rattle.contracts.specs.MoveOrder.{candidates, kept, Candidate, bestOf}
+use Rattle.contracts.specs.ImproveCall.{rootAfter, bestMoves}
+use Rattle.contracts.proofs.Candidates.{in-candidate}
+use Rattle.contracts.proofs.Best.{best-shorter, best-first, best-lower, best-equal, best-higher, best-none}
 use Rattle.move_order.specs.declared.Next.{Next}
-use Rattle.move_order.specs.inner.Stepping.{place, outset, NextOr}
+use Rattle.move_order.specs.inner.Stepping.{place, outset, NextOr, Walked, Stands}
 use Rattle.move_legal.specs.inner.Legal.{Sized}
-use Rattle.move_order.proofs.Order.{place-same}
-use Rattle.move_order.proofs.Listing.{candidate-fields, candidate-low, past-outset}
+use Rattle.move_order.proofs.Count.{few-candidates}
+use Rattle.move_order.proofs.Listing.{candidates-walked, stands-next}
 use Rattle.move_try.specs.inner.Trying.{NumbersAre}
 use Rattle.move_best.specs.declared.Choice.{Choice}
-use Rattle.move_best.specs.inner.Choosing.{FoundOr, choiceOf, noNumbers}
+use Rattle.move_best.proofs.Placing.{no-places, place-more}
+use Rattle.move_best.specs.inner.Choosing.{choiceOf, noNumbers, rankedBy, BestIs, PlacesAre, placesWith}
 
--- the best of the candidates passed
-unfoldable pub BestSo : Bool → Plan → ℕ → List ℕ → List ℕ → Choice → Type 0
-BestSo true P kinds own before b =
-    Candidate P kinds (inMasks own) (b .m) × NumbersAre P own before (b .m) (b .numbers)
-    × ((n : Move) → Candidate P kinds (inMasks own) n → place n < place (b .m) → b .numbers .value < rootAfter P n own before)
-BestSo false P kinds own before b = b .found ≡ false
+-- the choice between the best so far and a candidate
+module _ (best : Choice) (m : Move) (a : After) where
+  pub ranked-first : best .count ≡ 0 → rankedBy best m a ≡ choiceOf 1 m a
+  unfolding rankedBy
+  ranked-first e = rw (eq-eqb (best .count) 0 e)
 
--- a root that the best so far beats or equals; before the first candidate none was passed
-unfoldable pub Beats : Bool → ℕ → ℕ → Type 0
-Beats true x y = x ≤ y
-Beats false x y = ⊥
+  pub ranked-lower : a .value < best .numbers .value → rankedBy best m a ≡ choiceOf 1 m a
+  unfolding rankedBy
+  ranked-lower l = rw (lt-ltb (a .value) (best .numbers .value) l, or-true (eqb (best .count) 0))
+    where
+      or-true : (b : Bool) → (b || true) ≡ true
+      or-true true = refl
+      or-true false = refl
+
+  pub ranked-equal : best .count ≢ 0 → a .value ≡ best .numbers .value → rankedBy best m a ≡ choiceOf (best .count + 1) (best .m) (best .numbers)
+  unfolding rankedBy
+  ranked-equal c e = rw (ne-eqb (best .count) 0 c, le-ltb (a .value) (best .numbers .value) (omega arith), eq-eqb (a .value) (best .numbers .value) e)
+
+  pub ranked-higher : best .count ≢ 0 → best .numbers .value ≤ a .value → a .value ≢ best .numbers .value → rankedBy best m a ≡ best
+  unfolding rankedBy
+  ranked-higher c l d = rw (ne-eqb (best .count) 0 c, le-ltb (a .value) (best .numbers .value) l, ne-eqb (a .value) (best .numbers .value) d)
+
+module _ (P : Plan) (own : State) where
+  abbrev root : Move → ℕ
+  root m = rootAfter P m (own .masks) (own .cells)
+
+  -- What one candidate more makes of the best so far, and of their places.
+  pub record OneMore (old new : List Move) (m : Move) (value : ℕ) (r : Choice) : Type 0 where
+    pub best-is : BestIs new P own r
+    pub some : 1 ≤ r .count
+    pub places : (ts : List ℕ) → PlacesAre old ts → PlacesAre new (placesWith r m value ts)
+
+  module _ (m : Move) (a : After) (n : NumbersAre P (own .masks) (own .cells) m a) where
+    alone-more : (old : List Move) → OneMore old (m ∷ []) m (a .value) (choiceOf 1 m a)
+    unfolding BestIs choiceOf placesWith
+    alone-more old = record {
+      best-is = (refl, refl, n);
+      some = omega arith;
+      places = λ ts h. subst (λ (b : Bool). PlacesAre (m ∷ []) (cond b (set ts 0 (place m)) ts)) (sym (eq-eqb (a .value) (a .value) refl))
+          (place-more [] m ts (no-places ts));
+    }
+
+    module _ (x : Move) (xs : List Move) (best : Choice) (b : BestIs (x ∷ xs) P own best) where
+      count-is : best .count ≡ suc (length xs)
+      unfolding BestIs
+      count-is = b .0
+
+      value-is : best .numbers .value ≡ root x
+      unfolding BestIs
+      value-is = b .2 .after-is
+
+      equal-more : a .value ≡ best .numbers .value → OneMore (x ∷ xs) ((x ∷ xs) ++ m ∷ []) m (a .value) (choiceOf (best .count + 1) (best .m) (best .numbers))
+      unfolding BestIs choiceOf placesWith
+      equal-more e = record {
+        best-is = (omega (arith, b .0, length-append xs (m ∷ [])), b .1, b .2);
+        some = omega arith;
+        places = λ ts h. subst (λ (c : Bool). PlacesAre ((x ∷ xs) ++ m ∷ []) (cond c (set ts (best .count + 1 - 1) (place m)) ts)) (sym (eq-eqb (a .value) (best .numbers .value) e))
+            (subst (λ (j : ℕ). PlacesAre ((x ∷ xs) ++ m ∷ []) (set ts j (place m))) (let q = b .0 in omega arith) (place-more (x ∷ xs) m ts h));
+      }
+
+      higher-more : best .numbers .value < a .value → OneMore (x ∷ xs) (x ∷ xs) m (a .value) best
+      unfolding placesWith
+      higher-more l = record {
+        best-is = b;
+        some = omega (arith, count-is);
+        places = λ ts h. subst (λ (c : Bool). PlacesAre (x ∷ xs) (cond c (set ts (best .count - 1) (place m)) ts))
+            (sym (ne-eqb (a .value) (best .numbers .value) (λ e. omega arith))) h;
+      }
+
+    ranked-is : (passed old : List Move) (best : Choice) → bestOf root passed ≡ old → BestIs old P own best
+        → OneMore old (bestOf root (passed ++ m ∷ [])) m (a .value) (rankedBy best m a)
+    ranked-is passed [] best e b =
+        let none = best-none root passed e in
+        let count : best .count ≡ 0 = unfold BestIs in b in
+        subst (λ (ms : List Move). OneMore [] ms m (a .value) (rankedBy best m a))
+        (sym (ap (λ (ks : List Move). bestOf root (ks ++ m ∷ [])) none ∙ best-first root m))
+        (subst (OneMore [] (m ∷ []) m (a .value))
+        (sym (ranked-first best m a count)) (alone-more []))
+    ranked-is passed (x ∷ xs) best e b = go (decLt (root m) (root x)) (decLt (root x) (root m))
+      where
+        some : best .count ≢ 0
+        some z = let c = count-is x xs best b in omega (arith, c, z)
+
+        go : Dec (root m < root x) → Dec (root x < root m) → OneMore (x ∷ xs) (bestOf root (passed ++ m ∷ [])) m (a .value) (rankedBy best m a)
+        go (yes l) w =
+            subst (λ (ms : List Move). OneMore (x ∷ xs) ms m (a .value) (rankedBy best m a)) (sym (best-lower root passed x xs e m l))
+            (subst (OneMore (x ∷ xs) (m ∷ []) m (a .value))
+            (sym (ranked-lower best m a (omega (arith, l, n .after-is, value-is x xs best b)))) (alone-more (x ∷ xs)))
+        go (no l) (yes w) =
+            let v : best .numbers .value < a .value = omega (arith, w, n .after-is, value-is x xs best b) in
+            subst (λ (ms : List Move). OneMore (x ∷ xs) ms m (a .value) (rankedBy best m a)) (sym (best-higher root passed x xs e m w))
+            (subst (OneMore (x ∷ xs) (x ∷ xs) m (a .value)) (sym (ranked-higher best m a some (omega (arith, v)) (λ e. omega (arith, v, e)))) (higher-more x xs best b v))
+        go (no l) (no w) =
+            let v : a .value ≡ best .numbers .value = omega (arith, l, w, n .after-is, value-is x xs best b) in
+            subst (λ (ms : List Move). OneMore (x ∷ xs) ms m (a .value) (rankedBy best m a)) (sym (best-equal root passed x xs e m (omega (arith, l, w))))
+            (subst (OneMore (x ∷ xs) ((x ∷ xs) ++ m ∷ []) m (a .value)) (sym (ranked-equal best m a some v)) (equal-more x xs best b v))
 
 -- The state of a search that stands at a candidate, or has passed them all.
-pub record Sought (P : Plan) (kinds : ℕ) (own before : List ℕ) (best : Choice) (at : Next) : Type 0 where
-  pub best-so : BestSo (best .found) P kinds own before best
-  pub here : at .found ≡ true → Candidate P kinds (inMasks own) (at .m)
-  pub passed : (m : Move) → Candidate P kinds (inMasks own) m → (at .found ≡ true → place m < place (at .m))
-      → Beats (best .found) (best .numbers .value) (rootAfter P m own before)
+pub record Sought (P : Plan) (kinds : ℕ) (own : State) (best : Choice) (places : List ℕ) (at : Next) : Type 0 where
+  pub passed : List Move
+  pub rest : List Move
+  pub joined : passed ++ rest ≡ candidates P kinds (inMasks (own .masks))
+  pub stands : Stands (at .found) P kinds (own .masks) (at .m) rest
+  pub best-is : BestIs (bestOf (root P own) passed) P own best
+  pub places-are : PlacesAre (bestOf (root P own) passed) places
 
--- what the choice between the best so far and a candidate's root leaves
-beaten : (f : Bool) (x a y : ℕ) → (f && leb x a) ≡ false → Beats f x y → a < y
-unfolding Beats
-beaten true x a y e b = let l = leb-false x a e in omega (arith, l, b)
-beaten false x a y e b = absurd b
-
-unbeaten : (f : Bool) (x a y : ℕ) → (f && leb x a) ≡ true → Beats f x y → x ≤ y
-unfolding Beats
-unbeaten true x a y e b = b
-unbeaten false x a y e b = absurd b
-
--- how much of the order is left
-unfoldable pub left : Bool → ℕ → ℕ
-left true p = suc (6291456 - p)
-left false p = 0
-
-module _ (P : Plan) (Z : Sized (P .ports) (P .sets)) (kinds : ℕ) (own before : List ℕ) where
-  -- what stands before the next candidate does not stand after this one
-  passed-le : (f : Bool) (m x : Move) → NextOr f P kinds own m x → (n : Move) → Candidate P kinds (inMasks own) n → (f ≡ true → place n < place x) → place n ≤ place m
-  unfolding NextOr
-  passed-le true m x F n c h = go (decLt (place m) (place n))
-    where
-      go : Dec (place m < place n) → place n ≤ place m
-      go (yes l) = let a = F .nearest n c l in let b = h refl in absurd (omega (arith, a, b))
-      go (no l) = omega arith
-  passed-le false m x N n c h = N .all-passed n c
-
-  next-here : (f : Bool) (m x : Move) → NextOr f P kinds own m x → f ≡ true → Candidate P kinds (inMasks own) x
-  unfolding NextOr
-  next-here true m x F e = F .candidate
-  next-here false m x N e = absurd (false≢true e)
-
-  pub left-less : (f : Bool) (m x : Move) → NextOr f P kinds own m x → place m < 6291456 → left f (place x) < left true (place m)
-  unfolding NextOr left
-  left-less true m x F h = let l = F .later in omega (arith, l, h)
-  left-less false m x N h = omega arith
-
+module _ (P : Plan) (Z : Sized (P .ports) (P .sets)) (kinds : ℕ) (own : State) where
   -- before the first candidate
-  pub sought-first : (at : Next) → NextOr (at .found) P kinds own outset (at .m) → Sought P kinds own before (choiceOf false outset noNumbers) at
-  unfolding choiceOf BestSo outset noMove place
-  sought-first at N = record {
-    best-so = refl;
-    here = next-here (at .found) outset (at .m) N;
-    passed = λ n c h.
-        let a = passed-le (at .found) outset (at .m) N n c h in
-        let b = past-outset P Z n (candidate-fields P (inMasks own) n (c .is-legal) .kind-low) in
-        absurd (omega (arith, a, b));
+  pub sought-first : (places : List ℕ) (at : Next) → NextOr (at .found) P kinds (own .masks) outset (at .m) → Sought P kinds own (choiceOf 0 outset noNumbers) places at
+  unfolding bestOf kept BestIs choiceOf
+  sought-first places at N = record {
+    passed = [];
+    rest = candidates P kinds (inMasks (own .masks));
+    joined = refl;
+    stands = stands-next P Z kinds (own .masks) outset (at .m) (candidates P kinds (inMasks (own .masks))) (at .found) (candidates-walked P Z kinds (own .masks)) N;
+    best-is = refl;
+    places-are = no-places places;
   }
 
-  -- from one candidate to the next, with a choice that beats the old one and this one
-  sought-on : (best new : Choice) (at next : Next) → Sought P kinds own before best at → at .found ≡ true → NextOr (next .found) P kinds own (at .m) (next .m)
-      → BestSo (new .found) P kinds own before new → new .found ≡ true → new .numbers .value ≤ rootAfter P (at .m) own before
-      → ((y : ℕ) → Beats (best .found) (best .numbers .value) y → new .numbers .value ≤ y) → Sought P kinds own before new next
-  unfolding Beats
-  sought-on best new at next S t N B f l h = record {
-    best-so = B;
-    here = next-here (next .found) (at .m) (next .m) N;
-    passed = λ n c g. subst (λ (x : Bool). Beats x (new .numbers .value) (rootAfter P n own before)) (sym f)
-        (go n c (passed-le (next .found) (at .m) (next .m) N n c g) (decLt (place n) (place (at .m))));
-  }
-    where
-      go : (n : Move) → Candidate P kinds (inMasks own) n → place n ≤ place (at .m) → Dec (place n < place (at .m)) → new .numbers .value ≤ rootAfter P n own before
-      go n c a (yes b) = h (rootAfter P n own before) (S .passed n c (λ y. b))
-      go n c a (no b) =
-          let same : at .m ≡ n = place-same (at .m) n (candidate-low P Z (inMasks own) (at .m) (S .here t .is-legal)) (candidate-low P Z (inMasks own) n (c .is-legal)) (omega arith) in
-          subst (λ (y : Move). new .numbers .value ≤ rootAfter P y own before) same l
+  -- so many are never the best
+  few : (ms rest : List Move) (best : Choice) → ms ++ rest ≡ candidates P kinds (inMasks (own .masks)) → (bs : List Move) → length bs ≤ length ms → BestIs bs P own best
+      → best .count ≤ 21504
+  unfolding BestIs
+  few ms rest best e [] l b = omega arith
+  few ms rest best e (x ∷ xs) l b =
+      omega (arith, few-candidates P Z kinds (inMasks (own .masks)), ap length e, length-append ms rest, b .0, l)
 
-  pub sought-next : (best new : Choice) (at next : Next) (a : After) → Sought P kinds own before best at → at .found ≡ true → NumbersAre P own before (at .m) a
-      → new ≡ cond (best .found && leb (best .numbers .value) (a .value)) best (choiceOf true (at .m) a)
-      → NextOr (next .found) P kinds own (at .m) (next .m) → Sought P kinds own before new next
-  unfolding choiceOf BestSo
-  sought-next best new at next a S t e b N = go (best .found && leb (best .numbers .value) (a .value)) refl
-    where
-      settled : (c : Bool) → (best .found && leb (best .numbers .value) (a .value)) ≡ c → cond c best (choiceOf true (at .m) a) ≡ new
-      settled c q = sym (b ∙ ap (λ (f : Bool). cond f best (choiceOf true (at .m) a)) q)
+  module _ (best : Choice) (places : List ℕ) (at : Next) (S : Sought P kinds own best places at) where
+    pub few-best : best .count ≤ 21504
+    few-best = few (S .passed) (S .rest) best (S .joined) (bestOf (root P own) (S .passed)) (best-shorter (root P own) (S .passed)) (S .best-is)
 
-      go : (c : Bool) → (best .found && leb (best .numbers .value) (a .value)) ≡ c → Sought P kinds own before new next
-      go true q =
-          let l = leb-true (best .numbers .value) (a .value) (and-right (best .found) _ q) in
-          subst (λ (y : Choice). Sought P kinds own before y next) (settled true q)
-          (sought-on best best at next S t N (S .best-so) (and-left (best .found) _ q) (omega (arith, l, e .after-is))
-          (λ y h. unbeaten (best .found) (best .numbers .value) (a .value) y q h))
-      go false q =
-          subst (λ (y : Choice). Sought P kinds own before y next) (settled false q)
-          (sought-on best (choiceOf true (at .m) a) at next S t N
-          (S .here t, e, (λ n c h. beaten (best .found) (best .numbers .value) (a .value) (rootAfter P n own before) q (S .passed n c (λ z. h)))) refl
-          (omega (arith, e .after-is)) (λ y h. let l = beaten (best .found) (best .numbers .value) (a .value) y q h in omega (arith, l)))
+    module _ (t : at .found ≡ true) where
+      -- what is left begins with the candidate here
+      begins : (rest : List Move) (f : Bool) → f ≡ true → Stands f P kinds (own .masks) (at .m) rest
+          → (ms : List Move) × (rest ≡ at .m ∷ ms) × Walked P kinds (own .masks) (at .m) ms
+      unfolding Stands
+      begins [] true e s = absurd s
+      begins (n ∷ ms) true e s = (ms, ap (λ (y : Move). y ∷ ms) (sym (s .0)), s .1)
+      begins rest false e s = absurd (true≢false (sym e))
 
-  found-or : (f : Bool) (b : Choice) → BestSo f P kinds own before b → ((m : Move) → Candidate P kinds (inMasks own) m → Beats f (b .numbers .value) (rootAfter P m own before))
-      → FoundOr f (Candidate P kinds (inMasks own)) P own before b
-  unfolding BestSo FoundOr Beats
-  found-or true b h l = record { candidate = h .0; numbers = h .1; least = l; earliest = h .2 }
-  found-or false b e l = l
+      here : (ms : List Move) × (S .rest ≡ at .m ∷ ms) × Walked P kinds (own .masks) (at .m) ms
+      here = begins (S .rest) (at .found) t (S .stands)
 
-  -- past the last
-  pub sought-end : (best : Choice) (at : Next) → Sought P kinds own before best at → at .found ≡ false
-      → FoundOr (best .found) (Candidate P kinds (inMasks own)) P own before best
-  sought-end best at S e = found-or (best .found) best (S .best-so) (λ m c. S .passed m c (λ t. absurd (true≢false (sym t ∙ e))))
+      pub here-candidate : Candidate P kinds (inMasks (own .masks)) (at .m)
+      here-candidate =
+          in-candidate P kinds (inMasks (own .masks)) (at .m)
+          (subst (List·Memᴰ (at .m)) (S .joined) (Memᴰ·append-right (S .passed) (subst (List·Memᴰ (at .m)) (sym (here .1)) (List·Memᴰ·head refl))))
+
+      -- from one candidate to the next
+      pub sought-next : (a : After) (new : Choice) (next : Next) → NumbersAre P (own .masks) (own .cells) (at .m) a → new ≡ rankedBy best (at .m) a
+          → NextOr (next .found) P kinds (own .masks) (at .m) (next .m) → Sought P kinds own new (placesWith new (at .m) (a .value) places) next
+      sought-next a new next n e N =
+          let r = subst (OneMore P own (bestOf (root P own) (S .passed)) (bestOf (root P own) (S .passed ++ at .m ∷ [])) (at .m) (a .value)) (sym e)
+          (ranked-is P own (at .m) a n (S .passed) (bestOf (root P own) (S .passed)) best refl (S .best-is)) in
+          record {
+            passed = S .passed ++ at .m ∷ [];
+            rest = here .0;
+            joined = append-assoc (S .passed) (at .m ∷ []) (here .0) ∙ ap (λ (ks : List Move). S .passed ++ ks) (sym (here .1)) ∙ S .joined;
+            stands = stands-next P Z kinds (own .masks) (at .m) (next .m) (here .0) (next .found) (here .2) N;
+            best-is = r .best-is;
+            places-are = r .places places (S .places-are);
+          }
+
+      pub ranked-some : (a : After) → NumbersAre P (own .masks) (own .cells) (at .m) a → 1 ≤ rankedBy best (at .m) a .count
+      ranked-some a n = ranked-is P own (at .m) a n (S .passed) (bestOf (root P own) (S .passed)) best refl (S .best-is) .some
+
+    -- past the last
+    ended : (rest : List Move) (f : Bool) → f ≡ false → Stands f P kinds (own .masks) (at .m) rest → rest ≡ []
+    unfolding Stands
+    ended rest true e s = absurd (true≢false e)
+    ended rest false e s = s
+
+    pub sought-end : at .found ≡ false → BestIs (bestMoves P kinds own) P own best × PlacesAre (bestMoves P kinds own) places
+    unfolding bestMoves
+    sought-end e =
+        let all : S .passed ≡ candidates P kinds (inMasks (own .masks)) =
+        sym (append-nil (S .passed)) ∙ ap (λ (ks : List Move). S .passed ++ ks) (sym (ended (S .rest) (at .found) e (S .stands))) ∙ S .joined in (
+          subst (λ (ms : List Move). BestIs (bestOf (root P own) ms) P own best) all (S .best-is),
+          subst (λ (ms : List Move). PlacesAre (bestOf (root P own) ms) places) all (S .places-are),
+        )

@@ -10,7 +10,7 @@ use Rattle.logic.specs.Formula.{Plan}
 use Rattle.logic.specs.Configuration.{inMasks}
 use Rattle.logic.specs.Moves.{moveKind, known, fits, legal, kindWeight, ofKinds}
 use Rattle.logic.proofs.Lists.{and-left, and-right, and-true}
-use Rattle.contracts.specs.ImproveCall.{Candidate}
+use Rattle.contracts.specs.MoveOrder.{Candidate}
 use Rattle.move_order.specs.inner.Stepping.{Suits}
 use Rattle.move_legal.specs.inner.Legal.{Fields, Decides}
 use Rattle.move_legal.proofs.Known.{fields-known, fields-here, known-fields, fields-there}

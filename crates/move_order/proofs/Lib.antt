@@ -1,6 +1,6 @@
 -- Laws.
+pub mod Count
 pub mod Known
-pub mod Listed
 pub mod Listing
 pub mod Order
 pub mod Stepping

@@ -1,8 +1,8 @@
--- The list of candidates: what is in it, its order, and the walk through it. Assumes nothing.
-use mathlib.Core.Path.{_≡_, refl, sym, ap, ap₂, _∙_, subst}
-use mathlib.Core.Logic.{_⊎_, inl, inr, _↔_}
-use mathlib.Core.Bool.{Bool, true, false, cond, true≢false}
-use mathlib.Core.List.{List, [], _∷_, _++_, List·Memᴰ, List·Memᴰ·head, List·Memᴰ·tail, List·Memᴰ·cases-cons, List·Memᴰ·not-nil, Memᴰ·append-left, Memᴰ·append-right}
+-- The list of candidates: its order, and the walk through it. Assumes nothing.
+use mathlib.Core.Path.{_≡_, refl, sym, ap, ap₂, subst}
+use mathlib.Core.Logic.{_⊎_, inl, inr}
+use mathlib.Core.Bool.{Bool, true, false, cond}
+use mathlib.Core.List.{List, [], _∷_, _++_, List·Memᴰ, List·Memᴰ·head, List·Memᴰ·tail, List·Memᴰ·cases-cons, List·Memᴰ·not-nil}
 use Prim.Native.Nat.{ℕ, zero, suc, _+_, _*_, _≤_, _<_}
 use native.Mathlib.Omega.{arith}
 use native.Mathlib.Decide.{decLt}
@@ -11,77 +11,14 @@ use Rattle.logic.specs.declared.Move.{Move}
 use Rattle.logic.specs.Formula.{Plan}
 use Rattle.logic.specs.Configuration.{Sets, inMasks}
 use Rattle.logic.specs.Penalty.{eachPort}
-use Rattle.logic.specs.Moves.{noMove, known, fits, legal, ofKinds}
-use Rattle.logic.proofs.Lists.{and-left, and-right, and-true}
-use Rattle.contracts.specs.ImproveCall.{Candidate}
-use Rattle.move_order.specs.Candidates.{fieldsAre, allMoves, kept, candidates, Rising, Once}
+use Rattle.logic.specs.Moves.{noMove, known, fits, legal}
+use Rattle.logic.proofs.Lists.{and-left}
+use Rattle.contracts.specs.MoveOrder.{fieldsAre, allMoves, kept, candidates, Candidate, Rising, Once}
+use Rattle.contracts.proofs.Candidates.{candidates-are, end-over}
 use Rattle.move_legal.specs.inner.Legal.{tEnd, qEnd, Fields, Sized}
-use Rattle.move_order.specs.inner.Stepping.{place, Begins, Follows, outset, Walked}
+use Rattle.move_order.specs.inner.Stepping.{place, Begins, Follows, NextOr, outset, Walked, Stands, Low}
 use Rattle.move_legal.proofs.Known.{known-fields}
-use Rattle.move_order.proofs.Order.{Low, fields-low, place-same, place-earlier}
-
--- what is kept of a list
-kept-head : (f : Move → Bool) (m n : Move) (ms : List Move) → (List·Memᴰ m ms → f m ≡ true) → f n ≡ true → (m ≡ n) ⊎ List·Memᴰ m ms → f m ≡ true
-kept-head f m n ms below e (inl h) = ap f h ∙ e
-kept-head f m n ms below e (inr h) = below h
-
-kept-one : (f : Move → Bool) (m n : Move) (ms : List Move) → (List·Memᴰ m ms → f m ≡ true)
-    → (b : Bool) → f n ≡ b → List·Memᴰ m (cond b (n ∷ ms) ms) → f m ≡ true
-kept-one f m n ms below true e d = kept-head f m n ms below e (List·Memᴰ·cases-cons d)
-kept-one f m n ms below false e d = below d
-
-kept-is : (f : Move → Bool) (m : Move) (ms : List Move) → List·Memᴰ m (kept f ms) → f m ≡ true
-unfolding kept
-kept-is f m [] d = absurd (List·Memᴰ·not-nil d)
-kept-is f m (n ∷ ms) d = kept-one f m n (kept f ms) (kept-is f m ms) (f n) refl d
-
-keep-one : (f : Move → Bool) (m n : Move) (ms ks : List Move) → f m ≡ true → (List·Memᴰ m ms → List·Memᴰ m ks)
-    → (b : Bool) → f n ≡ b → (m ≡ n) ⊎ List·Memᴰ m ms → List·Memᴰ m (cond b (n ∷ ks) ks)
-keep-one f m n ms ks t below true e (inl h) = List·Memᴰ·head h
-keep-one f m n ms ks t below true e (inr h) = List·Memᴰ·tail (below h)
-keep-one f m n ms ks t below false e (inl h) = absurd (true≢false (sym t ∙ ap f h ∙ e))
-keep-one f m n ms ks t below false e (inr h) = below h
-
-keep : (f : Move → Bool) (m : Move) (ms : List Move) → f m ≡ true → List·Memᴰ m ms → List·Memᴰ m (kept f ms)
-unfolding kept
-keep f m [] t d = absurd (List·Memᴰ·not-nil d)
-keep f m (n ∷ ms) t d = keep-one f m n ms (kept f ms) t (keep f m ms t) (f n) refl (List·Memᴰ·cases-cons d)
-
--- what stands in one of some lists in a row
-in-each : (n : ℕ) (f : ℕ → List Move) (m : Move) (i : ℕ) → i < n → List·Memᴰ m (f i) → List·Memᴰ m (eachPort n f)
-unfolding eachPort
-in-each zero f m i h d = absurd (omega arith)
-in-each (suc n) f m i h d = go (decLt i n) (λ (l : i < n). in-each n f m i l d)
-  where
-    go : Dec (i < n) → (i < n → List·Memᴰ m (eachPort n f)) → List·Memᴰ m (eachPort n f ++ f n)
-    go (yes l) below = Memᴰ·append-left (f n) (below l)
-    go (no l) below =
-        let e : i ≡ n = omega arith in
-        Memᴰ·append-right (eachPort n f) (subst (λ (j : ℕ). List·Memᴰ m (f j)) e d)
-
-end-over : (b : Bool) (x y n : ℕ) → y < n → x < cond b n 1 → x < n
-end-over true x y n h l = l
-end-over false x y n h l = omega arith
-
-in-all : (P : Plan) (m : Move) → Fields (P .ports) (P .sets) m → List·Memᴰ m (allMoves P)
-unfolding allMoves fieldsAre tEnd qEnd
-in-all P m F =
-    in-each _ _ m (m .kind) (omega (arith, F .kind-high))
-    (in-each (P .sets) _ m (m .s) (F .s-below)
-    (in-each (P .sets) _ m (m .t) (end-over (eqb (m .kind) 3) (m .t) (m .s) (P .sets) (F .s-below) (F .t-below))
-    (in-each (P .ports) _ m (m .p) (F .p-below)
-    (in-each (P .ports) _ m (m .q) (end-over (eqb (m .kind) 4) (m .q) (m .p) (P .ports) (F .p-below) (F .q-below))
-    (List·Memᴰ·head refl)))))
-
--- The list has exactly the legal moves of the kinds.
-pub candidates-are : (P : Plan) (kinds : ℕ) (k : Sets) (m : Move)
-    → List·Memᴰ m (candidates P kinds k) ↔ ((ofKinds kinds m ≡ true) × (legal P k m ≡ true))
-unfolding candidates legal
-candidates-are P kinds k m = (
-  (λ d. let h = kept-is _ m (allMoves P) d in (and-left (ofKinds kinds m) (legal P k m) h, and-right (ofKinds kinds m) (legal P k m) h)),
-  (λ h. keep _ m (allMoves P) (and-true (ofKinds kinds m) (legal P k m) (h .0) (h .1))
-      (in-all P m (known-fields P m (and-left (known P m) (fits k m) (h .1))))),
-)
+use Rattle.move_order.proofs.Order.{fields-low, place-same, place-earlier}
 
 -- numbers that rise, from a on and below b
 unfoldable RisingIn : ℕ → ℕ → List Move → Type 0
@@ -270,6 +207,17 @@ module _ (P : Plan) (Z : Sized (P .ports) (P .sets)) where
 
   pub walked-candidates : (kinds : ℕ) (own : List ℕ) (ms : List Move) → Walked P kinds own outset ms → ms ≡ candidates P kinds (inMasks own)
   walked-candidates kinds own ms w = walked-same kinds own outset ms (candidates P kinds (inMasks own)) w (candidates-walked kinds own)
+
+  -- a step from m goes to the first of what is left
+  pub stands-next : (kinds : ℕ) (own : List ℕ) (m x : Move) (ms : List Move) (f : Bool) → Walked P kinds own m ms → NextOr f P kinds own m x → Stands f P kinds own x ms
+  unfolding Walked NextOr Stands
+  stands-next kinds own m x [] true v F = let a = v .all-passed x (F .candidate) in let b = F .later in absurd (omega (arith, a, b))
+  stands-next kinds own m x [] false v N = refl
+  stands-next kinds own m x (n ∷ ms) true v F =
+      let e = follows-same kinds own m x n F (v .0) in
+      (e, subst (λ (y : Move). Walked P kinds own y ms) (sym e) (v .1))
+  stands-next kinds own m x (n ∷ ms) false v N =
+      let a = N .all-passed n (v .0 .candidate) in let b = v .0 .later in absurd (omega (arith, a, b))
 
   -- how far the candidates go
   pub candidate-high : (k : Sets) (m : Move) → legal P k m ≡ true → place m < 6291456

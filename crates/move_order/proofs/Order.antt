@@ -8,15 +8,8 @@ use native.Mathlib.Decide.{decLt}
 use lib.Dec.{eqb}
 use Rattle.logic.specs.declared.Move.{Move}
 use Rattle.move_legal.specs.inner.Legal.{tEnd, qEnd, Fields, Sized}
-use Rattle.move_order.specs.inner.Stepping.{place, Position}
-use Rattle.move_order.specs.Candidates.{fieldsAre, Earlier}
-
--- sets below 16 and ports below 64
-pub record Low (m : Move) : Type 0 where
-  pub s-low : m .s < 16
-  pub t-low : m .t < 16
-  pub p-low : m .p < 64
-  pub q-low : m .q < 64
+use Rattle.move_order.specs.inner.Stepping.{place, Low, Position}
+use Rattle.contracts.specs.MoveOrder.{fieldsAre, Earlier}
 
 pub end-low : (b : Bool) (n : ℕ) → 1 ≤ n → cond b n 1 ≤ n
 end-low true n h = omega arith

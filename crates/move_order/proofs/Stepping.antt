@@ -8,11 +8,11 @@ use native.Mathlib.Decide.{decLt, ℕ-discrete}
 use lib.Dec.{eqb}
 use Rattle.logic.specs.declared.Move.{Move}
 use Rattle.logic.specs.Moves.{ofKinds, moveKind, kindWeight}
-use Rattle.move_order.specs.Candidates.{fieldsAre}
-use Rattle.move_order.specs.inner.Stepping.{place, Position, Begins, BeginsOver, SizedOver, Suits, NextOr, GivesNext, StepsOn}
+use Rattle.contracts.specs.MoveOrder.{fieldsAre}
+use Rattle.move_order.specs.inner.Stepping.{place, Position, Begins, BeginsOver, SizedOver, Suits, NextOr, GivesNext, StepsOn, Low}
 use Rattle.move_legal.specs.inner.Legal.{tEnd, qEnd, Fields}
 use Rattle.move_order.proofs.Known.{suits-candidate, candidate-suits}
-use Rattle.move_order.proofs.Order.{Low, end-low, fields-low, position-low, place-same}
+use Rattle.move_order.proofs.Order.{end-low, fields-low, position-low, place-same}
 
 -- a last digit that cannot rise carries into the digits before it
 carry-64 : (a b x y : ℕ) → a * 64 + x < b * 64 + y → y ≤ x → suc a ≤ b

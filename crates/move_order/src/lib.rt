@@ -8,8 +8,8 @@ use move_legal::t_end;
 ghost use mathlib.Core.Path.{_≡_};
 ghost use Prim.Native.Nat.{_/_, _%_};
 ghost use lib.Dec.{eqb};
-ghost use Rattle.logic.specs.Moves.{moveKind, kindWeight};
-ghost use Rattle.move_order.specs.Candidates.{fieldsAre};
+ghost use Rattle.logic.specs.Moves.{moveKind, kindWeight, kindsKnown};
+ghost use Rattle.contracts.specs.MoveOrder.{fieldsAre};
 ghost use Rattle.move_order.specs.inner.Stepping.{Suits, Begins, BeginsOver, SizedOver, StepsOn, StepsAny, outset, GivesNext};
 ghost use Rattle.move_legal.specs.inner.Legal.{Decides};
 
@@ -17,6 +17,16 @@ ghost use Rattle.move_legal.specs.inner.Legal.{Decides};
 pub struct Next {
     pub found: bool,
     pub m: Move,
+}
+
+// Whether 14 does not apply to a kinds sum.
+pub fn kinds_known(kinds: u32) -> bool
+    ensures { λ r. ⌜ r ≡ kindsKnown kinds ⌝ }
+{
+    if 1 <= kinds {
+        return kinds <= 15;
+    }
+    false
 }
 
 // Whether a kind is one of those in the sum.

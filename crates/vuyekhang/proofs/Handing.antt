@@ -2,7 +2,6 @@
 use mathlib.Core.Path.{sym, subst}
 use mathlib.Core.List.{List}
 use Prim.Native.Nat.{ℕ}
-use lib.ListN.{length}
 use Rattle.table_format.specs.Decode.{Decoded}
 use Rattle.contracts.specs.declared.Answer.{Answer}
 use Rattle.contracts.specs.Read.{ReadValues, readValues, ReadPromise}
@@ -10,16 +9,19 @@ use Rattle.contracts.specs.declared.Loaded.{Loaded}
 use Rattle.contracts.specs.State.{State}
 use Rattle.contracts.specs.declared.Moved.{Moved}
 use Rattle.contracts.specs.declared.Improved.{Improved}
+use Rattle.contracts.specs.declared.Counted.{Counted}
 use Rattle.contracts.specs.Load.{LoadValues, loadValues, LoadPromise}
 use Rattle.contracts.specs.MoveCall.{MoveValues, moveValues, MovedAs, MovePromise}
 use Rattle.contracts.specs.TrialCall.{ScratchAfter}
-use Rattle.contracts.specs.ImproveCall.{improvedNumber, Improves}
+use Rattle.contracts.specs.ImproveCall.{ImproveValues, improveValues, ImprovePromise}
+use Rattle.contracts.specs.BestCall.{CountValues, Listing, countValues, ListPromise}
 use Rattle.answers.specs.declared.ReadAnswer.{ReadAnswer}
 use Rattle.answers.specs.declared.LoadAnswer.{LoadAnswer}
 use Rattle.answers.specs.declared.MoveAnswer.{MoveAnswer}
 use Rattle.answers.specs.declared.ImproveAnswer.{ImproveAnswer}
+use Rattle.answers.specs.declared.CountAnswer.{CountAnswer}
 use Rattle.answers.specs.Boundary.{ReadFields, ReadGives, LoadFields, LoadGives}
-use Rattle.answers.specs.Moving.{MoveFields, MoveGives, TrialGives, ImproveFields, ImproveGives}
+use Rattle.answers.specs.Moving.{MoveFields, MoveGives, TrialGives, ImproveFields, ImproveGives, CountFields, ListGives}
 
 -- an answer handed on field by field
 pub read-gives : (a : Answer) (t : List ℕ) (given : ReadValues × List ℕ) (r : ReadAnswer)
@@ -41,13 +43,22 @@ trial-gives d given scratch scratch′ a r p w f =
       scratch-is = subst (λ (x : ℕ). ScratchAfter d x scratch scratch′) (sym (f .number-is)) w;
     }
 
-pub improve-gives : (d : Decoded) (kinds : ℕ) (s : State) (scratch : List ℕ) (s′ : State) (scratch′ : List ℕ) (a : Improved) (r : ImproveAnswer)
-    → Improves d kinds s (length scratch) a s′ → ScratchAfter d (improvedNumber a) scratch scratch′ → ImproveFields a r
-    → ImproveGives d kinds s scratch r s′ scratch′
-improve-gives d kinds s scratch s′ scratch′ a r i w f =
+pub improve-gives : (d : Decoded) (given : ImproveValues × State) (s′ : State) (scratch scratch′ : List ℕ) (a : Improved) (r : ImproveAnswer)
+    → ImprovePromise given a s′ → ScratchAfter d (improveValues a .number) scratch scratch′ → ImproveFields (improveValues a) r
+    → ImproveGives d given r s′ scratch scratch′
+improve-gives d given s′ scratch scratch′ a r p w f =
     record {
-      answer = a;
-      fields = f;
-      improves = i;
+      fields = subst (λ (v : ImproveValues). ImproveFields v r) (p .values-are) f;
+      tables-are = p .tables-are;
+      scratch-is = subst (λ (x : ℕ). ScratchAfter d x scratch scratch′) (sym (f .number-is)) w;
+    }
+
+pub list-gives : (d : Decoded) (given : Listing) (list list′ : List (List ℕ)) (scratch scratch′ : List ℕ) (a : Counted) (r : CountAnswer)
+    → ListPromise given a list list′ → ScratchAfter d (countValues a .number) scratch scratch′ → CountFields (countValues a) r
+    → ListGives d given r list list′ scratch scratch′
+list-gives d given list list′ scratch scratch′ a r p w f =
+    record {
+      fields = subst (λ (v : CountValues). CountFields v r) (p .values-are) f;
+      list-is = p .list-is;
       scratch-is = subst (λ (x : ℕ). ScratchAfter d x scratch scratch′) (sym (f .number-is)) w;
     }

@@ -1,14 +1,17 @@
 // The C boundary: every call of the engine as an exported function over slices and numbers. include/vuyekhang.h declares them
 // for C. None has a `requires`, so no caller can break one; each contract gives every field by the answer definitions of the
 // call that it hands on to, and every table that it may write.
+use answers::CountAnswer;
 use answers::ImproveAnswer;
 use answers::LoadAnswer;
 use answers::MoveAnswer;
 use answers::ReadAnswer;
+use answers::count_fields;
 use answers::improve_fields;
 use answers::load_fields;
 use answers::move_fields;
 use answers::read_fields;
+use call_best::best_moves;
 use call_improve::improve;
 use call_load::load;
 use call_move::make_move;
@@ -24,9 +27,11 @@ ghost use Rattle.contracts.specs.Load.{loads};
 ghost use Rattle.contracts.specs.State.{tables};
 ghost use Rattle.contracts.specs.MoveCall.{moves};
 ghost use Rattle.contracts.specs.TrialCall.{trials};
+ghost use Rattle.contracts.specs.ImproveCall.{improves};
+ghost use Rattle.contracts.specs.BestCall.{lists};
 ghost use Rattle.contracts.specs.NodeCells.{PartGives};
 ghost use Rattle.answers.specs.Boundary.{ReadGives, LoadGives};
-ghost use Rattle.answers.specs.Moving.{MoveGives, TrialGives, ImproveGives};
+ghost use Rattle.answers.specs.Moving.{MoveGives, TrialGives, ImproveGives, ListGives};
 
 // Reads a plan text and writes its plan table.
 #[no_mangle]
@@ -78,7 +83,7 @@ pub extern "C" fn vk_trial(
     move_fields(a)
 }
 
-// Makes a move of some kinds that leaves the least root, if that is smaller than now.
+// Makes the first of the best moves of some kinds, if it leaves a smaller root than now.
 #[no_mangle]
 pub extern "C" fn vk_improve(
     table: &[u8],
@@ -87,8 +92,24 @@ pub extern "C" fn vk_improve(
     scratch: &mut [u32],
     kinds: u32,
 ) -> ImproveAnswer
-    ensures { λ r. ⌜ ImproveGives (decode (now (table .entry))) kinds (tables (now (masks .entry)) (now (cells .entry))) (now (scratch .entry)) r (tables (now (masks .exit)) (now (cells .exit))) (now (scratch .exit)) ⌝ }
+    ensures { λ r. ⌜ ImproveGives (decode (now (table .entry))) (improves (decode (now (table .entry))) kinds (tables (now (masks .entry)) (now (cells .entry))) (length (now (scratch .entry)))) r (tables (now (masks .exit)) (now (cells .exit))) (now (scratch .entry)) (now (scratch .exit)) ⌝ }
 {
     let a = improve(table, masks, cells, scratch, kinds);
     improve_fields(a)
+}
+
+// Lists the best moves of some kinds in their order. An array of five numbers is laid out as vk_move_record is.
+#[no_mangle]
+pub extern "C" fn vk_best_moves(
+    table: &[u8],
+    masks: &[u64],
+    cells: &[u32],
+    scratch: &mut [u32],
+    kinds: u32,
+    list: &mut [[u32; 5]],
+) -> CountAnswer
+    ensures { λ r. ⌜ ListGives (decode (now (table .entry))) (lists (decode (now (table .entry))) kinds (tables (now (masks .entry)) (now (cells .entry))) (length (now (scratch .entry))) (length (now (list .entry)))) r (now (list .entry)) (now (list .exit)) (now (scratch .entry)) (now (scratch .exit)) ⌝ }
+{
+    let a = best_moves(table, masks, cells, scratch, kinds, list);
+    count_fields(a)
 }

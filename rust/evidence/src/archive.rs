@@ -1,6 +1,6 @@
 //! The archive as it is compared: through the binding's safe functions, with answers in the records that all evaluators here have.
 //! `Archive` calls the binding's raw functions too, on copies, and looks at every field.
-use vuyekhang::raw::{self, ImproveAnswer, LoadAnswer, MoveAnswer, ReadAnswer};
+use vuyekhang::raw::{self, CountAnswer, ImproveAnswer, LoadAnswer, MoveAnswer, ReadAnswer};
 use vuyekhang::{Kinds, Moved, Refusal};
 
 use crate::calls::{Calls, Improved, Loaded, Move, Numbers, Read};
@@ -26,9 +26,7 @@ pub fn trial(table: &[u8], masks: &[u64], cells: &[u32], scratch: &mut [u32], m:
 
 pub fn improve(table: &[u8], masks: &mut [u64], cells: &mut [u32], scratch: &mut [u32], kinds: u32) -> Result<Improved, u32> {
     match vuyekhang::improve(table, masks, cells, scratch, Kinds(kinds)) {
-        Ok(vuyekhang::Improved::Made { chosen: c, moved }) => {
-            numbers(Ok(moved)).map(|n| Improved::Made(Move { kind: c.kind, s: c.s, t: c.t, p: c.p, q: c.q }, n))
-        }
+        Ok(vuyekhang::Improved::Made { chosen, moved }) => numbers(Ok(moved)).map(|n| Improved::Made(move_of(&chosen), n)),
         Ok(vuyekhang::Improved::NoBetter { root }) => Ok(Improved::NoBetter(root)),
         Err(refusal) => Err(refusal.number()),
     }
@@ -36,6 +34,10 @@ pub fn improve(table: &[u8], masks: &mut [u64], cells: &mut [u32], scratch: &mut
 
 fn record(m: &Move) -> vuyekhang::Move {
     vuyekhang::Move { kind: m.kind, s: m.s, t: m.t, p: m.p, q: m.q }
+}
+
+fn move_of(m: &vuyekhang::Move) -> Move {
+    Move { kind: m.kind, s: m.s, t: m.t, p: m.p, q: m.q }
 }
 
 fn numbers(answer: Result<Moved, Refusal>) -> Result<Numbers, u32> {
@@ -75,9 +77,17 @@ fn improve_fields(answer: Result<Improved, u32>) -> ImproveAnswer {
     ImproveAnswer { number: a.number, found, chosen: record(&m), before: a.before, after: a.after, changed: a.changed }
 }
 
+fn count_fields(answer: Result<usize, u32>) -> CountAnswer {
+    match answer {
+        Ok(count) => CountAnswer { number: 0, count: count as u32 },
+        Err(number) => CountAnswer { number, count: 0 },
+    }
+}
+
 const BYTE: u8 = 0xA5;
 const MASK: u64 = u64::MAX;
 const CELL: u32 = 0xDEAD_BEEF;
+const RECORD: vuyekhang::Move = vuyekhang::Move { kind: CELL, s: CELL, t: CELL, p: CELL, q: CELL };
 
 /// The archive in a list of calls. Each table is lent as a copy between guard words: a word written outside of it, or to a table
 /// that the call only reads, ends the run. So does a raw answer with a field that it should not have.
@@ -104,6 +114,30 @@ impl Calls for Archive {
         let mut over = |t: &[u8], ms: &mut [u64], cs: &mut [u32]| written(scratch, CELL, |sc| improve(t, ms, cs, sc, kinds));
         let answer = only_read(table, BYTE, |t| written(masks, MASK, |ms| written(cells, CELL, |cs| over(t, ms, cs))));
         assert_eq!(fields, improve_fields(answer), "the fields of an improve of kinds {kinds}");
+        answer
+    }
+
+    fn best_moves(
+        &self,
+        table: &[u8],
+        masks: &[u64],
+        cells: &[u32],
+        scratch: &mut [u32],
+        kinds: u32,
+        list: &mut [Move],
+    ) -> Result<usize, u32> {
+        let mut records: Vec<vuyekhang::Move> = list.iter().map(record).collect();
+        let (mut raw_scratch, mut raw_list) = (scratch.to_vec(), records.clone());
+        let mut over = |t: &[u8], ms: &[u64], cs: &[u32]| {
+            let call = |sc: &mut [u32], l: &mut [vuyekhang::Move]| vuyekhang::best_moves(t, ms, cs, sc, Kinds(kinds), l);
+            written(scratch, CELL, |sc| written(&mut records, RECORD, |l| call(sc, l)))
+        };
+        let answer = only_read(table, BYTE, |t| only_read(masks, MASK, |ms| only_read(cells, CELL, |cs| over(t, ms, cs))));
+        let answer = answer.map_err(|refusal| refusal.number());
+        // Only now, since no guard words stand around these copies.
+        let fields = raw::best_moves(table, masks, cells, &mut raw_scratch, kinds, &mut raw_list);
+        assert_eq!(fields, count_fields(answer), "the fields of the best moves of kinds {kinds}");
+        list.iter_mut().zip(&records).for_each(|(m, own)| *m = move_of(own));
         answer
     }
 }

@@ -1,5 +1,5 @@
-//! The calls of paper 01 and their answers, as every evaluator here gives them; a refusal is its number. These are records and no
-//! code, so that evaluators which answer in them share nothing else.
+//! The calls of papers 01 and 02 and their answers, as every evaluator here gives them; a refusal is its number. These are records
+//! and no code, so that evaluators which answer in them share nothing else.
 
 #[derive(Debug, Clone, Copy, PartialEq, Eq, Default)]
 pub struct Move {
@@ -44,4 +44,14 @@ pub trait Calls {
     fn make_move(&self, table: &[u8], masks: &mut [u64], cells: &mut [u32], m: &Move) -> Result<Numbers, u32>;
     fn trial(&self, table: &[u8], masks: &[u64], cells: &[u32], scratch: &mut [u32], m: &Move) -> Result<Numbers, u32>;
     fn improve(&self, table: &[u8], masks: &mut [u64], cells: &mut [u32], scratch: &mut [u32], kinds: u32) -> Result<Improved, u32>;
+    /// Answers how many moves it has listed.
+    fn best_moves(
+        &self,
+        table: &[u8],
+        masks: &[u64],
+        cells: &[u32],
+        scratch: &mut [u32],
+        kinds: u32,
+        list: &mut [Move],
+    ) -> Result<usize, u32>;
 }

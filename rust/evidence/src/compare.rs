@@ -2,13 +2,14 @@
 //! stands past a plan's own.
 use vuyekhang::raw::{self, Part};
 
-use crate::archive::{load, load_fields, read, read_fields};
+use crate::archive::{load, load_fields, read, read_fields, Archive};
+use crate::best::{compare_best, wanted_ties, Given};
 use crate::calls::{Loaded, Read};
 use crate::counts::Counts;
 use crate::lent::{same, Compared, Lent};
-use crate::random::{any_text, damage_plan, damage_table, masks, Random};
+use crate::random::{any_kinds, any_text, damage_plan, damage_table, masks, Random};
 use crate::second::formula::RELATIONS;
-use crate::second::moves::tables;
+use crate::second::moves::{legal_moves, tables};
 use crate::second::penalty::{cells as cells_of, text_true};
 use crate::second::plan::{Plan, COMPARE, SIZE};
 use crate::second::table::{decode, encode, judge, RULES};
@@ -146,7 +147,24 @@ fn one_load(t: &Tables, r: &mut Random, counts: &mut Counts, damage: &mut Damage
         counts.met("loads of many cells");
     }
     counts.met(expected.as_ref().map_or_else(|n| format!("load {n}"), |_| "load accepted".to_string()));
-    (0..3).try_for_each(|_| one_part(&t.table, cells.part(), r, counts))
+    (0..3).try_for_each(|_| one_part(&t.table, cells.part(), r, counts))?;
+    one_best(t, r, counts)
+}
+
+/// The most cells, over all moves that it tries, which the second evaluator works out for a list of best moves.
+const MOST_TRIED: usize = 3_000;
+
+/// Asks both for the best moves over the tables as they were before the load: the cells hold anything.
+fn one_best(t: &Tables, r: &mut Random, counts: &mut Counts) -> Compared<()> {
+    let (kinds, total) = (any_kinds(r), t.cells.len());
+    let length = if r.chance(10) { r.below(total + 1) } else { total + r.below(3) };
+    let scratch: Vec<u32> = (0..length).map(|_| r.word() as u32).collect();
+    let tried = |plan: Plan| legal_moves(&plan, &t.masks, kinds).len() * plan.cells();
+    if tables(&t.table, &t.masks, &[total, length]).is_ok_and(|plan| tried(plan) > MOST_TRIED) {
+        return Ok(());
+    }
+    let (table, masks, cells, scratch) = (&t.table[..], &t.masks[..], &t.cells[..], &scratch[..]);
+    compare_best(&Archive, &Given { table, masks, cells, scratch, kinds, over: " over any cells" }, r, counts)
 }
 
 /// Asks both for a node's part of a cell table, here with whatever the table holds.
@@ -273,6 +291,9 @@ pub fn missed(counts: &Counts) -> Vec<String> {
     wanted.extend(RELATIONS.iter().flat_map(|r| [format!("size {r}"), format!("ports compared by {r}")]).map(|c| (c, 100)));
     wanted.extend(["load accepted", "true", "false", "damaged and sound"].map(|c| (c.to_string(), 100)));
     wanted.push(("loads of many cells".to_string(), 20));
+    wanted.extend((11..=14).chain([16]).map(|n| (format!("best moves over any cells: refused {n}"), 100)));
+    wanted.push(("best moves over any cells: listed".to_string(), 100));
+    wanted.extend(wanted_ties());
     wanted.extend(["broken table", "short cells", "no such node", "a part"].map(|c| (format!("node cells: {c}"), 100)));
     wanted
         .into_iter()

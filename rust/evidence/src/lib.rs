@@ -1,9 +1,11 @@
 //! What the proved archive is held against: a second evaluator, and a plain engine for times.
 //!
 //! `second` and `plain` do not use the binding and share no code; `calls` has the records in which all three answer. `compare` and
-//! `lists` compare the archive with `second`, call by call and in lists of calls. `bench` measures it beside `plain`.
+//! `lists` compare the archive with `second`, call by call and in lists of calls; `best` is the list of best moves in both. `bench`
+//! measures it beside `plain`.
 pub mod archive;
 pub mod bench;
+pub mod best;
 pub mod calls;
 pub mod compare;
 pub mod counts;

@@ -1,15 +1,16 @@
-//! Lists of calls: moves, trials and improves over one plan's tables, each compared with the second evaluator. Paper 01, sections
-//! One move and Lists of calls.
+//! Lists of calls: moves, trials, improves and lists of best moves over one plan's tables, each compared with the second evaluator.
+//! Paper 01, sections One move and Lists of calls; request 2026-01 of paper 02.
 //!
 //! `archive::Archive` is what is compared. `Second` may stand in its place, which holds the rule of touched cells against
 //! Definition 5; `tests/lists.rs` puts mistakes there, and `Damaging` damages what a call leaves: each must be reported.
 use std::cell::{Cell, RefCell};
 
+use crate::best::{compare_best, wanted_ties, Given};
 use crate::calls::{Calls, Improved, Move, Numbers};
 use crate::counts::Counts;
 use crate::lent::{same, same_table, Compared};
-use crate::random::{damage_plan, damage_table, masks as random_masks, text, Random};
-use crate::second::moves::{best_moves, flipped, legal_moves, made, make_move, trial};
+use crate::random::{any_kinds, damage_plan, damage_table, masks as random_masks, spare, text, twin, Random};
+use crate::second::moves::{best_moves, flipped, improved, legal_moves, listed, made, make_move, trial};
 use crate::second::penalty::cells as cells_of;
 use crate::second::plan::Plan;
 use crate::second::table::{decode, encode};
@@ -28,11 +29,26 @@ impl Calls for Second {
     }
 
     fn improve(&self, table: &[u8], masks: &mut [u64], cells: &mut [u32], scratch: &mut [u32], kinds: u32) -> Result<Improved, u32> {
+        let answer = improved(&best_moves(table, masks, cells, scratch.len(), kinds)?, cells[0]);
+        if let Improved::Made(m, _) = &answer {
+            make_move(table, masks, cells, m)?;
+        }
+        Ok(answer)
+    }
+
+    fn best_moves(
+        &self,
+        table: &[u8],
+        masks: &[u64],
+        cells: &[u32],
+        scratch: &mut [u32],
+        kinds: u32,
+        list: &mut [Move],
+    ) -> Result<usize, u32> {
         let best = best_moves(table, masks, cells, scratch.len(), kinds)?;
-        let Some((m, numbers)) = best.last().copied() else {
-            return Ok(Improved::NoBetter(cells[0]));
-        };
-        make_move(table, masks, cells, &m).map(|_| Improved::Made(m, numbers))
+        let count = listed(&best, list.len())?;
+        list.iter_mut().zip(best).for_each(|(place, (m, _))| *place = m);
+        Ok(count)
     }
 }
 
@@ -50,10 +66,13 @@ struct Desk {
     over: &'static str,
 }
 
-/// The most cells of a plan, and of the large plans of some short lists, in which improve takes no part: the second evaluator
-/// would try its many moves for too long.
+/// The most cells of a plan, and of the large plans of some short lists, in which improve and the list of best moves take no part:
+/// the second evaluator would try their many moves for too long.
 const MOST_CELLS: usize = 600;
 const MOST_LARGE: usize = 20_000;
+
+/// How many of a hundred plans have two sets that occur alike.
+const TWINS: usize = 40;
 
 impl Desk {
     fn large(&self) -> bool {
@@ -62,10 +81,16 @@ impl Desk {
 }
 
 /// A plan of any depth with so many cells, its tables as a load leaves them, or with cells that hold anything; some words behind.
+/// In some plans two sets occur alike and begin with the same ports, so that moves are equally good; in some of these a further set
+/// occurs in no literal, so that moves of different kinds are.
 fn desk(r: &mut Random, sizes: std::ops::RangeInclusive<usize>) -> Desk {
     let least = r.below(5).saturating_sub(1);
     loop {
-        let made = text(r);
+        let mut made = text(r);
+        let twins = if r.chance(TWINS) { twin(&mut made, r) } else { None };
+        if twins.is_some() && r.chance(50) {
+            spare(&mut made);
+        }
         let bytes = made.bytes(r);
         let Ok(accepted) = second_read(made.u, &bytes, usize::MAX) else { continue };
         let plan = accepted.plan;
@@ -73,6 +98,9 @@ fn desk(r: &mut Random, sizes: std::ops::RangeInclusive<usize>) -> Desk {
             continue;
         }
         let mut masks = random_masks(r, plan.u, plan.n);
+        if let Some((one, other)) = twins {
+            masks[other] = masks[one];
+        }
         let mut cells = cells_of(&plan, &masks);
         let foreign = r.chance(30);
         if foreign {
@@ -167,31 +195,30 @@ fn one_trial(calls: &dyn Calls, d: &mut Desk, m: &Move, counts: &mut Counts) -> 
     compare_tables(d, &masks, &cells)
 }
 
-fn any_kinds(r: &mut Random) -> u32 {
-    match r.below(10) {
-        0 => [0, 16, r.word() as u32][r.below(3)],
-        1..=4 => 1 << r.below(4),
-        _ => 1 + r.below(15) as u32,
-    }
-}
-
+/// Improve's answer is one: it makes the first of the best.
 fn one_improve(calls: &dyn Calls, d: &mut Desk, kinds: u32, counts: &mut Counts) -> Compared<()> {
     let (masks, cells, scratch) = (d.masks.clone(), d.cells.clone(), d.scratch.clone());
-    let best = best_moves(&d.table, &masks, &cells, scratch.len(), kinds);
+    let expected = best_moves(&d.table, &masks, &cells, scratch.len(), kinds).map(|best| improved(&best, cells[0]));
     let answer = calls.improve(&d.table, &mut d.masks, &mut d.cells, &mut d.scratch, kinds);
-    compare_scratch(d, &scratch, best.is_ok())?;
-    let (outcome, masks, cells) = match (&answer, &best) {
-        (Ok(Improved::Made(m, numbers)), Ok(best)) if best.contains(&(*m, *numbers)) => {
+    same(&format!("improve's answer of kinds {kinds}"), &answer, &expected)?;
+    compare_scratch(d, &scratch, expected.is_ok())?;
+    let (outcome, masks, cells) = match &expected {
+        Ok(Improved::Made(m, _)) => {
             let (masks, cells) = after(d, &masks, &cells, m);
             (format!("made {}", move_class(m)), masks, cells)
         }
-        (Ok(Improved::NoBetter(root)), Ok(best)) if best.is_empty() && *root == cells[0] => ("no better move".to_string(), masks, cells),
-        (Err(a), Err(b)) if a == b => (format!("refused {a}"), masks, cells),
-        _ => return Err(format!("improve of kinds {kinds}: the engine has {answer:?}, the second evaluator allows {best:?}")),
+        Ok(Improved::NoBetter(_)) => ("no better move".to_string(), masks, cells),
+        Err(number) => (format!("refused {number}"), masks, cells),
     };
     counts.met(format!("improve{}: {outcome}", d.over));
     count_scratch(d, counts);
     compare_tables(d, &masks, &cells)
+}
+
+fn one_best(calls: &dyn Calls, d: &Desk, r: &mut Random, counts: &mut Counts) -> Compared<()> {
+    let Desk { table, masks, cells, scratch, over, .. } = d;
+    count_scratch(d, counts);
+    compare_best(calls, &Given { table, masks, cells, scratch, kinds: any_kinds(r), over }, r, counts)
 }
 
 /// The tables of a list with damage done: too short, a port of u or more, or a plan table with any change, which may leave it sound.
@@ -224,9 +251,10 @@ fn one_damaged(calls: &dyn Calls, d: &Desk, r: &mut Random, counts: &mut Counts)
     let told = |e: String, b: &Desk| {
         format!("{e}\n  damaged table {:?}, masks {}, cells {}, scratch {}", b.table, b.masks.len(), b.cells.len(), b.scratch.len())
     };
-    match r.below(3) {
+    match r.below(4) {
         0 => one_move(calls, &mut b, &m, counts),
         2 if !d.large() => one_improve(calls, &mut b, any_kinds(r), counts),
+        3 if !d.large() => one_best(calls, &b, r, counts),
         _ => one_trial(calls, &mut b, &m, counts),
     }
     .map_err(|e| told(e, &b))
@@ -234,12 +262,13 @@ fn one_damaged(calls: &dyn Calls, d: &Desk, r: &mut Random, counts: &mut Counts)
 
 fn one_call(calls: &dyn Calls, d: &mut Desk, r: &mut Random, counts: &mut Counts) -> Compared<()> {
     lend_scratch(d, r);
-    match r.below(10) {
+    match r.below(11) {
         0..=4 => one_move(calls, d, &any_move(d, r), counts),
         5..=6 => one_trial(calls, d, &any_move(d, r), counts),
         7..=8 => one_damaged(calls, d, r, counts),
         _ if d.large() => one_trial(calls, d, &any_move(d, r), counts),
-        _ => one_improve(calls, d, any_kinds(r), counts),
+        9 => one_improve(calls, d, any_kinds(r), counts),
+        _ => one_best(calls, d, r, counts),
     }
 }
 
@@ -287,13 +316,17 @@ fn one_list(calls: &dyn Calls, length: u64, seed: u64, list: u64, counts: &mut C
     Ok(())
 }
 
-/// What the damaging mode changes after one call of a list.
+/// What the damaging mode changes after one call of a list. Of the best moves: a record that was listed, one that must stay as it
+/// was, or the count.
 #[derive(Debug, Clone, Copy, PartialEq)]
 pub enum Hit {
     Cell,
     Mask,
     Scratch,
     Answer,
+    Listed,
+    Kept,
+    Count,
 }
 
 /// The calls of `inner`, with one bit changed after the first call from number `from` on that leaves such a thing to change.
@@ -337,6 +370,23 @@ impl Damaging<'_> {
         }
     }
 
+    fn bit(&self) -> u32 {
+        1 << self.random.borrow_mut().below(32)
+    }
+
+    fn record(&self, m: &mut Move) {
+        let field = self.random.borrow_mut().below(5);
+        *[&mut m.kind, &mut m.s, &mut m.t, &mut m.p, &mut m.q][field] ^= self.bit();
+    }
+
+    /// One of some records that a call has left.
+    fn records(&self, hit: Hit, records: &mut [Move]) {
+        if self.turn(hit, records.len()) {
+            let at = self.random.borrow_mut().below(records.len());
+            self.record(&mut records[at]);
+        }
+    }
+
     fn numbers(&self, answer: Result<Numbers, u32>) -> Result<Numbers, u32> {
         if !self.turn(Hit::Answer, 1) {
             return answer;
@@ -373,9 +423,36 @@ impl Calls for Damaging<'_> {
         self.tables(masks, cells);
         self.scratch(table, scratch, answer.is_ok());
         match answer {
-            Ok(Improved::Made(m, numbers)) => self.numbers(Ok(numbers)).map(|n| Improved::Made(m, n)),
-            Ok(Improved::NoBetter(root)) if self.turn(Hit::Answer, 1) => Ok(Improved::NoBetter(root ^ 1)),
-            Err(number) if self.turn(Hit::Answer, 1) => Err(number ^ 1),
+            Ok(Improved::Made(mut m, numbers)) => {
+                if self.random.borrow_mut().chance(50) && self.turn(Hit::Answer, 1) {
+                    self.record(&mut m);
+                }
+                self.numbers(Ok(numbers)).map(|n| Improved::Made(m, n))
+            }
+            Ok(Improved::NoBetter(root)) if self.turn(Hit::Answer, 1) => Ok(Improved::NoBetter(root ^ self.bit())),
+            Err(number) if self.turn(Hit::Answer, 1) => Err(number ^ self.bit()),
+            kept => kept,
+        }
+    }
+
+    fn best_moves(
+        &self,
+        table: &[u8],
+        masks: &[u64],
+        cells: &[u32],
+        scratch: &mut [u32],
+        kinds: u32,
+        list: &mut [Move],
+    ) -> Result<usize, u32> {
+        self.called();
+        let answer = self.inner.best_moves(table, masks, cells, scratch, kinds, list);
+        self.scratch(table, scratch, answer.is_ok());
+        let (best, kept) = list.split_at_mut(answer.unwrap_or(0).min(list.len()));
+        self.records(Hit::Listed, best);
+        self.records(Hit::Kept, kept);
+        match answer {
+            Ok(count) if self.turn(Hit::Count, 1) => Ok(count ^ self.bit() as usize),
+            Err(number) if self.turn(Hit::Answer, 1) => Err(number ^ self.bit()),
             kept => kept,
         }
     }
@@ -396,14 +473,16 @@ pub fn missed(counts: &Counts) -> Vec<String> {
     let mut wanted: Vec<String> =
         kinds.iter().flat_map(|k| ["accepted", "refused 14", "refused 15"].map(|o| format!("move {k}: {o}"))).collect();
     let refusals = |call: &str| (11..=13).map(|n| format!("{call} over damaged tables: refused {n}")).collect::<Vec<_>>();
-    wanted.extend(["move", "trial", "improve"].iter().flat_map(|call| refusals(call)));
+    wanted.extend(["move", "trial", "improve", "best moves"].iter().flat_map(|call| refusals(call)));
     wanted.extend(["accepted", "refused 12", "refused 14", "refused 15"].map(|o| format!("trial: {o}")));
     wanted.extend(["made", "no better move", "refused 12", "refused 14"].map(|o| format!("improve: {o}")));
+    wanted.extend(["listed", "refused 12", "refused 14", "refused 16"].map(|o| format!("best moves: {o}")));
     wanted.extend(["scratch too short", "calls from a load", "calls from foreign cells", "calls over large plans"].map(str::to_string));
     let mut wanted: Vec<(String, u64)> = wanted.into_iter().map(|class| (class, 100)).collect();
     wanted.extend((0..=3).map(|depth| (format!("lists of depth {depth}"), 5)));
     wanted.push((format!("lists of {LONG} calls"), 1));
     wanted.extend(["move", "trial"].map(|call| (format!("{call} over damaged tables: accepted"), 20)));
+    wanted.extend(wanted_ties());
     let met = |class: &str| counts.0.iter().filter(|(c, _)| c.starts_with(class)).map(|(_, n)| n).sum::<u64>();
     wanted.into_iter().filter(|(c, least)| met(c) < *least).map(|(c, least)| format!("{c}: met {} times, not {least}", met(&c))).collect()
 }

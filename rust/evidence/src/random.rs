@@ -324,6 +324,42 @@ pub fn any_text(r: &mut Random) -> (u64, Vec<u8>) {
     (u, bytes)
 }
 
+/// Turns the formula F of a text into (F) & (G), where G is F with two of its sets exchanged, and says by number which: moves of
+/// one are then as good as the same moves of the other wherever both hold the same ports. None where there is one set.
+pub fn twin(text: &mut Text, r: &mut Random) -> Option<(usize, usize)> {
+    let close = text.tokens.iter().position(|t| t == "]").filter(|close| *close > 2)?;
+    let sets = text.tokens[1..close].to_vec();
+    let one = r.below(sets.len());
+    let other = (one + 1 + r.below(sets.len() - 1)) % sets.len();
+    let formula = text.tokens.split_off(close + 1);
+    let exchanged = |token: &String| match token {
+        t if *t == sets[one] => sets[other].clone(),
+        t if *t == sets[other] => sets[one].clone(),
+        t => t.clone(),
+    };
+    let twin: Vec<String> = formula.iter().map(exchanged).collect();
+    let sign = |token: &str| vec![token.to_string()];
+    text.tokens.extend([sign("("), formula, sign(")"), sign("&"), sign("("), twin, sign(")")].concat());
+    Some((one, other))
+}
+
+/// Declares one set more, which the formula does not name: a port that leaves another set may as well go there, so that a drop and
+/// a transfer are equally good. None where there are 16 sets.
+pub fn spare(text: &mut Text) {
+    let Some(close) = text.tokens.iter().position(|t| t == "]").filter(|close| *close < 17) else { return };
+    let unused = ('A'..='Z').map(String::from).find(|letter| !text.tokens[..close].contains(letter));
+    text.tokens.splice(close..close, unused);
+}
+
+/// A sum of kinds, at times 0 or above 15, which is 14.
+pub fn any_kinds(r: &mut Random) -> u32 {
+    match r.below(10) {
+        0 => [0, 16, r.word() as u32][r.below(3)],
+        1..=4 => 1 << r.below(4),
+        _ => 1 + r.below(15) as u32,
+    }
+}
+
 /// Masks of n sets within u ports, sparse, dense or even.
 pub fn masks(r: &mut Random, u: usize, n: usize) -> Vec<u64> {
     let within = if u == 64 { u64::MAX } else { (1 << u) - 1 };

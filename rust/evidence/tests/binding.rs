@@ -1,6 +1,7 @@
 //! The binding's own part: each ground by its name, moves and kinds with any fields, and answers that no version gives today.
-use vuyekhang::raw::{ImproveAnswer, LoadAnswer, MoveAnswer, ReadAnswer};
-use vuyekhang::{improve, load, make_move, read, trial, Improved, Kinds, Loaded, Move, Moved, Read, Refusal, MOST_TABLE, READ_STACK};
+use vuyekhang::raw::{CountAnswer, ImproveAnswer, LoadAnswer, MoveAnswer, ReadAnswer};
+use vuyekhang::{best_moves, improve, load, make_move, read, trial};
+use vuyekhang::{Improved, Kinds, Loaded, Move, Moved, Read, Refusal, MOST_TABLE, READ_STACK};
 
 const PLAN_A: &[u8] = b"[STI] @x (x:I <-> x:S & x:T) & #I <= 1";
 const CELLS: usize = 34;
@@ -64,8 +65,11 @@ fn grounds_of_the_operator() {
     }
     for kinds in [Kinds(0), Kinds(16), Kinds(u32::MAX)] {
         assert_eq!(improve(&table, &mut masks, &mut cells, &mut scratch, kinds), Err(Refusal::UnknownMove));
+        assert_eq!(best_moves(&table, &masks, &cells, &mut scratch, kinds, &mut []), Err(Refusal::UnknownMove));
     }
-    assert_eq!([Refusal::UnknownMove, Refusal::IllegalMove].map(|refusal| refusal.number()), [14, 15]);
+    assert_eq!(best_moves(&table, &masks, &cells, &mut scratch, Kinds::DROP, &mut []), Err(Refusal::ListTooShort));
+    let operator = [Refusal::UnknownMove, Refusal::IllegalMove, Refusal::ListTooShort];
+    assert_eq!(operator.map(|refusal| refusal.number()), [14, 15, 16]);
 }
 
 #[test]
@@ -96,28 +100,43 @@ fn sums_of_kinds() {
         improve(&table, &mut masks, &mut cells, &mut scratch, kinds).expect("the kinds are known")
     };
     for kinds in [Kinds::DROP, Kinds::ADD | Kinds::DROP, Kinds::ALL] {
-        assert!(matches!(improved(kinds), Improved::Made { moved: Moved { before: 1, after: 0, .. }, .. }), "{kinds:?}");
+        let made = Improved::Made { chosen: Move::drop(0, 1), moved: Moved { before: 1, after: 0, changed: 8 } };
+        assert_eq!(improved(kinds), made, "{kinds:?}");
     }
-    assert!(matches!(improved(Kinds::DROP), Improved::Made { chosen: Move { kind: Move::DROP, t: 0, q: 0, .. }, .. }));
+    assert_eq!(improved(Kinds::ADD), Improved::NoBetter { root: 1 });
     assert_eq!(Kinds::ADD | Kinds::DROP | Kinds::TRANSFER | Kinds::SWAP, Kinds::ALL);
+}
+
+/// The order of moves is that of the list.
+#[test]
+fn best_moves_in_order() {
+    let (table, masks, mut cells, mut scratch) = (plan_a(), [1, 7, 1], [0; CELLS], [0; CELLS]);
+    load(&table, &masks, &mut cells).expect("plan A is sound");
+    let mut list = [Move::default(); 8];
+    let count = best_moves(&table, &masks, &cells, &mut scratch, Kinds::ALL, &mut list).expect("8 are enough");
+    assert_eq!(list[..count], [Move::drop(1, 1), Move::drop(1, 2), Move::transfer(1, 0, 1), Move::transfer(1, 0, 2)]);
+    assert!(list[..count].is_sorted());
+    assert_eq!(list[count..], [Move::default(); 4]);
 }
 
 /// Each number says its own meaning, and one that is not known today is handed on as it is.
 #[test]
 fn numbers_and_meanings() {
     let refusal = |number: u32| ReadAnswer { number, nodes: 0, cells: 0 }.typed().expect_err("a number other than 0");
-    let meanings: std::collections::BTreeSet<String> = (1..=15).map(|n| refusal(n).to_string()).collect();
-    assert_eq!(meanings.len(), 15);
+    let meanings: std::collections::BTreeSet<String> = (1..=16).map(|n| refusal(n).to_string()).collect();
+    assert_eq!(meanings.len(), 16);
     for number in (1..40).chain([u32::MAX]) {
         assert_eq!(refusal(number).number(), number);
         assert!(refusal(number).to_string().starts_with(&format!("refused ({number}): ")));
-        assert_eq!(matches!(refusal(number), Refusal::Other { .. }), number > 15);
+        assert_eq!(matches!(refusal(number), Refusal::Other { .. }), number > 16);
     }
-    assert_eq!(refusal(16).to_string(), "refused (16): a ground that this version does not name");
-    assert_eq!(LoadAnswer { number: 16, root: 0, cells: 0 }.typed(), Err(refusal(16)));
-    assert_eq!(MoveAnswer { number: 16, before: 0, after: 0, changed: 0 }.typed(), Err(refusal(16)));
+    assert_eq!(refusal(17).to_string(), "refused (17): a ground that this version does not name");
+    assert_eq!(LoadAnswer { number: 17, root: 0, cells: 0 }.typed(), Err(refusal(17)));
+    assert_eq!(MoveAnswer { number: 17, before: 0, after: 0, changed: 0 }.typed(), Err(refusal(17)));
     let chosen = Move::default();
-    assert_eq!(ImproveAnswer { number: 16, found: 0, chosen, before: 0, after: 0, changed: 0 }.typed(), Err(refusal(16)));
+    assert_eq!(ImproveAnswer { number: 17, found: 0, chosen, before: 0, after: 0, changed: 0 }.typed(), Err(refusal(17)));
+    assert_eq!(CountAnswer { number: 17, count: 0 }.typed(), Err(refusal(17)));
+    assert_eq!(CountAnswer { number: 0, count: 21_504 }.typed(), Ok(21_504));
 }
 
 #[test]

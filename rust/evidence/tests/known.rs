@@ -1,11 +1,11 @@
 //! The known plans of paper 01, through the second evaluator alone and through the archive.
 use evidence::archive::{load, read, Archive};
 use evidence::calls::{Calls, Improved, Loaded, Move, Numbers, Read};
-use evidence::second::moves::{make_move, pairs, touched};
+use evidence::second::moves::{best_moves, improved, legal_moves, make_move, pairs, touched};
 use evidence::second::penalty::{cells, text_true, tuples};
 use evidence::second::table::{decode, encode};
 use evidence::second::text::{read as second_read, Accepted};
-use vuyekhang::node_cells;
+use vuyekhang::{node_cells, MOST_MOVES};
 
 const PLAN_A: &str = "[STI] @x (x:I <-> x:S & x:T) & #I <= 1";
 
@@ -83,6 +83,114 @@ fn plan_b_by_the_archive() {
     assert_eq!(Archive.improve(&table, &mut masks, &mut own, &mut scratch, 16), Err(14));
 }
 
+fn add(s: u32, p: u32) -> Move {
+    Move { kind: 1, s, t: 0, p, q: 0 }
+}
+
+fn drop(s: u32, p: u32) -> Move {
+    Move { kind: 2, s, t: 0, p, q: 0 }
+}
+
+fn transfer(s: u32, t: u32, p: u32) -> Move {
+    Move { kind: 3, s, t, p, q: 0 }
+}
+
+fn swap(s: u32, p: u32, q: u32) -> Move {
+    Move { kind: 4, s, t: 0, p, q }
+}
+
+/// A record that no list holds.
+const STOOD: Move = Move { kind: 9, s: 9, t: 9, p: 9, q: 9 };
+
+/// The best moves of a plan and the root that they leave: by the second evaluator alone, and then by the archive, into lists of
+/// just their number, of one more and of one fewer. Improve answers the first of them, or "no better move".
+fn best_of(u: u64, text: &str, masks: &[u64], kinds: u32, expected: &[Move], root: u32) {
+    let plan = accepted(u, text).plan;
+    let (table, own) = (encode(&plan), cells(&plan, masks));
+    let best = best_moves(&table, masks, &own, own.len(), kinds).expect("the plan is sound");
+    assert_eq!(best.iter().map(|(m, _)| *m).collect::<Vec<_>>(), expected, "kinds {kinds}");
+    assert!(best.iter().all(|(_, numbers)| numbers.after == root), "kinds {kinds}");
+    let by_archive = |room: usize| {
+        let mut list = vec![STOOD; room];
+        let answer = Archive.best_moves(&table, masks, &own, &mut own.clone(), kinds, &mut list);
+        (answer, list)
+    };
+    let count = expected.len();
+    assert_eq!(by_archive(count), (Ok(count), expected.to_vec()));
+    assert_eq!(by_archive(count + 1), (Ok(count), [expected, &[STOOD]].concat()));
+    if count > 0 {
+        assert_eq!(by_archive(count - 1), (Err(16), vec![STOOD; count - 1]));
+    }
+    let answer = Archive.improve(&table, &mut masks.to_vec(), &mut own.clone(), &mut own.clone(), kinds);
+    assert_eq!(answer, Ok(improved(&best, own[0])));
+}
+
+/// In plan A's masks port 1 is in S and T and not in I. Where no move of a kind mends that, those that do no harm are listed.
+#[test]
+fn best_moves_of_plan_a() {
+    let best = |kinds: u32, expected: &[Move], root: u32| best_of(3, PLAN_A, &[3, 7, 1], kinds, expected, root);
+    best(15, &[drop(0, 1), drop(1, 1)], 0);
+    best(1, &[add(2, 1)], 1);
+    best(4, &[transfer(1, 0, 2)], 1);
+    best(8, &[swap(0, 1, 2), swap(2, 0, 1)], 1);
+    best(13, &[add(2, 1), transfer(1, 0, 2), swap(0, 1, 2), swap(2, 0, 1)], 1);
+}
+
+/// The state that examples/plan.c lists: the plan is true and stays so. With every port everywhere none can be added.
+#[test]
+fn best_moves_of_a_true_plan() {
+    best_of(3, PLAN_A, &[1, 7, 1], 15, &[drop(1, 1), drop(1, 2), transfer(1, 0, 1), transfer(1, 0, 2)], 0);
+    best_of(3, PLAN_A, &[7, 7, 7], 1, &[], 0);
+}
+
+/// Moves of two kinds mend a plan; the kind comes first in the order. Sets that occur alike are told apart by their number.
+#[test]
+fn equally_good_moves_of_two_kinds() {
+    best_of(2, "[ST] #S >= 1", &[0, 1], 15, &[add(0, 0), add(0, 1), transfer(1, 0, 0)], 0);
+    best_of(2, "[ST] #S >= 1", &[0, 1], 12, &[transfer(1, 0, 0)], 0);
+    best_of(2, "[STI] #S < 1 & #T < 1", &[2, 2, 1], 15, &[drop(0, 1), drop(1, 1), transfer(0, 2, 1), transfer(1, 2, 1)], 1);
+}
+
+/// "Improve makes the first of the best."
+#[test]
+fn improve_makes_the_first() {
+    let plan = accepted(3, PLAN_A).plan;
+    let (table, mut masks) = (encode(&plan), [3, 7, 1]);
+    let mut own = cells(&plan, &masks);
+    let best = best_moves(&table, &masks, &own, own.len(), 15).expect("plan A is sound");
+    let expected = Improved::Made(drop(0, 1), Numbers { before: 1, after: 0, changed: 8 });
+    assert_eq!(improved(&best, own[0]), expected);
+    assert_eq!(improved(&best, 0), Improved::NoBetter(0));
+    assert_eq!(Archive.improve(&table, &mut masks, &mut own.clone(), &mut own, 15), Ok(expected));
+    assert_eq!(masks, [1, 7, 1]);
+}
+
+/// "Moves are ordered by kind, S, T, p, q, smaller first."
+#[test]
+fn legal_moves_rise() {
+    let plan = accepted(5, "[STI] #S < 1").plan;
+    let all = legal_moves(&plan, &[3, 21, 14], 15);
+    let key = |m: &Move| [m.kind, m.s, m.t, m.p, m.q];
+    assert!(all.windows(2).all(|two| key(&two[0]) < key(&two[1])));
+    assert_eq!([1, 2, 3, 4].map(|kind| all.iter().filter(|m| m.kind == kind).count()), [7, 8, 10, 18]);
+}
+
+/// Every port in half of the sets and every set with half of the ports: no plan has more legal moves, and here all leave root 0.
+#[test]
+fn most_moves() {
+    let plan = accepted(64, "[ABCDEFGHIJKLMNOP] #A <= 64").plan;
+    let (even, odd) = (u64::MAX / 3, u64::MAX / 3 * 2);
+    let masks: Vec<u64> = (0..16).map(|s| if s % 2 == 0 { even } else { odd }).collect();
+    let (table, own) = (encode(&plan), cells(&plan, &masks));
+    let all = legal_moves(&plan, &masks, 15);
+    assert_eq!(all.len(), MOST_MOVES);
+    let mut list = vec![STOOD; MOST_MOVES];
+    let mut listed = |room: usize| Archive.best_moves(&table, &masks, &own, &mut own.clone(), 15, &mut list[..room]);
+    assert_eq!(listed(MOST_MOVES - 1), Err(16));
+    assert_eq!(listed(MOST_MOVES), Ok(MOST_MOVES));
+    assert_eq!(list, all);
+}
+
 /// Kinds, sets and ports that would be known if they were cut to a byte or to 16 bits.
 #[test]
 fn wide_fields_are_not_cut() {
@@ -102,6 +210,7 @@ fn wide_fields_are_not_cut() {
             assert_eq!(Archive.make_move(&table, &mut masks, &mut own, &wide), Err(14));
         }
         assert_eq!(Archive.improve(&table, &mut masks, &mut own.clone(), &mut own, more + 2), Err(14));
+        assert_eq!(Archive.best_moves(&table, &masks, &own.clone(), &mut own, more + 2, &mut [STOOD; 9]), Err(14));
     }
 }
 

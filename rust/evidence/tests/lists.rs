@@ -1,8 +1,9 @@
 //! The driver of lists of calls: no difference where the second evaluator stands on both sides, and a difference for each mistake
-//! that paper 01 says must be shut out.
+//! that paper 01 says must be shut out, and for what request 2026-01 of paper 02 no longer leaves free.
 use evidence::calls::{Calls, Improved, Move, Numbers};
 use evidence::counts::Counts;
 use evidence::lists::{run, Second};
+use evidence::second::moves::{best_moves, improved};
 
 const CALLS: u64 = 1_000;
 
@@ -15,6 +16,12 @@ enum Mistake {
     OnlyTheFirst,
     NoBetterAtOnce,
     ScratchPastTheEnd,
+    LastOfTheBest,
+    ListBackwards,
+    ListOfOne,
+    ListOfBetterOnly,
+    ListPastTheCount,
+    ListOnRefusal,
 }
 
 struct Wrong {
@@ -51,8 +58,47 @@ impl Calls for Wrong {
             Second.improve(table, &mut masks.to_vec(), &mut cells.to_vec(), scratch, kinds)?;
             return Ok(Improved::NoBetter(cells[0]));
         }
+        if self.mistake == Mistake::LastOfTheBest {
+            return last_of_the_best(table, masks, cells, scratch, kinds);
+        }
         Second.improve(table, masks, cells, scratch, kinds)
     }
+
+    fn best_moves(
+        &self,
+        table: &[u8],
+        masks: &[u64],
+        cells: &[u32],
+        scratch: &mut [u32],
+        kinds: u32,
+        list: &mut [Move],
+    ) -> Result<usize, u32> {
+        if self.mistake == Mistake::ListOnRefusal {
+            list.iter_mut().for_each(|m| *m = Move::default());
+        }
+        let count = Second.best_moves(table, masks, cells, scratch, kinds, list)?;
+        match self.mistake {
+            Mistake::ListBackwards => list[..count].reverse(),
+            Mistake::ListOfOne => return Ok(count.min(1)),
+            Mistake::ListOfBetterOnly if count > 0 => {
+                let root = Second.trial(table, masks, cells, scratch, &list[0])?.after;
+                return Ok(if root < cells[0] { count } else { 0 });
+            }
+            Mistake::ListPastTheCount => list[count..].iter_mut().for_each(|m| *m = Move::default()),
+            _ => {}
+        }
+        Ok(count)
+    }
+}
+
+/// Improve as paper 01 alone would allow it.
+fn last_of_the_best(table: &[u8], masks: &mut [u64], cells: &mut [u32], scratch: &mut [u32], kinds: u32) -> Result<Improved, u32> {
+    let best = best_moves(table, masks, cells, scratch.len(), kinds)?;
+    let answer = improved(&best[best.len().saturating_sub(1)..], cells[0]);
+    if let Improved::Made(m, _) = &answer {
+        Second.make_move(table, masks, cells, m)?;
+    }
+    Ok(answer)
 }
 
 fn reported(mistake: Mistake) -> bool {
@@ -73,4 +119,14 @@ fn each_mistake_is_reported() {
     assert!(reported(Mistake::OnlyTheFirst));
     assert!(reported(Mistake::NoBetterAtOnce));
     assert!(reported(Mistake::ScratchPastTheEnd));
+}
+
+#[test]
+fn each_mistake_of_the_best_moves_is_reported() {
+    assert!(reported(Mistake::LastOfTheBest));
+    assert!(reported(Mistake::ListBackwards));
+    assert!(reported(Mistake::ListOfOne));
+    assert!(reported(Mistake::ListOfBetterOnly));
+    assert!(reported(Mistake::ListPastTheCount));
+    assert!(reported(Mistake::ListOnRefusal));
 }

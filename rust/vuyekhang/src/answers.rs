@@ -40,7 +40,7 @@ pub struct Moved {
 /// What an accepted [`improve`](crate::improve) answers.
 #[derive(Debug, Clone, Copy, PartialEq, Eq, Hash)]
 pub enum Improved {
-    /// A move was made; no legal one of the kinds leaves a smaller root.
+    /// A move was made: the first of those that leave the least root.
     Made {
         /// The move.
         chosen: Move,

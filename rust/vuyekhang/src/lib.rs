@@ -2,7 +2,8 @@
 //!
 //! A plan is a formula over sets of ports. [`read`] writes its plan table from a text, [`load`] fills a penalty for every node
 //! and every tuple of ports (a cell), and the root's penalty is 0 exactly when the formula is true. [`make_move`] changes the
-//! sets and the cells that this touches, [`trial`] says what a move would do, [`improve`] makes the best move.
+//! sets and the cells that this touches, [`trial`] says what a move would do, [`improve`] makes the best move and [`best_moves`]
+//! lists those that are equally good.
 //!
 //! The caller owns every table and lends it for one call; the engine keeps nothing between two calls. A refused call writes
 //! nothing, and nothing past a plan's own bytes, masks or cells is read or written.
@@ -49,6 +50,9 @@ pub const MOST_TABLE: usize = 9 + 8 * 512;
 
 /// No plan has more cells than this.
 pub const MOST_CELLS: usize = 1_048_576;
+
+/// No plan ever has more legal moves than this, so that a list of so many is long enough for any [`best_moves`].
+pub const MOST_MOVES: usize = 21_504;
 
 /// The stack of a thread on which [`read`] may be called with any text.
 pub const READ_STACK: usize = 8 << 20;
@@ -118,8 +122,8 @@ pub fn trial(table: &[u8], masks: &[u64], cells: &[u32], scratch: &mut [u32], m:
     raw::trial(table, masks, cells, scratch, m).typed()
 }
 
-/// Makes a legal move of some kinds that leaves the least root, if that is smaller than now; which of equally good ones is not
-/// said.
+/// Makes the first, in the order of [`Move`], of the legal moves of some kinds that leave the least root, if that is smaller than
+/// now.
 ///
 /// Tries 11 to 13 as [`trial`] does, then 14: kinds is 0 or above 15. Scratch as for [`trial`].
 ///
@@ -134,9 +138,42 @@ pub fn trial(table: &[u8], masks: &[u64], cells: &[u32], scratch: &mut [u32], m:
 ///     Improved::Made { chosen, moved } => println!("{chosen:?}: root {} to {}", moved.before, moved.after),
 ///     Improved::NoBetter { root } => println!("no better move, root {root}"),
 /// }
-/// # assert!(matches!(answer, Improved::Made { chosen: Move { kind: Move::DROP, .. }, moved: Moved { before: 1, after: 0, .. } }));
+/// # let expected = Move::drop(0, 0);
+/// # assert!(matches!(answer, Improved::Made { chosen, moved: Moved { before: 1, after: 0, .. } } if chosen == expected));
 /// # Ok::<(), vuyekhang::Refusal>(())
 /// ```
 pub fn improve(table: &[u8], masks: &mut [u64], cells: &mut [u32], scratch: &mut [u32], kinds: Kinds) -> Result<Improved, Refusal> {
     raw::improve(table, masks, cells, scratch, kinds.0).typed()
+}
+
+/// Lists the legal moves of some kinds that leave the least root, as [`trial`] would answer it, and answers how many there are.
+///
+/// They begin the list, each once and in the order of [`Move`], also where that root is not smaller than now; 0 of them where no
+/// move is legal. Records past the count stay. Tries 11 to 14 as [`improve`] does, then 16: the list is shorter than the count, so
+/// that one of [`MOST_MOVES`] is always long enough. Scratch as for [`trial`].
+///
+/// ```
+/// # use vuyekhang::{best_moves, load, read, Kinds, Move, Refusal, MOST_TABLE};
+/// # let mut table = [0; MOST_TABLE];
+/// // Port 1 is in S and T and not in I: to drop it from S mends the plan, and to drop it from T.
+/// let plan = read(3, b"[STI] @x (x:I <-> x:S & x:T) & #I <= 1", &mut table)?;
+/// let (masks, mut cells, mut scratch) = ([3, 7, 1], vec![0; plan.cells], vec![0; plan.cells]);
+/// load(&table, &masks, &mut cells)?;
+/// let mut list = [Move::default(); 8];
+/// let count = best_moves(&table, &masks, &cells, &mut scratch, Kinds::ALL, &mut list)?;
+/// assert_eq!(list[..count], [Move::drop(0, 1), Move::drop(1, 1)]);
+///
+/// let short = best_moves(&table, &masks, &cells, &mut scratch, Kinds::ALL, &mut list[..1]);
+/// assert_eq!(short, Err(Refusal::ListTooShort));
+/// # Ok::<(), vuyekhang::Refusal>(())
+/// ```
+pub fn best_moves(
+    table: &[u8],
+    masks: &[u64],
+    cells: &[u32],
+    scratch: &mut [u32],
+    kinds: Kinds,
+    list: &mut [Move],
+) -> Result<usize, Refusal> {
+    raw::best_moves(table, masks, cells, scratch, kinds.0, list).typed()
 }

@@ -6,13 +6,16 @@ use std::ops::BitOr;
 /// Any value may stand in any field. Whether it is known is for the engine to say: an unknown kind, set or port, or a field that
 /// its kind does not use and that is not 0, is [`Refusal::UnknownMove`](crate::Refusal::UnknownMove).
 ///
+/// Moves are ordered by kind, s, t, p, q, smaller first.
+///
 /// ```
 /// use vuyekhang::Move;
 ///
 /// assert_eq!(Move::transfer(0, 2, 5), Move { kind: Move::TRANSFER, s: 0, t: 2, p: 5, q: 0 });
+/// assert!(Move::drop(3, 7) < Move::transfer(0, 2, 5));
 /// ```
 #[repr(C)]
-#[derive(Debug, Clone, Copy, PartialEq, Eq, Hash, Default)]
+#[derive(Debug, Clone, Copy, PartialEq, Eq, PartialOrd, Ord, Hash, Default)]
 pub struct Move {
     /// One of [`Move::ADD`], [`Move::DROP`], [`Move::TRANSFER`], [`Move::SWAP`].
     pub kind: u32,

@@ -73,6 +73,16 @@ pub struct ImproveAnswer {
     pub changed: u32,
 }
 
+/// `vk_count_answer`.
+#[repr(C)]
+#[derive(Debug, Clone, Copy, PartialEq, Eq)]
+pub struct CountAnswer {
+    /// 0, or the ground for refusal.
+    pub number: u32,
+    /// How many moves were listed.
+    pub count: u32,
+}
+
 extern "C" {
     fn vk_read(u: u64, text: *const u8, text_len: usize, table: *mut u8, table_len: usize) -> ReadAnswer;
     fn vk_load(table: *const u8, table_len: usize, masks: *const u64, masks_len: usize, cells: *mut u32, cells_len: usize) -> LoadAnswer;
@@ -108,6 +118,19 @@ extern "C" {
         scratch_len: usize,
         kinds: u32,
     ) -> ImproveAnswer;
+    fn vk_best_moves(
+        table: *const u8,
+        table_len: usize,
+        masks: *const u64,
+        masks_len: usize,
+        cells: *const u32,
+        cells_len: usize,
+        scratch: *mut u32,
+        scratch_len: usize,
+        kinds: u32,
+        list: *mut Move,
+        list_len: usize,
+    ) -> CountAnswer;
 }
 
 /// `vk_read`; see [`crate::read`].
@@ -151,6 +174,14 @@ pub fn improve(table: &[u8], masks: &mut [u64], cells: &mut [u32], scratch: &mut
     unsafe { vk_improve(t, table.len(), ms, masks.len(), cs, cells.len(), sc, scratch.len(), kinds) }
 }
 
+/// `vk_best_moves`; see [`crate::best_moves`].
+pub fn best_moves(table: &[u8], masks: &[u64], cells: &[u32], scratch: &mut [u32], kinds: u32, list: &mut [Move]) -> CountAnswer {
+    let (t, ms, cs, sc) = (table.as_ptr(), masks.as_ptr(), cells.as_ptr(), scratch.as_mut_ptr());
+    // SAFETY: each pointer comes from a slice of the length beside it, and `scratch` and `list`, which are written, are borrowed
+    // here alone.
+    unsafe { vk_best_moves(t, table.len(), ms, masks.len(), cs, cells.len(), sc, scratch.len(), kinds, list.as_mut_ptr(), list.len()) }
+}
+
 /// What was answered, or the ground where the number is not 0.
 fn accepted<T>(number: u32, answer: T) -> Result<T, Refusal> {
     match number {
@@ -186,5 +217,12 @@ impl ImproveAnswer {
         let moved = Moved { before: self.before, after: self.after, changed: self.changed as usize };
         let made = Improved::Made { chosen: self.chosen, moved };
         accepted(self.number, if self.found == 1 { made } else { Improved::NoBetter { root: self.before } })
+    }
+}
+
+impl CountAnswer {
+    /// The same in types.
+    pub fn typed(self) -> Result<usize, Refusal> {
+        accepted(self.number, self.count as usize)
     }
 }

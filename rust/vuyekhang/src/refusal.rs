@@ -1,4 +1,4 @@
-//! The grounds for refusal of paper 01.
+//! The grounds for refusal of paper 01, and those that the requests of paper 02 add.
 use std::fmt;
 
 /// Why a call was refused. A refused call has written nothing.
@@ -47,6 +47,8 @@ pub enum Refusal {
     UnknownMove,
     /// 15: the move is not legal.
     IllegalMove,
+    /// 16: the list that is lent for moves is too short.
+    ListTooShort,
     /// A ground that this version does not name. Only the engine's own answers make one, so that it never stands for a ground
     /// that has a name.
     #[non_exhaustive]
@@ -57,7 +59,7 @@ pub enum Refusal {
 }
 
 /// Each ground with its meaning; ground n stands at n - 1.
-const GROUNDS: [(Refusal, &str); 15] = [
+const GROUNDS: [(Refusal, &str); 16] = [
     (Refusal::TextTooLong, "text over 4,096 bytes"),
     (Refusal::UnknownByte, "a byte of no token, space or line end"),
     (Refusal::OutsideGrammar, "text outside the grammar"),
@@ -73,6 +75,7 @@ const GROUNDS: [(Refusal, &str); 15] = [
     (Refusal::PortOutsidePlan, "a mask with a port of u or more"),
     (Refusal::UnknownMove, "unknown kind, set, port or sum of kinds, or an unused field not 0"),
     (Refusal::IllegalMove, "move not legal"),
+    (Refusal::ListTooShort, "list of moves too short"),
 ];
 
 impl Refusal {
@@ -99,6 +102,7 @@ impl Refusal {
             Refusal::PortOutsidePlan => 13,
             Refusal::UnknownMove => 14,
             Refusal::IllegalMove => 15,
+            Refusal::ListTooShort => 16,
             Refusal::Other { number } => *number,
         }
     }

@@ -1,6 +1,7 @@
 use mathlib.Core.Path.{refl}
 use borrow.Author.Needs.{needs}
-use Rattle.contracts.specs.ImproveCall.{improvedNumber, improvedFound, improvedMove, improvedBefore, improvedAfter, improvedChanged}
+use Rattle.contracts.specs.MoveCall.{moveAccepted}
+use Rattle.contracts.specs.ImproveCall.{improveRefused, improveMade, noBetter, improveValues}
 use Rattle.call_list.proofs.Telling.{told-improved}
 use Rattle.call_list.proofs.tell_improved.Statement.{statement}
 use Rattle.call_list.proofs.tell_improved.Tie as tie
@@ -36,7 +37,7 @@ same-length : tie.Need-same-length
 same-length c = search needs
 
 returns : tie.Need-returns
-unfolding improvedNumber improvedFound improvedMove improvedBefore improvedAfter improvedChanged
+unfolding improveRefused improveMade noBetter moveAccepted improveValues
 returns c =
     told-improved _ _ _ (c .before .before .before .before .before .before .before .before .args .answer .now) _ (c .before .before .before .before .before .r .given .1) refl (c .before .before .tell .ensures)
 
@@ -44,7 +45,7 @@ same-length-2 : tie.Need-same-length-2
 same-length-2 c = search needs
 
 returns-2 : tie.Need-returns-2
-unfolding improvedNumber improvedFound improvedMove improvedBefore improvedAfter improvedChanged
+unfolding improveRefused improveMade noBetter moveAccepted improveValues
 returns-2 c =
     told-improved _ _ _ (c .before .before .before .before .before .before .before .before .before .args .answer .now) _ (c .before .before .before .before .before .before .r2 .given .1) (c .before .before .before .before .no-move .ensures) (c .before .before .tell2 .ensures)
 
@@ -52,7 +53,7 @@ same-length-3 : tie.Need-same-length-3
 same-length-3 c = search needs
 
 returns-3 : tie.Need-returns-3
-unfolding improvedNumber improvedFound improvedMove improvedBefore improvedAfter improvedChanged
+unfolding improveRefused improveMade noBetter moveAccepted improveValues
 returns-3 c =
     told-improved _ _ _ (c .before .before .before .before .before .before .before .before .before .args .answer .now) _ (c .before .before .before .before .before .before .r3 .given .1) (c .before .before .before .before .no-move2 .ensures) (c .before .before .tell3 .ensures)
 

@@ -4,43 +4,46 @@ use native.Mathlib.Omega.{arith}
 use lib.ListN.{length}
 use borrow.Author.Tests.{not-true, not-false}
 use Rattle.contracts.specs.State.{tables}
+use Rattle.call_list.specs.Working.{lends}
 use Rattle.call_list.proofs.Extending.{Going, outset, within, one-ready, goes-on, worked-there, unknown-there, answers-there, ends-there, same-answers, same-scratch, fits-true}
 use Rattle.call_list.proofs.work.Statement.{statement}
 use Rattle.call_list.proofs.work.Tie as tie
 
 abbrev Inv-loop : tie.InvT-loop
-Inv-loop table masks₀ cells₀ scratch₀ calls answers₀ worked₀ masks cells scratch answers worked = Going table calls (tables masks₀ cells₀) scratch₀ answers₀ worked (tables masks cells) scratch answers
+Inv-loop table masks₀ cells₀ scratch₀ list₀ calls answers₀ worked₀ masks cells scratch list answers worked =
+    Going table calls (lends (tables masks₀ cells₀) scratch₀ list₀ answers₀) worked (lends (tables masks cells) scratch list answers)
 
 abbrev μ-loop : tie.MeasureT-loop
-μ-loop table masks₀ cells₀ scratch₀ calls answers₀ worked₀ masks cells scratch answers worked = length calls - 7 * worked
+μ-loop table masks₀ cells₀ scratch₀ list₀ calls answers₀ worked₀ masks cells scratch list answers worked =
+    length calls - 7 * worked
 
 loop-holds : tie.Need-loop-holds Inv-loop μ-loop
 loop-holds c =
-    outset _ _ _ _ _
+    outset _ _ _
 
 next-fits-requires : tie.Need-next-fits-requires Inv-loop μ-loop
 next-fits-requires c κs =
-    within _ _ _ _ _ _ _ _ _ (c .before .loop .inv)
+    within _ _ _ _ _ (c .before .loop .inv)
 
 mul-at : tie.Need-mul-at Inv-loop μ-loop
 mul-at c =
-    let f = within _ _ _ _ _ _ _ _ _ (c .before .before .before .loop .inv) in omega (arith, f .0, c .before .before .before .before .before .before .before .before .before .before .good)
+    let f = within _ _ _ _ _ (c .before .before .before .loop .inv) in omega (arith, f .0, c .before .before .before .before .before .before .before .before .before .before .good)
 
 mul-to : tie.Need-mul-to Inv-loop μ-loop
 mul-to c =
-    let f = within _ _ _ _ _ _ _ _ _ (c .before .before .before .loop .inv) in omega (arith, f .1, c .before .before .before .before .before .before .before .before .before .before .good)
+    let f = within _ _ _ _ _ (c .before .before .before .loop .inv) in omega (arith, f .1, c .before .before .before .before .before .before .before .before .before .before .good)
 
 mul-work-one : tie.Need-mul-work-one Inv-loop μ-loop
 mul-work-one c =
-    let f = within _ _ _ _ _ _ _ _ _ (c .before .before .before .before .before .before .loop .inv) in omega (arith, f .0, c .before .before .before .before .before .before .before .before .before .before .before .before .before .good)
+    let f = within _ _ _ _ _ (c .before .before .before .before .before .before .before .loop .inv) in omega (arith, f .0, c .before .before .before .before .before .before .before .before .before .before .before .before .before .before .good)
 
 sub-work-one : tie.Need-sub-work-one Inv-loop μ-loop
 sub-work-one c =
-    within _ _ _ _ _ _ _ _ _ (c .before .before .before .before .before .before .loop .inv) .0
+    within _ _ _ _ _ (c .before .before .before .before .before .before .before .loop .inv) .0
 
 part-work-one-start : tie.Need-part-work-one-start Inv-loop μ-loop
 part-work-one-start c =
-    let f = within _ _ _ _ _ _ _ _ _ (c .before .before .before .before .before .before .loop .inv) in omega (arith, f .0)
+    let f = within _ _ _ _ _ (c .before .before .before .before .before .before .before .loop .inv) in omega (arith, f .0)
 
 part-work-one-end : tie.Need-part-work-one-end Inv-loop μ-loop
 part-work-one-end c =
@@ -48,15 +51,15 @@ part-work-one-end c =
 
 mul-work-one-2 : tie.Need-mul-work-one-2 Inv-loop μ-loop
 mul-work-one-2 c =
-    let f = within _ _ _ _ _ _ _ _ _ (c .before .before .before .before .before .before .before .loop .inv) in omega (arith, f .1, c .before .before .before .before .before .before .before .before .before .before .before .before .before .before .good)
+    let f = within _ _ _ _ _ (c .before .before .before .before .before .before .before .before .loop .inv) in omega (arith, f .1, c .before .before .before .before .before .before .before .before .before .before .before .before .before .before .before .good)
 
 sub-work-one-2 : tie.Need-sub-work-one-2 Inv-loop μ-loop
 sub-work-one-2 c =
-    within _ _ _ _ _ _ _ _ _ (c .before .before .before .before .before .before .before .loop .inv) .1
+    within _ _ _ _ _ (c .before .before .before .before .before .before .before .before .loop .inv) .1
 
 part-work-one-start-2 : tie.Need-part-work-one-start-2 Inv-loop μ-loop
 part-work-one-start-2 c =
-    let f = within _ _ _ _ _ _ _ _ _ (c .before .before .before .before .before .before .before .loop .inv) in omega (arith, f .1)
+    let f = within _ _ _ _ _ (c .before .before .before .before .before .before .before .before .loop .inv) in omega (arith, f .1)
 
 part-work-one-end-2 : tie.Need-part-work-one-end-2 Inv-loop μ-loop
 part-work-one-end-2 c =
@@ -64,59 +67,67 @@ part-work-one-end-2 c =
 
 work-one-requires : tie.Need-work-one-requires Inv-loop μ-loop
 work-one-requires c κs =
-    let f = fits-true _ _ _ _ (c .before .before .before .before .before .if1 .taken) (c .before .before .before .before .before .before .next-fits .ensures) in one-ready _ _ _ _ _ _ _ _ _ (c .before .before .before .before .before .before .before .before .loop .inv) (f .0) (f .1)
+    let f = fits-true _ _ _ _ (c .before .before .before .before .before .before .if1 .taken) (c .before .before .before .before .before .before .before .next-fits .ensures) in one-ready _ _ _ _ _ (c .before .before .before .before .before .before .before .before .before .loop .inv) (f .0) (f .1)
 
 same-length : tie.Need-same-length Inv-loop μ-loop
 same-length c =
-    c .before .before .before .before .before .before .before .before .before .work-one .kept .1 .0 ∙ c .before .before .before .before .before .before .before .before .before .before .before .before .before .before .before .before .before .before .loop .inv .masks-length
+    c .before .before .before .before .before .before .before .before .before .before .work-one .kept .1 .0 ∙ c .before .before .before .before .before .before .before .before .before .before .before .before .before .before .before .before .before .before .before .before .loop .inv .masks-length
 
 same-length-2 : tie.Need-same-length-2 Inv-loop μ-loop
 same-length-2 c =
-    c .before .before .before .before .before .before .before .before .before .work-one .kept .1 .1 .0 ∙ c .before .before .before .before .before .before .before .before .before .before .before .before .before .before .before .before .before .before .loop .inv .cells-length
+    c .before .before .before .before .before .before .before .before .before .before .work-one .kept .1 .1 .0 ∙ c .before .before .before .before .before .before .before .before .before .before .before .before .before .before .before .before .before .before .before .before .loop .inv .cells-length
 
 same-length-3 : tie.Need-same-length-3 Inv-loop μ-loop
 same-length-3 c =
-    c .before .before .before .before .before .before .before .before .before .work-one .kept .1 .1 .1 .0 ∙ same-scratch _ _ _ _ _ _ _ _ _ (c .before .before .before .before .before .before .before .before .before .before .before .before .before .before .before .before .before .before .loop .inv)
+    c .before .before .before .before .before .before .before .before .before .before .work-one .kept .1 .1 .1 .0 ∙ same-scratch _ _ _ _ _ (c .before .before .before .before .before .before .before .before .before .before .before .before .before .before .before .before .before .before .before .before .loop .inv)
 
 same-length-4 : tie.Need-same-length-4 Inv-loop μ-loop
 same-length-4 c =
-    answers-there _ _ _ _ _ _ _ _ _ (c .before .before .before .before .before .before .before .before .before .before .before .before .before .before .before .before .before .before .loop .inv) _ _ _ _ (c .before .before .before .before .before .before .before .before .before .work-one .ensures) (fits-true _ _ _ _ (c .before .before .before .before .before .before .before .before .before .before .before .before .before .before .before .if1 .taken) (c .before .before .before .before .before .before .before .before .before .before .before .before .before .before .before .before .next-fits .ensures)) (not-true _ (c .if2 .taken))
-
-returns : tie.Need-returns Inv-loop μ-loop
-returns c =
-    (worked-there _ _ _ _ _ _ _ _ _ (c .before .before .before .before .before .before .before .before .before .before .before .before .before .before .before .before .before .before .loop .inv) _ _ _ _ (c .before .before .before .before .before .before .before .before .before .work-one .ensures) (fits-true _ _ _ _ (c .before .before .before .before .before .before .before .before .before .before .before .before .before .before .before .if1 .taken) (c .before .before .before .before .before .before .before .before .before .before .before .before .before .before .before .before .next-fits .ensures)) (not-true _ (c .if2 .taken)), unknown-there _ _ _ _ _ _ _ _ _ (c .before .before .before .before .before .before .before .before .before .before .before .before .before .before .before .before .before .before .loop .inv) _ _ _ _ (c .before .before .before .before .before .before .before .before .before .work-one .ensures) (fits-true _ _ _ _ (c .before .before .before .before .before .before .before .before .before .before .before .before .before .before .before .if1 .taken) (c .before .before .before .before .before .before .before .before .before .before .before .before .before .before .before .before .next-fits .ensures)) (not-true _ (c .if2 .taken)))
-
-add-worked : tie.Need-add-worked Inv-loop μ-loop
-add-worked c =
-    let f = fits-true _ _ _ _ (c .before .before .before .before .before .before .before .before .before .before .before .before .before .before .before .if1 .taken) (c .before .before .before .before .before .before .before .before .before .before .before .before .before .before .before .before .next-fits .ensures) in omega (arith, f .0, c .before .before .before .before .before .before .before .before .before .before .before .before .before .before .before .before .before .before .before .before .before .before .before .before .before .good)
-
-loop-less : tie.Need-loop-less Inv-loop μ-loop
-loop-less c =
-    let f = fits-true _ _ _ _ (c .before .before .before .before .before .before .before .before .before .before .before .before .before .before .before .if1 .taken) (c .before .before .before .before .before .before .before .before .before .before .before .before .before .before .before .before .next-fits .ensures) in omega (arith, f .0)
-
-loop-again : tie.Need-loop-again Inv-loop μ-loop
-loop-again c =
-    goes-on _ _ _ _ _ _ _ _ _ (c .before .before .before .before .before .before .before .before .before .before .before .before .before .before .before .before .before .before .loop .inv) _ _ _ _ (c .before .before .before .before .before .before .before .before .before .work-one .ensures) (fits-true _ _ _ _ (c .before .before .before .before .before .before .before .before .before .before .before .before .before .before .before .if1 .taken) (c .before .before .before .before .before .before .before .before .before .before .before .before .before .before .before .before .next-fits .ensures)) (not-false _ (c .if2 .left)) (c .before .before .before .before .before .before .before .before .before .work-one .kept .1 .0) (c .before .before .before .before .before .before .before .before .before .work-one .kept .1 .1 .0)
+    c .before .before .before .before .before .before .before .before .before .before .work-one .kept .1 .1 .1 .1 .0 ∙ c .before .before .before .before .before .before .before .before .before .before .before .before .before .before .before .before .before .before .before .before .loop .inv .list-length
 
 same-length-5 : tie.Need-same-length-5 Inv-loop μ-loop
 same-length-5 c =
-    c .before .before .before .loop .inv .masks-length
+    answers-there _ _ _ _ _ (c .before .before .before .before .before .before .before .before .before .before .before .before .before .before .before .before .before .before .before .before .loop .inv) _ _ (c .before .before .before .before .before .before .before .before .before .before .work-one .ensures) (fits-true _ _ _ _ (c .before .before .before .before .before .before .before .before .before .before .before .before .before .before .before .before .before .if1 .taken) (c .before .before .before .before .before .before .before .before .before .before .before .before .before .before .before .before .before .before .next-fits .ensures)) (not-true _ (c .if2 .taken))
+
+returns : tie.Need-returns Inv-loop μ-loop
+returns c =
+    (worked-there _ _ _ _ _ (c .before .before .before .before .before .before .before .before .before .before .before .before .before .before .before .before .before .before .before .before .loop .inv) _ _ (c .before .before .before .before .before .before .before .before .before .before .work-one .ensures) (fits-true _ _ _ _ (c .before .before .before .before .before .before .before .before .before .before .before .before .before .before .before .before .before .if1 .taken) (c .before .before .before .before .before .before .before .before .before .before .before .before .before .before .before .before .before .before .next-fits .ensures)) (not-true _ (c .if2 .taken)), unknown-there _ _ _ _ _ (c .before .before .before .before .before .before .before .before .before .before .before .before .before .before .before .before .before .before .before .before .loop .inv) _ _ (c .before .before .before .before .before .before .before .before .before .before .work-one .ensures) (fits-true _ _ _ _ (c .before .before .before .before .before .before .before .before .before .before .before .before .before .before .before .before .before .if1 .taken) (c .before .before .before .before .before .before .before .before .before .before .before .before .before .before .before .before .before .before .next-fits .ensures)) (not-true _ (c .if2 .taken)))
+
+add-worked : tie.Need-add-worked Inv-loop μ-loop
+add-worked c =
+    let f = fits-true _ _ _ _ (c .before .before .before .before .before .before .before .before .before .before .before .before .before .before .before .before .before .if1 .taken) (c .before .before .before .before .before .before .before .before .before .before .before .before .before .before .before .before .before .before .next-fits .ensures) in omega (arith, f .0, c .before .before .before .before .before .before .before .before .before .before .before .before .before .before .before .before .before .before .before .before .before .before .before .before .before .before .before .good)
+
+loop-less : tie.Need-loop-less Inv-loop μ-loop
+loop-less c =
+    let f = fits-true _ _ _ _ (c .before .before .before .before .before .before .before .before .before .before .before .before .before .before .before .before .before .if1 .taken) (c .before .before .before .before .before .before .before .before .before .before .before .before .before .before .before .before .before .before .next-fits .ensures) in omega (arith, f .0)
+
+loop-again : tie.Need-loop-again Inv-loop μ-loop
+loop-again c =
+    goes-on _ _ _ _ _ (c .before .before .before .before .before .before .before .before .before .before .before .before .before .before .before .before .before .before .before .before .loop .inv) _ _ (c .before .before .before .before .before .before .before .before .before .before .work-one .ensures) (fits-true _ _ _ _ (c .before .before .before .before .before .before .before .before .before .before .before .before .before .before .before .before .before .if1 .taken) (c .before .before .before .before .before .before .before .before .before .before .before .before .before .before .before .before .before .before .next-fits .ensures)) (not-false _ (c .if2 .left)) (c .before .before .before .before .before .before .before .before .before .before .work-one .kept .1 .0) (c .before .before .before .before .before .before .before .before .before .before .work-one .kept .1 .1 .0) (c .before .before .before .before .before .before .before .before .before .before .work-one .kept .1 .1 .1 .1 .0)
 
 same-length-6 : tie.Need-same-length-6 Inv-loop μ-loop
 same-length-6 c =
-    c .before .before .before .loop .inv .cells-length
+    c .before .before .before .loop .inv .masks-length
 
 same-length-7 : tie.Need-same-length-7 Inv-loop μ-loop
 same-length-7 c =
-    same-scratch _ _ _ _ _ _ _ _ _ (c .before .before .before .loop .inv)
+    c .before .before .before .loop .inv .cells-length
 
 same-length-8 : tie.Need-same-length-8 Inv-loop μ-loop
 same-length-8 c =
-    same-answers _ _ _ _ _ _ _ _ _ (c .before .before .before .loop .inv)
+    same-scratch _ _ _ _ _ (c .before .before .before .loop .inv)
+
+same-length-9 : tie.Need-same-length-9 Inv-loop μ-loop
+same-length-9 c =
+    c .before .before .before .loop .inv .list-length
+
+same-length-10 : tie.Need-same-length-10 Inv-loop μ-loop
+same-length-10 c =
+    same-answers _ _ _ _ _ (c .before .before .before .loop .inv)
 
 returns-2 : tie.Need-returns-2 Inv-loop μ-loop
 returns-2 c =
-    (c .before .before .before .loop .inv .so-far, ends-there _ _ _ _ _ _ _ _ _ (c .before .before .before .loop .inv) _ (c .if1 .left) (c .before .next-fits .ensures))
+    (c .before .before .before .loop .inv .so-far, ends-there _ _ _ _ _ (c .before .before .before .loop .inv) _ (c .if1 .left) (c .before .next-fits .ensures))
 
 pub work-spec : {M : Type 1} → statement M
 work-spec =
@@ -141,12 +152,14 @@ work-spec =
     same-length-2
     same-length-3
     same-length-4
+    same-length-5
     returns
     add-worked
     loop-less
     loop-again
-    same-length-5
     same-length-6
     same-length-7
     same-length-8
+    same-length-9
+    same-length-10
     returns-2)

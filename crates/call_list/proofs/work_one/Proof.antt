@@ -1,15 +1,12 @@
-use mathlib.Core.Path.{refl, ap}
+use mathlib.Core.Path.{refl, ap, _∙_}
 use Prim.Native.Nat.{_-_}
-use lib.ListN.{take}
-use borrow.Author.Needs.{needs}
+use native.Mathlib.Omega.{arith}
 use Rattle.logic.specs.declared.Move.{Move}
-use Rattle.contracts.specs.Lists.{moveCall, trialCall, improveCall, Step}
-use Rattle.call_list.specs.Encoding.{tag, moveOf, kindsOf, cellsLent, Encodes, answerNumbers}
+use Rattle.call_list.specs.Encoding.{tag, moveOf, kindsOf, cellsLent, recordsLent}
 use Rattle.call_list.specs.inner.Steps.{OneAfter}
-use Rattle.call_list.specs.Scratch.{lentTo, answerNumber}
-use Rattle.call_list.proofs.Extending.{scratch-lent}
-use Rattle.call_list.proofs.Scratch.{none-lent, front-lent}
-use Rattle.contracts.specs.MoveCall.{moveValues}
+use Rattle.call_list.proofs.Extending.{part-lent}
+use Rattle.call_list.proofs.OneCall.{one-move, one-trial, one-improve, one-best}
+use borrow.Author.Needs.{needs}
 use Rattle.call_list.proofs.work_one.Statement.{statement}
 use Rattle.call_list.proofs.work_one.Tie as tie
 
@@ -44,9 +41,9 @@ same-length-3 : tie.Need-same-length-3
 same-length-3 c = search needs
 
 returns : tie.Need-returns
-unfolding OneAfter Encodes tag Step answerNumbers
+unfolding OneAfter tag
 returns c =
-    record { exchange = moveCall (c .before .before .before .before .before .before .before .before .before .before .before .before .before .before .before .move-of .result) (moveValues (c .before .before .before .before .before .before .before .before .make-move .result)); says = (c .before .before .before .before .before .before .before .before .before .before .before .if1 .taken, c .before .before .before .before .before .before .before .before .before .before .before .before .before .before .before .move-of .ensures); step = (λ i. (c .before .before .before .before .before .before .before .before .make-move .ensures .answers .values-are i, c .before .before .before .before .before .before .before .before .make-move .ensures .tables-are i)); scratch-step = none-lent _ _ _ _; answer-is = c .before .before .tell-moved .ensures }
+    one-move _ _ _ _ _ _ _ _ _ _ (c .before .before .before .before .before .before .before .before .before .before .before .if1 .taken) (c .before .before .before .before .before .before .before .before .before .before .before .before .before .before .before .move-of .ensures) (c .before .before .before .before .before .before .before .before .make-move .ensures) (c .before .before .tell-moved .ensures)
 
 sub-trial : tie.Need-sub-trial
 sub-trial c = search needs
@@ -76,9 +73,9 @@ same-length-7 : tie.Need-same-length-7
 same-length-7 c = search needs
 
 returns-2 : tie.Need-returns-2
-unfolding OneAfter Encodes tag Step answerNumbers cellsLent lentTo answerNumber
+unfolding OneAfter tag cellsLent
 returns-2 c =
-    record { exchange = trialCall (c .before .before .before .before .before .before .before .before .before .before .before .before .before .before .before .move-of .result) (take (c .before .before .before .before .before .before .before .before .before .before .before .before .lesser .result - 0) (c .before .before .before .before .before .before .before .before .before .before .before .before .before .before .before .before .before .before .before .before .before .before .before .args .scratch .now)) (moveValues (c .before .before .before .before .before .before .trial .result)); says = (c .before .before .before .before .before .before .before .before .before .before .if2 .taken, c .before .before .before .before .before .before .before .before .before .before .before .before .before .before .before .move-of .ensures, scratch-lent (c .before .before .before .before .before .before .before .before .before .before .before .before .before .before .before .before .before .before .before .before .before .before .before .args .scratch .now) _ (c .before .before .before .before .before .before .before .before .before .before .before .before .before .wide .result) (c .before .before .before .before .before .before .before .before .before .before .before .before .lesser .result) (c .before .before .before .before .before .before .before .before .before .before .before .before .before .wide .ensures .0) (c .before .before .before .before .before .before .before .before .before .before .before .before .lesser .ensures)); step = (c .before .before .before .before .before .before .trial .ensures .0 .values-are, refl); scratch-step = front-lent _ _ _ (c .before .before .before .before .before .before .before .before .before .before .before .before .lesser .result - 0) _ refl (c .before .before .before .before .before .before .trial .ensures .1); answer-is = c .before .before .tell-moved2 .ensures }
+    one-trial _ _ _ _ _ _ _ (c .before .before .before .before .before .before .before .before .before .before .before .before .lesser .result - 0) (part-lent (c .before .before .before .before .before .before .before .before .before .before .before .before .before .before .before .before .before .before .before .before .before .before .before .args .scratch .now) _ (c .before .before .before .before .before .before .before .before .before .before .before .before .before .wide .result) (c .before .before .before .before .before .before .before .before .before .before .before .before .lesser .result) (c .before .before .before .before .before .before .before .before .before .before .before .before .before .wide .ensures .0) (c .before .before .before .before .before .before .before .before .before .before .before .before .lesser .ensures)) _ _ _ (c .before .before .before .before .before .before .before .before .before .before .if2 .taken) (c .before .before .before .before .before .before .before .before .before .before .before .before .before .before .before .move-of .ensures) (c .before .before .before .before .before .before .trial .ensures .0) (c .before .before .before .before .before .before .trial .ensures .1) (c .before .before .tell-moved2 .ensures)
 
 sub-improve : tie.Need-sub-improve
 sub-improve c = search needs
@@ -108,14 +105,64 @@ same-length-11 : tie.Need-same-length-11
 same-length-11 c = search needs
 
 returns-3 : tie.Need-returns-3
-unfolding OneAfter Encodes tag Step answerNumbers cellsLent lentTo answerNumber kindsOf moveOf
+unfolding OneAfter tag cellsLent kindsOf moveOf
 returns-3 c =
-    record { exchange = improveCall (c .before .before .before .before .before .before .before .before .before .before .before .before .before .before .before .before .before .before .before .before .move-of .result .kind) (take (c .before .before .before .before .before .before .before .before .before .before .before .before .before .before .before .before .before .lesser .result - 0) (c .before .before .before .before .before .before .before .before .before .before .before .before .before .before .before .before .before .before .before .before .before .before .before .before .before .before .before .before .args .scratch .now)) (c .before .before .before .before .before .before .before .before .before .before .improve .result); says = (c .before .before .before .before .before .before .before .before .before .before .before .before .before .before .if3 .taken, ap (λ (m : Move). m .kind) (c .before .before .before .before .before .before .before .before .before .before .before .before .before .before .before .before .before .before .before .before .move-of .ensures), scratch-lent (c .before .before .before .before .before .before .before .before .before .before .before .before .before .before .before .before .before .before .before .before .before .before .before .before .before .before .before .before .args .scratch .now) _ (c .before .before .before .before .before .before .before .before .before .before .before .before .before .before .before .before .before .before .wide .result) (c .before .before .before .before .before .before .before .before .before .before .before .before .before .before .before .before .before .lesser .result) (c .before .before .before .before .before .before .before .before .before .before .before .before .before .before .before .before .before .before .wide .ensures .0) (c .before .before .before .before .before .before .before .before .before .before .before .before .before .before .before .before .before .lesser .ensures)); step = c .before .before .before .before .before .before .before .before .before .before .improve .ensures .0; scratch-step = front-lent _ _ _ (c .before .before .before .before .before .before .before .before .before .before .before .before .before .before .before .before .before .lesser .result - 0) _ refl (c .before .before .before .before .before .before .before .before .before .before .improve .ensures .1); answer-is = c .before .before .tell-improved .ensures }
+    one-improve _ _ _ _ _ _ _ (c .before .before .before .before .before .before .before .before .before .before .before .before .before .before .before .before .before .lesser .result - 0) (part-lent (c .before .before .before .before .before .before .before .before .before .before .before .before .before .before .before .before .before .before .before .before .before .before .before .before .before .before .before .before .args .scratch .now) _ (c .before .before .before .before .before .before .before .before .before .before .before .before .before .before .before .before .before .before .wide .result) (c .before .before .before .before .before .before .before .before .before .before .before .before .before .before .before .before .before .lesser .result) (c .before .before .before .before .before .before .before .before .before .before .before .before .before .before .before .before .before .before .wide .ensures .0) (c .before .before .before .before .before .before .before .before .before .before .before .before .before .before .before .before .before .lesser .ensures)) _ _ (ap (λ (m : Move). m .kind) (c .before .before .before .before .before .before .before .before .before .before .before .before .before .before .before .before .before .before .before .before .move-of .ensures)) _ _ (c .before .before .before .before .before .before .before .before .before .before .before .before .before .before .if3 .taken) (c .before .before .before .before .before .before .before .before .before .before .improve .ensures .0) (c .before .before .before .before .before .before .before .before .before .before .improve .ensures .1) (c .before .before .tell-improved .ensures)
+
+wide-requires-2 : tie.Need-wide-requires-2
+wide-requires-2 c κs = search needs
+
+lesser-requires-2 : tie.Need-lesser-requires-2
+lesser-requires-2 c κs = search needs
+
+sub-best-moves : tie.Need-sub-best-moves
+sub-best-moves c = search needs
+
+part-best-moves-start : tie.Need-part-best-moves-start
+part-best-moves-start c = search needs
+
+part-best-moves-end : tie.Need-part-best-moves-end
+part-best-moves-end c = search needs
+
+sub-best-moves-2 : tie.Need-sub-best-moves-2
+sub-best-moves-2 c = search needs
+
+part-best-moves-start-2 : tie.Need-part-best-moves-start-2
+part-best-moves-start-2 c = search needs
+
+part-best-moves-end-2 : tie.Need-part-best-moves-end-2
+part-best-moves-end-2 c = search needs
+
+best-moves-requires : tie.Need-best-moves-requires
+best-moves-requires c κs = search needs
+
+tell-counted-requires : tie.Need-tell-counted-requires
+tell-counted-requires c κs = search needs
+
+same-length-12 : tie.Need-same-length-12
+same-length-12 c = search needs
+
+same-length-13 : tie.Need-same-length-13
+same-length-13 c = search needs
+
+same-length-14 : tie.Need-same-length-14
+same-length-14 c = search needs
+
+same-length-15 : tie.Need-same-length-15
+same-length-15 c = search needs
+
+same-length-16 : tie.Need-same-length-16
+same-length-16 c = search needs
 
 returns-4 : tie.Need-returns-4
-unfolding OneAfter tag
+unfolding OneAfter tag cellsLent recordsLent kindsOf moveOf
 returns-4 c =
-    record { unknown = record { no-move = c .before .before .if1 .left; no-trial = c .before .if2 .left; no-improve = c .if3 .left }; tables-kept = refl; scratch-kept = refl; answer-kept = refl }
+    one-best _ _ _ _ _ _ _ (c .before .before .before .before .before .before .before .before .before .before .before .before .before .before .before .before .before .before .lesser .result - 0) (part-lent (c .before .before .before .before .before .before .before .before .before .before .before .before .before .before .before .before .before .before .before .before .before .before .before .before .before .before .before .before .before .args .scratch .now) _ (c .before .before .before .before .before .before .before .before .before .before .before .before .before .before .before .before .before .before .before .wide .result) (c .before .before .before .before .before .before .before .before .before .before .before .before .before .before .before .before .before .before .lesser .result) (c .before .before .before .before .before .before .before .before .before .before .before .before .before .before .before .before .before .before .before .wide .ensures .0) (c .before .before .before .before .before .before .before .before .before .before .before .before .before .before .before .before .before .before .lesser .ensures)) _ _ (ap (λ (m : Move). m .kind) (c .before .before .before .before .before .before .before .before .before .before .before .before .before .before .before .before .before .before .before .before .before .move-of .ensures)) (c .before .before .before .before .before .before .before .before .before .before .before .before .lesser2 .result - 0) (part-lent (c .before .before .before .before .before .before .before .before .before .before .before .before .before .before .before .before .before .before .before .before .before .before .before .before .before .before .before .before .before .args .list .now) _ (c .before .before .before .before .before .before .before .before .before .before .before .before .before .wide2 .result) (c .before .before .before .before .before .before .before .before .before .before .before .before .lesser2 .result) (c .before .before .before .before .before .before .before .before .before .before .before .before .before .wide2 .ensures .0 ∙ ap (λ (m : Move). m .s) (c .before .before .before .before .before .before .before .before .before .before .before .before .before .before .before .before .before .before .before .before .before .move-of .ensures)) (c .before .before .before .before .before .before .before .before .before .before .before .before .lesser2 .ensures)) (omega (arith, c .before .before .before .before .before .before .before .before .before .before .before .before .lesser2 .ensures)) _ (c .before .before .before .before .before .before .before .best-moves .kept .1 .1 .1 .1 .1 .0) _ (c .before .before .before .before .before .before .before .before .before .before .before .before .before .before .if4 .taken) (c .before .before .before .before .before .before .before .best-moves .ensures .0) (c .before .before .before .before .before .before .before .best-moves .ensures .1) (c .before .before .tell-counted .ensures)
+
+returns-5 : tie.Need-returns-5
+unfolding OneAfter tag
+returns-5 c =
+    record { unknown = record { no-move = c .before .before .before .if1 .left; no-trial = c .before .before .if2 .left; no-improve = c .before .if3 .left; no-best = c .if4 .left }; kept = refl }
 
 pub work-one-spec : {M : Type 1} → statement M
 work-one-spec =
@@ -152,4 +199,20 @@ work-one-spec =
     same-length-10
     same-length-11
     returns-3
-    returns-4)
+    wide-requires-2
+    lesser-requires-2
+    sub-best-moves
+    part-best-moves-start
+    part-best-moves-end
+    sub-best-moves-2
+    part-best-moves-start-2
+    part-best-moves-end-2
+    best-moves-requires
+    tell-counted-requires
+    same-length-12
+    same-length-13
+    same-length-14
+    same-length-15
+    same-length-16
+    returns-4
+    returns-5)

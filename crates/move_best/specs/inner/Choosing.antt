@@ -1,20 +1,21 @@
--- The best of all candidates, by the root that each would leave. Paper 01, section One move.
+-- The best of all candidates, by the root that each would leave. Paper 01, section One move; paper 02, request 2026-01.
 use mathlib.Core.Path.{_≡_}
-use mathlib.Core.Bool.{Bool, true, false}
-use mathlib.Core.List.{List}
-use Prim.Native.Nat.{ℕ, _<_}
-use lib.ListN.{length, take}
+use mathlib.Core.Bool.{Bool, cond, not, _&&_, _||_}
+use mathlib.Core.List.{List, [], _∷_, map}
+use Prim.Native.Nat.{ℕ, suc, _+_, _-_, _≤_}
+use lib.Dec.{eqb, ltb}
+use lib.ListN.{length, take, set}
 use Rattle.logic.specs.declared.Move.{Move}
 use Rattle.logic.specs.Formula.{Plan}
-use Rattle.logic.specs.Configuration.{inMasks, maskCount, ownMasks}
-use Rattle.logic.specs.Cells.{ownCells}
+use Rattle.logic.specs.Configuration.{maskCount}
 use Rattle.table_format.specs.Decode.{sound, decode}
 use Rattle.call_open.specs.inner.Opening.{OpenTables}
 use Rattle.cells_sum.specs.declared.After.{After}
-use Rattle.contracts.specs.Least.{NoneBelow}
-use Rattle.contracts.specs.ImproveCall.{rootAfter, Candidate}
+use Rattle.contracts.specs.State.{State, tables, ownTables}
+use Rattle.contracts.specs.ImproveCall.{bestMoves}
 use Rattle.move_try.specs.inner.Trying.{NumbersAre}
 use Rattle.move_order.specs.inner.Stepping.{place}
+use Rattle.move_list.specs.inner.Records.{PlaceFits}
 use Rattle.move_best.specs.declared.Choice.{Choice}
 
 -- Open tables, and room for the masks after a move.
@@ -22,28 +23,43 @@ pub record SearchRoom (ports sets : ℕ) (bytes firsts ends uses masks cells wor
   pub ready : OpenTables ports sets bytes firsts ends uses masks cells
   pub work-long : length work ≡ maskCount sets
 
--- The best of the moves of which something holds: it leaves the least root, with its three numbers.
-pub record BestFound (Is : Move → Type 0) (P : Plan) (own before : List ℕ) (r : Choice) : Type 0 where
-  pub candidate : Is (r .m)
-  pub numbers : NumbersAre P own before (r .m) (r .numbers)
-  pub least : NoneBelow Is (λ x. rootAfter P x own before) (r .numbers .value)
-  -- Which of equally good moves is left free; this one is the first in the order, as paper 02's request 2026-01 will ask.
-  pub earliest : (m : Move) → Is m → place m < place (r .m) → r .numbers .value < rootAfter P m own before
-
--- Found exactly when there is one.
-unfoldable pub FoundOr : Bool → (Move → Type 0) → Plan → List ℕ → List ℕ → Choice → Type 0
-FoundOr true Is P own before r = BestFound Is P own before r
-FoundOr false Is P own before r = (m : Move) → Is m → ⊥
-
--- The choice among the candidates: the legal moves of the kinds.
-unfoldable pub Chooses : List ℕ → List ℕ → List ℕ → ℕ → Choice → Type 0
-Chooses bytes masks cells kinds r =
-    (P : Plan) → decode bytes ≡ sound P
-    → FoundOr (r .found) (Candidate P kinds (inMasks (take (ownMasks P) masks))) P (take (ownMasks P) masks) (take (ownCells P) cells) r
-
 -- A choice with its fields, and the numbers of none.
-unfoldable pub choiceOf : Bool → Move → After → Choice
-choiceOf found m a = record { found = found; m = m; numbers = a }
+unfoldable pub choiceOf : ℕ → Move → After → Choice
+choiceOf count m a = record { count = count; m = m; numbers = a }
 
 unfoldable pub noNumbers : After
 noNumbers = record { old = 0; value = 0; changed = 0 }
+
+-- The best so far and one candidate more.
+unfoldable pub rankedBy : Choice → Move → After → Choice
+rankedBy best m a =
+    cond (eqb (best .count) 0 || ltb (a .value) (best .numbers .value)) (choiceOf 1 m a)
+    (cond (eqb (a .value) (best .numbers .value)) (choiceOf (best .count + 1) (best .m) (best .numbers)) best)
+
+-- The choice is the first of these moves, with how many they are and its three numbers.
+unfoldable pub BestIs : List Move → Plan → State → Choice → Type 0
+BestIs [] P own r = r .count ≡ 0
+BestIs (m ∷ ms) P own r = (r .count ≡ suc (length ms)) × (r .m ≡ m) × NumbersAre P (own .masks) (own .cells) m (r .numbers)
+
+-- A table holds the places of these moves, as many as it takes.
+unfoldable pub PlacesAre : List Move → List ℕ → Type 0
+PlacesAre ms places = take (length ms) places ≡ take (length places) (map place ms)
+
+-- The table with the place of a candidate that has become one of the best; past its end nothing is written.
+unfoldable pub placesWith : Choice → Move → ℕ → List ℕ → List ℕ
+placesWith best m value places = cond (eqb value (best .numbers .value)) (set places (best .count - 1) (place m)) places
+
+-- A move that has a place, and a choice of at least one.
+pub record PlaceKept (best : Choice) (m : Move) : Type 0 where
+  pub some : 1 ≤ best .count
+  pub fits : PlaceFits m
+
+-- The first of the best, if there is one, leaves a smaller root than now.
+unfoldable pub lowersBy : Choice → ℕ → Bool
+lowersBy c root = not (eqb (c .count) 0) && ltb (c .numbers .value) root
+
+-- The choice among the candidates, and their places.
+unfoldable pub Chooses : List ℕ → List ℕ → List ℕ → ℕ → Choice → List ℕ → Type 0
+Chooses bytes masks cells kinds r places =
+    (P : Plan) → decode bytes ≡ sound P → (let own = ownTables P (tables masks cells) in
+    BestIs (bestMoves P kinds own) P own r × PlacesAre (bestMoves P kinds own) places)

@@ -1,5 +1,5 @@
 use mathlib.Core.Path.{refl}
-use Rattle.move_order.specs.Candidates.{fieldsAre}
+use Rattle.contracts.specs.MoveOrder.{fieldsAre}
 use Rattle.move_order.proofs.at_fields.Statement.{statement}
 use Rattle.move_order.proofs.at_fields.Tie as tie
 

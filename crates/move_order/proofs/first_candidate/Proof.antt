@@ -4,7 +4,7 @@ use denote.Ref.{now}
 use borrow.Author.Needs.{needs}
 use Rattle.logic.specs.declared.Move.{Move}
 use Rattle.logic.specs.Moves.{noMove}
-use Rattle.move_order.specs.Candidates.{fieldsAre}
+use Rattle.contracts.specs.MoveOrder.{fieldsAre}
 use Rattle.move_order.specs.inner.Stepping.{outset, GivesNext}
 use Rattle.move_order.proofs.Stepping.{zeros-begin}
 use Rattle.move_order.proofs.first_candidate.Statement.{statement}

@@ -8,13 +8,20 @@ use Rattle.logic.specs.declared.Move.{Move}
 use Rattle.logic.specs.Formula.{Plan}
 use Rattle.logic.specs.Configuration.{inMasks}
 use Rattle.logic.specs.Moves.{noMove, fits, ofKinds}
-use Rattle.contracts.specs.ImproveCall.{Candidate}
+use Rattle.contracts.specs.MoveOrder.{Candidate}
 use Rattle.move_order.specs.declared.Next.{Next}
 use Rattle.move_legal.specs.inner.Legal.{Fields, Sized}
 
 -- The same order as one number, for sets below 16 and ports below 64: proofs/Order shows that both order the plan's moves alike.
 unfoldable pub place : Move → ℕ
 place m = (((m .kind * 16 + m .s) * 16 + m .t) * 64 + m .p) * 64 + m .q
+
+-- A move of sets below 16 and ports below 64
+pub record Low (m : Move) : Type 0 where
+  pub s-low : m .s < 16
+  pub t-low : m .t < 16
+  pub p-low : m .p < 64
+  pub q-low : m .q < 64
 
 -- A candidate by its fields and the masks.
 pub record Suits (ports sets kinds : ℕ) (masks : List ℕ) (m : Move) : Type 0 where
@@ -80,3 +87,9 @@ outset = noMove
 unfoldable pub Walked : Plan → ℕ → List ℕ → Move → List Move → Type 0
 Walked P kinds own m [] = NoneLater P kinds own m
 Walked P kinds own m (r ∷ rs) = Follows P kinds own m r × Walked P kinds own r rs
+
+-- A walk that stands at the first of these moves, or has passed them all.
+unfoldable pub Stands : Bool → Plan → ℕ → List ℕ → Move → List Move → Type 0
+Stands true P kinds own m [] = ⊥
+Stands true P kinds own m (n ∷ ms) = (m ≡ n) × Walked P kinds own m ms
+Stands false P kinds own m ms = ms ≡ []

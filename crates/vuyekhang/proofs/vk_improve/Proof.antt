@@ -20,7 +20,7 @@ same-length-3 c = search needs
 
 returns : tie.Need-returns
 returns c =
-    improve-gives _ _ _ _ _ _ _ _ (c .before .before .before .before .before .before .before .improve .ensures .0) (c .before .before .before .before .before .before .before .improve .ensures .1) (c .improve-fields .ensures)
+    improve-gives _ _ _ _ _ _ _ (c .before .before .before .before .before .before .before .improve .ensures .0) (c .before .before .before .before .before .before .before .improve .ensures .1) (c .improve-fields .ensures)
 
 pub vk-improve-spec : {M : Type 1} → statement M
 vk-improve-spec =

@@ -1,11 +1,12 @@
 //! `compare [ROUNDS [SEED]]`: compares the proved engine with the second evaluator over random texts, tables and cells.
 //! `compare --damage [ROUNDS [SEED]]`: changes one word after every call, and fails unless each change is reported.
 //! `compare --short [TOKENS]`: reads some beginnings of texts, each with every choice of at most so many tokens behind it, with both.
-//! `compare --lists [CALLS [SEED]]`: compares lists of calls, every answer, mask and cell after every call.
+//! `compare --lists [CALLS [SEED]]`: compares lists of calls, every answer, mask, cell and listed move after every call.
 //! `compare --lists-damage [LISTS [SEED]]`: changes one bit after one call of each list, and fails unless each change is reported.
 use std::process::ExitCode;
 
 use evidence::archive::Archive;
+use evidence::best::told_ties;
 use evidence::compare::{missed, one_round, short_texts, Damage, Target};
 use evidence::counts::Counts;
 use evidence::lists::{self, Hit};
@@ -54,6 +55,7 @@ fn rounds_fail(rounds: u64, seed: u64) -> bool {
         }
     }
     print(&counts);
+    println!("{}", told_ties(&counts));
     println!("{rounds} rounds, {} texts, {} loads: no difference", counts.of("texts"), counts.of("loads"));
     too_seldom(&missed(&counts))
 }
@@ -99,13 +101,14 @@ fn lists_fail(calls: u64, seed: u64) -> bool {
         return true;
     }
     print(&counts);
+    println!("{}", told_ties(&counts));
     println!("{} calls in lists: no difference", counts.of("calls from a load") + counts.of("calls from foreign cells"));
     too_seldom(&lists::missed(&counts))
 }
 
 /// Fails unless every list in which a bit was changed after a call ends in a difference, and few lists leave nothing to change.
 fn list_damage_unseen(amount: u64, seed: u64) -> bool {
-    [Hit::Cell, Hit::Mask, Hit::Scratch, Hit::Answer].into_iter().any(|hit| {
+    [Hit::Cell, Hit::Mask, Hit::Scratch, Hit::Answer, Hit::Listed, Hit::Kept, Hit::Count].into_iter().any(|hit| {
         let all: Vec<(bool, bool)> = (0..amount).map(|list| lists::damaged_list(&Archive, hit, seed, list)).collect();
         let damaged = all.iter().filter(|(damaged, _)| *damaged).count() as u64;
         let reported = all.iter().filter(|(_, reported)| *reported).count() as u64;

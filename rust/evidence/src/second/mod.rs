@@ -1,4 +1,4 @@
-//! A second evaluator, written from paper 01 alone. It shares no code and no table with the engine, and takes the plainest way
+//! A second evaluator, written from papers 01 and 02 alone. It shares no code and no table with the engine, and takes the plainest way
 //! everywhere: it is slow, and easy to hold against the paper.
 mod core;
 pub mod formula;

@@ -1,8 +1,9 @@
-//! Load's grounds, one move, trial, improve. Paper 01, sections One move and Grounds for refusal.
+//! Load's grounds, one move, trial, improve, the list of best moves. Paper 01, sections One move and Grounds for refusal; request
+//! 2026-01 of paper 02.
 use super::penalty::{below, in_set, literal_penalty, tuples};
 use super::plan::{Plan, ALL, AND, IN, NOT_IN, ROOT, SIZE};
 use super::table::decode;
-use crate::calls::{Move, Numbers};
+use crate::calls::{Improved, Move, Numbers};
 
 /// Grounds 11 to 13; `lengths` are those of the cell tables that are lent.
 pub fn tables(table: &[u8], masks: &[u64], lengths: &[usize]) -> Result<Plan, u32> {
@@ -144,7 +145,7 @@ pub fn trial(table: &[u8], masks: &[u64], cells: &[u32], scratch: usize, m: &Mov
     Ok(made(&plan, masks, cells, m).0)
 }
 
-/// Every legal move of some kinds (a sum of 1 add, 2 drop, 4 transfer, 8 swap).
+/// Every legal move of some kinds (a sum of 1 add, 2 drop, 4 transfer, 8 swap), "ordered by kind, S, T, p, q, smaller first".
 pub fn legal_moves(plan: &Plan, masks: &[u64], kinds: u32) -> Vec<Move> {
     let (n, u) = (plan.n as u32, plan.u as u32);
     let mut all = Vec::new();
@@ -163,15 +164,34 @@ pub fn legal_moves(plan: &Plan, masks: &[u64], kinds: u32) -> Vec<Move> {
     all
 }
 
-/// What improve may answer: the moves that leave the least root, each with its numbers, or none where no move is better.
-pub fn best_moves(table: &[u8], masks: &[u64], cells: &[u32], scratch: usize, kinds: u32) -> Result<Vec<(Move, Numbers)>, u32> {
+/// A move with the numbers that trial answers for it.
+pub type Tried = (Move, Numbers);
+
+/// "all legal moves of the given kinds that leave the least root, each once, in this order, even if that root isn't lower than now",
+/// or the first of grounds 11 to 14.
+pub fn best_moves(table: &[u8], masks: &[u64], cells: &[u32], scratch: usize, kinds: u32) -> Result<Vec<Tried>, u32> {
     let plan = tables(table, masks, &[cells.len(), scratch])?;
     if kinds == 0 || kinds > 15 {
         return Err(14);
     }
-    let mut all: Vec<(Move, Numbers)> =
-        legal_moves(&plan, masks, kinds).into_iter().map(|m| (m, made(&plan, masks, cells, &m).0)).collect();
+    let mut all: Vec<Tried> = legal_moves(&plan, masks, kinds).into_iter().map(|m| (m, made(&plan, masks, cells, &m).0)).collect();
     let least = all.iter().map(|(_, n)| n.after).min();
-    all.retain(|(_, n)| Some(n.after) == least && n.after < cells[0]);
+    all.retain(|(_, n)| Some(n.after) == least);
     Ok(all)
+}
+
+/// "Improve makes the first of the best", where it leaves a smaller root than now.
+pub fn improved(best: &[Tried], root: u32) -> Improved {
+    match best.first() {
+        Some((m, numbers)) if numbers.after < root => Improved::Made(*m, *numbers),
+        _ => Improved::NoBetter(root),
+    }
+}
+
+/// How many best moves the call lists, or ground 16 where the lent list has no room for them.
+pub fn listed(best: &[Tried], room: usize) -> Result<usize, u32> {
+    if best.len() > room {
+        return Err(16);
+    }
+    Ok(best.len())
 }

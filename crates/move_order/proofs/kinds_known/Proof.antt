@@ -1,8 +1,8 @@
 use mathlib.Core.Path.{refl}
 use borrow.Author.Tests.{le-leb, lt-leb}
 use Rattle.logic.specs.Moves.{kindsKnown}
-use Rattle.call_improve.proofs.kinds_known.Statement.{statement}
-use Rattle.call_improve.proofs.kinds_known.Tie as tie
+use Rattle.move_order.proofs.kinds_known.Statement.{statement}
+use Rattle.move_order.proofs.kinds_known.Tie as tie
 
 returns : tie.Need-returns
 unfolding kindsKnown

@@ -5,7 +5,7 @@ use Rattle.logic.specs.Formula.{none}
 use Rattle.logic.specs.Configuration.{inMask, inMasks}
 use Rattle.logic.specs.Penalty.{eachPort}
 use Rattle.logic.specs.Moves.{moveKind, fieldsKnown, fieldsFit, known, fits, legal, kindWeight, ofKinds}
-use Rattle.move_order.specs.Candidates.{fieldsAre, allMoves, kept, candidates}
+use Rattle.contracts.specs.MoveOrder.{fieldsAre, allMoves, kept, candidates}
 
 -- three adds, a drop, a transfer and a swap
 pub candidates-of-two : candidates (record { ports = 2; sets = 2; formula = none }) 15 (inMasks (1 ∷ 0 ∷ []))
