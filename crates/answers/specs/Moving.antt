@@ -9,7 +9,7 @@ use Rattle.contracts.specs.State.{State}
 use Rattle.contracts.specs.MoveCall.{MoveValues}
 use Rattle.contracts.specs.TrialCall.{ScratchAfter}
 use Rattle.contracts.specs.ImproveCall.{ImproveValues}
-use Rattle.contracts.specs.BestCall.{CountValues, Listing, recordOf}
+use Rattle.contracts.specs.BestCall.{CountValues, Listing, moveRecord}
 use Rattle.answers.specs.declared.MoveAnswer.{MoveAnswer}
 use Rattle.answers.specs.declared.ImproveAnswer.{ImproveAnswer}
 use Rattle.answers.specs.declared.CountAnswer.{CountAnswer}
@@ -55,5 +55,5 @@ pub record CountFields (v : CountValues) (r : CountAnswer) : Type 0 where
 -- The struct, every record of the lent list and scratch afterwards.
 pub record ListGives (d : Decoded) (given : Listing) (r : CountAnswer) (list list′ : List (List ℕ)) (scratch scratch′ : List ℕ) : Type 0 where
   pub fields : CountFields (given .0) r
-  pub list-is : list′ ≡ map recordOf (given .1) ++ drop (length (given .1)) list
+  pub list-is : list′ ≡ map moveRecord (given .1) ++ drop (length (given .1)) list
   pub scratch-is : ScratchAfter d (r .number) scratch scratch′

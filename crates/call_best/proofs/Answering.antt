@@ -1,14 +1,13 @@
 -- The answers of the call that lists the best moves, by the grounds in the order in which the code tries them. Assumes nothing.
 use mathlib.Core.Path.{_≡_, refl, sym, ap, _∙_}
 use mathlib.Core.Bool.{Bool, true, false, cond}
-use mathlib.Core.List.{List, [], _∷_, _++_, map}
+use mathlib.Core.List.{List, [], _∷_, _++_, append-nil, map}
 use Prim.Native.Nat.{ℕ, zero, suc, min, _≤_, _<_}
 use native.Mathlib.Omega.{arith}
 use lib.Dec.{ltb}
 use lib.ListN.{length, take, drop, length-map}
 use lib.Seq.{take-all}
 use borrow.Author.Tests.{lt-ltb, le-ltb}
-use Rattle.logic.specs.declared.Move.{Move}
 use Rattle.logic.specs.Formula.{Plan}
 use Rattle.logic.specs.Configuration.{inMasks}
 use Rattle.logic.specs.Moves.{refusal, kindsKnown}
@@ -17,34 +16,26 @@ use Rattle.contracts.specs.State.{State, tables, ownTables}
 use Rattle.contracts.specs.MoveOrder.{candidates}
 use Rattle.contracts.specs.declared.Counted.the-variants.{Accepted, Refused}
 use Rattle.contracts.specs.ImproveCall.{rootAfter, bestMoves}
-use Rattle.contracts.specs.BestCall.{Listing, countValues, CountTold, countAccepted, bestGrounds, listRefused, listsOwn, lists, recordOf, ListPromise}
+use Rattle.contracts.specs.BestCall.{Listing, countValues, CountTold, countAccepted, bestGrounds, listRefused, listsOwn, lists, moveRecord, ListPromise}
 use Rattle.contracts.proofs.Calls.{call-refused, call-accepted}
 use Rattle.contracts.proofs.Candidates.{in-candidate}
-use Rattle.contracts.proofs.Best.{best-is, best-shorter}
+use Rattle.contracts.proofs.Best.{best-is}
 use Rattle.call_open.specs.inner.Opening.{openNumber}
 use Rattle.call_open.proofs.Opening.{two-tables, shut-first}
 use Rattle.call_open.proofs.OfKinds.{kinds-unknown, kinds-pass}
-use Rattle.move_legal.specs.inner.Legal.{Sized}
+use Rattle.logic.specs.inner.MoveFields.{Sized}
 use Rattle.move_order.specs.inner.Stepping.{place}
 use Rattle.move_order.proofs.Listing.{candidate-low}
-use Rattle.move_order.proofs.Count.{few-candidates}
 use Rattle.move_list.specs.inner.Records.{AllLow, WritesMoves}
 use Rattle.move_best.specs.declared.Choice.{Choice}
 use Rattle.move_best.specs.inner.Choosing.{BestIs, PlacesAre}
-
--- the choice counts the best moves
-pub count-is : (P : Plan) (own : State) (c : Choice) (ms : List Move) → BestIs ms P own c → c .count ≡ length ms
-unfolding BestIs
-count-is P own c [] b = b
-count-is P own c (m ∷ ms) b = b .0
+use Rattle.move_best.proofs.Choosing.{count-is, few-best}
 
 -- there are no more than the table of places takes, and each has a place
 module _ (P : Plan) (Z : Sized (P .ports) (P .sets)) (kinds : ℕ) (own : State) where
-  pub few-best : length (bestMoves P kinds own) ≤ 21504
+  pub few-listed : length (bestMoves P kinds own) ≤ 21504
   unfolding bestMoves
-  few-best =
-      let ms = candidates P kinds (inMasks (own .masks)) in
-      omega (arith, best-shorter (λ n. rootAfter P n (own .masks) (own .cells)) ms, few-candidates P Z kinds (inMasks (own .masks)))
+  few-listed = few-best P Z kinds own (candidates P kinds (inMasks (own .masks))) [] (append-nil (candidates P kinds (inMasks (own .masks))))
 
   best-low : AllLow (bestMoves P kinds own)
   unfolding AllLow bestMoves
@@ -56,14 +47,14 @@ module _ (P : Plan) (Z : Sized (P .ports) (P .sets)) (kinds : ℕ) (own : State)
   -- what is written of them
   pub best-written : (c : Choice) (places : List ℕ) (list list′ : List (List ℕ)) → length places ≡ 21504 → BestIs (bestMoves P kinds own) P own c
       → PlacesAre (bestMoves P kinds own) places → (count : ℕ) → count ≡ c .count → WritesMoves places count list list′
-      → list′ ≡ map recordOf (bestMoves P kinds own) ++ drop (length (bestMoves P kinds own)) list
+      → list′ ≡ map moveRecord (bestMoves P kinds own) ++ drop (length (bestMoves P kinds own)) list
   unfolding WritesMoves PlacesAre
   best-written c places list list′ l b p count e w =
       let ms = bestMoves P kinds own in
       let n : count ≡ length ms = e ∙ count-is P own c ms b in
       w ms best-low
-      (ap (λ (i : ℕ). take i places) n ∙ p ∙ take-all (length places) (map place ms) (omega (arith, few-best, l, length-map ms place)))
-      ∙ ap (λ (i : ℕ). map recordOf ms ++ drop i list) n
+      (ap (λ (i : ℕ). take i places) n ∙ p ∙ take-all (length places) (map place ms) (omega (arith, few-listed, l, length-map ms place)))
+      ∙ ap (λ (i : ℕ). map moveRecord ms ++ drop i list) n
 
 module _ (d : Decoded) (kinds : ℕ) (masks cells : List ℕ) (scratch : ℕ) (list : List (List ℕ)) where
   abbrev before : State
@@ -81,7 +72,7 @@ module _ (d : Decoded) (kinds : ℕ) (masks cells : List ℕ) (scratch : ℕ) (l
       record {
         values-are = sym (ap (λ (x : Listing). x .0) q);
         told = h;
-        list-is = sym (ap (λ (x : Listing). map recordOf (x .1) ++ drop (length (x .1)) list) q);
+        list-is = sym (ap (λ (x : Listing). map moveRecord (x .1) ++ drop (length (x .1)) list) q);
       }
 
   -- 11 to 13
@@ -120,7 +111,7 @@ module _ (d : Decoded) (kinds : ℕ) (masks cells : List ℕ) (scratch : ℕ) (l
 
       -- no ground applies
       pub list-made : count ≤ length list → (list′ : List (List ℕ))
-          → list′ ≡ map recordOf (bestMoves P kinds own) ++ drop (length (bestMoves P kinds own)) list → ListPromise given (Accepted (c .count)) list list′
+          → list′ ≡ map moveRecord (bestMoves P kinds own) ++ drop (length (bestMoves P kinds own)) list → ListPromise given (Accepted (c .count)) list list′
       unfolding lists listsOwn countValues CountTold
       list-made l list′ w =
           let free = number false (le-ltb (length list) (length (bestMoves P kinds own)) (omega (arith, l, many))) in
@@ -130,5 +121,5 @@ module _ (d : Decoded) (kinds : ℕ) (masks cells : List ℕ) (scratch : ℕ) (l
           record {
             values-are = ap countAccepted (sym counts ∙ many) ∙ sym (ap (λ (x : Listing). x .0) q);
             told = tt;
-            list-is = w ∙ sym (ap (λ (x : Listing). map recordOf (x .1) ++ drop (length (x .1)) list) q);
+            list-is = w ∙ sym (ap (λ (x : Listing). map moveRecord (x .1) ++ drop (length (x .1)) list) q);
           }

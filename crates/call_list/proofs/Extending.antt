@@ -11,7 +11,7 @@ use lib.Seq.{take-all, length-take-le, drop-drop, drop-append-le}
 use Rattle.logic.specs.declared.Move.{Move}
 use Rattle.logic.proofs.Lent.{lent, back, lent-is, back-is}
 use Rattle.contracts.specs.State.{State}
-use Rattle.contracts.specs.BestCall.{recordOf}
+use Rattle.contracts.specs.BestCall.{moveRecord}
 use Rattle.contracts.specs.Lists.{Asked, Exchange, moveCall, trialCall, improveCall, bestCall, step, run}
 use Rattle.table_format.specs.Decode.{Decoded, decode}
 use Rattle.call_list.specs.Scratch.{ScratchRun, kept}
@@ -77,13 +77,13 @@ lent-all at xs = take-all (length xs - at) (drop at xs) (omega (arith, length-dr
 
 -- a list of which the first records are lent, and given back with some of them written
 pub list-back : (ms : List Move) (l part : List (List ℕ)) (r : ℕ) → r ≤ length l → length part ≡ length (take r l)
-    → part ≡ map recordOf ms ++ drop (length ms) (take r l) → part ++ drop r l ≡ map recordOf ms ++ drop (length ms) l
+    → part ≡ map moveRecord ms ++ drop (length ms) (take r l) → part ++ drop r l ≡ map moveRecord ms ++ drop (length ms) l
 list-back ms l part r h e q =
     let few : length ms ≤ length (take r l) =
-    omega (arith, ap length q, length-append (map recordOf ms) (drop (length ms) (take r l)), length-drop (length ms) (take r l), length-map ms recordOf, e) in
+    omega (arith, ap length q, length-append (map moveRecord ms) (drop (length ms) (take r l)), length-drop (length ms) (take r l), length-map ms moveRecord, e) in
     ap (λ (ks : List (List ℕ)). ks ++ drop r l) q
-    ∙ append-assoc (map recordOf ms) (drop (length ms) (take r l)) (drop r l)
-    ∙ ap (λ (ks : List (List ℕ)). map recordOf ms ++ ks) (sym (drop-append-le (length ms) (take r l) (drop r l) few) ∙ ap (drop (length ms)) (take-append-drop r l))
+    ∙ append-assoc (map moveRecord ms) (drop (length ms) (take r l)) (drop r l)
+    ∙ ap (λ (ks : List (List ℕ)). map moveRecord ms ++ ks) (sym (drop-append-le (length ms) (take r l) (drop r l) few) ∙ ap (drop (length ms)) (take-append-drop r l))
 
 -- before the first call
 pub none-yet : (bytes calls : List ℕ) (b : Lent) → Worked bytes calls b 0 b

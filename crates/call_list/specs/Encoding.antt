@@ -8,7 +8,7 @@ use Rattle.logic.specs.declared.Move.{Move}
 use Rattle.logic.specs.Moves.{noMove}
 use Rattle.contracts.specs.MoveCall.{MoveValues}
 use Rattle.contracts.specs.ImproveCall.{ImproveValues}
-use Rattle.contracts.specs.BestCall.{CountValues, recordOf}
+use Rattle.contracts.specs.BestCall.{CountValues, moveRecord}
 use Rattle.contracts.specs.Lists.{Asked, askMove, askTrial, askImprove, askBest, Exchange, moveCall, trialCall, improveCall, bestCall}
 
 -- "a tag, five fields, and how much of the lent scratch this call gets"
@@ -86,7 +86,7 @@ unfoldable pub listOne : List (List ℕ) → Exchange → List (List ℕ)
 listOne list (moveCall m r) = list
 listOne list (trialCall m scratch r) = list
 listOne list (improveCall kinds scratch r) = list
-listOne list (bestCall kinds scratch room r) = map recordOf (r .1) ++ drop (length (r .1)) list
+listOne list (bestCall kinds scratch room r) = map moveRecord (r .1) ++ drop (length (r .1)) list
 
 -- The lent list after call after call.
 unfoldable pub listAfter : List (List ℕ) → List Exchange → List (List ℕ)

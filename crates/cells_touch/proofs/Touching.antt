@@ -17,7 +17,7 @@ use Rattle.logic.specs.Truth.{Tuple, portOf}
 use Rattle.logic.specs.Moves.{Pair}
 use Rattle.logic.specs.Change.{Change, someOf, memberHit, hit, nodeHit, forestHit, touched}
 use Rattle.logic.specs.inner.Agreement.{listed}
-use Rattle.logic.proofs.Lists.{or-left, or-right, or-true-left, or-true-right, and-left, and-right, and-true}
+use Rattle.logic.proofs.Lists.{or-left, or-right, or-true-left, or-true-right, and-left, and-right, and-true, some-same}
 use Rattle.logic.proofs.Untouched.{port-out}
 use Rattle.table_format.specs.inner.Index.{testUses, nodeUses, forestUses}
 use Rattle.cells_touch.specs.declared.Changed.{Changed}
@@ -130,11 +130,6 @@ in-port-word c w d x S v h k l =
     go false y z = ap₂ _||_ (and-true-right y) (and-false-right z) ∙ or-false-right y
 
 -- what a new innermost port changes in a hit
-some-hit : (f g : Pair → Bool) → ((q : Pair) → f q ≡ g q) → (qs : List Pair) → someOf f qs ≡ someOf g qs
-unfolding someOf
-some-hit f g H [] = refl
-some-hit f g H (q ∷ qs) = ap₂ _||_ (H q) (some-hit f g H qs)
-
 port-own : (x : ℕ) (e : Tuple) (v : ℕ) → v ≡ length e → portOf (x ∷ e) v ≡ x
 unfolding portOf
 port-own x e v h = ap (λ (b : Bool). cond b x (portOf e v)) (eq-eqb v (length e) h)
@@ -182,9 +177,9 @@ module _ (u : ℕ) (ch : Change) (c : Changed) (says : Describes u ch c) where
       go : (S v : ℕ) → S < 16 → v < 3 → Dec (v ≡ d)
           → cond (eqb v d) (inMask (atPort c x) (4 * S + v)) (inMask w (4 * S + v)) ≡ someOf (memberHit v S (x ∷ e)) (ch .pairs)
       go S v k l (yes i) =
-          rw (eq-eqb v d i) (at-port-is x S v k l ∙ some-hit _ _ (λ q. sym (member-own v S x e q (i ∙ sym le))) (ch .pairs))
+          rw (eq-eqb v d i) (at-port-is x S v k l ∙ some-same _ _ (ch .pairs) (λ q d. sym (member-own v S x e q (i ∙ sym le))))
       go S v k l (no i) =
-          rw (ne-eqb v d i) (word .members S v k l ∙ some-hit _ _ (λ q. sym (member-other v S x e q (λ z. i (z ∙ le)))) (ch .pairs))
+          rw (ne-eqb v d i) (word .members S v k l ∙ some-same _ _ (ch .pairs) (λ q d. sym (member-other v S x e q (λ z. i (z ∙ le)))))
 
   -- every port but p and q has the rest of the word
   pub rest-word-is : (e : Tuple) (w d x : ℕ) → HitWord ch e w → length e ≡ d → d < 3 → x ≢ c .p → x ≢ c .q → HitWord ch (x ∷ e) (restWord w d)
@@ -220,7 +215,7 @@ module _ (u : ℕ) (ch : Change) (c : Changed) (says : Describes u ch c) where
   unfolding firstWord
   first-word-is = record {
     members = λ S v k l. bits S v ∙ ap₂ _||_ (ap₂ _||_ (says .at-p-is S v k l) (says .at-q-is S v k l)) (says .resized-low S v k l)
-        ∙ or-false-right _ ∙ some-set S (ch .pairs) (λ x n m. says .others S x n m) ∙ some-hit _ _ (λ q. sym (member-empty v S q)) (ch .pairs);
+        ∙ or-false-right _ ∙ some-set S (ch .pairs) (λ x n m. says .others S x n m) ∙ some-same _ _ (ch .pairs) (λ q d. sym (member-empty v S q));
     sizes = λ S k. bits S 3 ∙ ap₂ _||_ (ap₂ _||_ (says .p-high S k) (says .q-high S k)) (says .resized-is S k);
   }
     where

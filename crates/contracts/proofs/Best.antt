@@ -1,7 +1,7 @@
 -- The moves of a list that leave the least root: what is among them, and how one move more changes them. Assumes nothing.
 use mathlib.Core.Path.{_≡_, refl, sym, ap, ap₂, _∙_, subst}
 use mathlib.Core.Logic.{_⊎_, inl, inr}
-use mathlib.Core.Bool.{Bool, true, false, cond, not, _||_, false≢true}
+use mathlib.Core.Bool.{Bool, true, false, cond, not}
 use mathlib.Core.List.{List, [], _∷_, _++_, append-nil, List·Memᴰ, List·Memᴰ·head, List·Memᴰ·tail, List·Memᴰ·cases-cons, List·Memᴰ·not-nil, List·Memᴰ·eq-of-singleton, Memᴰ·append-left, Memᴰ·append-right}
 use Prim.Native.Nat.{ℕ, _≤_, _<_}
 use native.Mathlib.Omega.{arith}
@@ -10,44 +10,14 @@ use lib.Dec.{eqb, ltb}
 use lib.ListN.{length}
 use borrow.Author.Tests.{ltb-false, lt-ltb, le-ltb, eq-eqb, ne-eqb}
 use Rattle.logic.specs.declared.Move.{Move}
-use Rattle.logic.specs.Change.{someOf}
-use Rattle.logic.proofs.Lists.{or-left, or-right}
+use Rattle.logic.proofs.Lists.{some-same, none-fails, fails-none, one-some}
 use Rattle.contracts.specs.MoveOrder.{kept, noneSmaller, bestOf, Earlier, Rising}
 use Rattle.contracts.proofs.Candidates.{kept-is, keep, kept-in, kept-same, kept-append, kept-none, kept-shorter}
-
--- whether something holds of some move of a list
-some-none : (g : Move → Bool) (ms : List Move) → someOf g ms ≡ false → (n : Move) → List·Memᴰ n ms → g n ≡ false
-unfolding someOf
-some-none g [] h n d = absurd (List·Memᴰ·not-nil d)
-some-none g (m ∷ ms) h n d = go (List·Memᴰ·cases-cons d) (some-none g ms (or-right (g m) _ h) n)
-  where
-    go : (n ≡ m) ⊎ List·Memᴰ n ms → (List·Memᴰ n ms → g n ≡ false) → g n ≡ false
-    go (inl e) below = ap g e ∙ or-left (g m) _ h
-    go (inr l) below = below l
-
-none-some : (g : Move → Bool) (ms : List Move) → ((n : Move) → List·Memᴰ n ms → g n ≡ false) → someOf g ms ≡ false
-unfolding someOf
-none-some g [] h = refl
-none-some g (m ∷ ms) h = ap₂ _||_ (h m (List·Memᴰ·head refl)) (none-some g ms (λ n d. h n (List·Memᴰ·tail d)))
-
-one-some : (a b : Bool) → (a ≡ true) ⊎ (b ≡ true) → (a || b) ≡ true
-one-some true b h = refl
-one-some false b (inl h) = absurd (false≢true h)
-one-some false b (inr h) = h
-
-some-one : (g : Move → Bool) (ms : List Move) (n : Move) → List·Memᴰ n ms → g n ≡ true → someOf g ms ≡ true
-unfolding someOf
-some-one g [] n d h = absurd (List·Memᴰ·not-nil d)
-some-one g (m ∷ ms) n d h = go (List·Memᴰ·cases-cons d) (λ (l : List·Memᴰ n ms). some-one g ms n l h)
-  where
-    go : (n ≡ m) ⊎ List·Memᴰ n ms → (List·Memᴰ n ms → someOf g ms ≡ true) → (g m || someOf g ms) ≡ true
-    go (inl e) below = one-some (g m) _ (inl (sym (ap g e) ∙ h))
-    go (inr l) below = one-some (g m) _ (inr (below l))
 
 module _ (f : Move → ℕ) where
   smaller-none : (ms : List Move) (x : ℕ) → noneSmaller f ms x ≡ true → (n : Move) → List·Memᴰ n ms → x ≤ f n
   unfolding noneSmaller
-  smaller-none ms x h n d = ltb-false (f n) x (some-none (λ m. ltb (f m) x) ms (not-true-of _ h) n d)
+  smaller-none ms x h n d = ltb-false (f n) x (none-fails (λ m. ltb (f m) x) ms (not-true-of _ h) n d)
     where
       not-true-of : (b : Bool) → not b ≡ true → b ≡ false
       not-true-of true e = sym e
@@ -55,7 +25,7 @@ module _ (f : Move → ℕ) where
 
   none-smaller : (ms : List Move) (x : ℕ) → ((n : Move) → List·Memᴰ n ms → x ≤ f n) → noneSmaller f ms x ≡ true
   unfolding noneSmaller
-  none-smaller ms x h = ap not (none-some (λ m. ltb (f m) x) ms (λ n d. le-ltb (f n) x (h n d)))
+  none-smaller ms x h = ap not (fails-none (λ m. ltb (f m) x) ms (λ n d. le-ltb (f n) x (h n d)))
 
   -- One of the best stands in the list, and no move of the list leaves less; and the other way round.
   pub best-is : (ms : List Move) (m : Move) → List·Memᴰ m (bestOf f ms) → List·Memᴰ m ms × ((n : Move) → List·Memᴰ n ms → f m ≤ f n)
@@ -110,7 +80,7 @@ module _ (f : Move → ℕ) where
   best-by ms x d h = kept-same _ _ ms (λ m e. go m e (decLt (f x) (f m)))
     where
       some : (m : Move) → f x < f m → noneSmaller f ms (f m) ≡ false
-      some m l = ap not (some-one (λ n. ltb (f n) (f m)) ms x d (lt-ltb (f x) (f m) l))
+      some m l = ap not (one-some (λ n. ltb (f n) (f m)) ms x d (lt-ltb (f x) (f m) l))
 
       go : (m : Move) → List·Memᴰ m ms → Dec (f x < f m) → noneSmaller f ms (f m) ≡ eqb (f m) (f x)
       go m e (yes l) = some m l ∙ sym (ne-eqb (f m) (f x) (λ q. omega (arith, l, q)))
@@ -174,11 +144,6 @@ module _ (f : Move → ℕ) where
         ∙ append-nil (x ∷ xs)
 
 -- where two ways to say what a move leaves agree on a list, the same are best
-some-same : (g h : Move → Bool) (ms : List Move) → ((n : Move) → List·Memᴰ n ms → g n ≡ h n) → someOf g ms ≡ someOf h ms
-unfolding someOf
-some-same g h [] e = refl
-some-same g h (m ∷ ms) e = ap₂ _||_ (e m (List·Memᴰ·head refl)) (some-same g h ms (λ n d. e n (List·Memᴰ·tail d)))
-
 pub best-same : (f g : Move → ℕ) (ms : List Move) → ((n : Move) → List·Memᴰ n ms → f n ≡ g n) → bestOf f ms ≡ bestOf g ms
 unfolding bestOf noneSmaller
 best-same f g ms e =

@@ -14,8 +14,8 @@ use Rattle.logic.specs.Configuration.{Sets}
 use Rattle.logic.specs.Penalty.{eachPort}
 use Rattle.logic.specs.Moves.{known, fits, legal, ofKinds}
 use Rattle.logic.proofs.Lists.{and-left, and-right, and-true}
-use Rattle.move_legal.specs.inner.Legal.{tEnd, qEnd, Fields}
-use Rattle.move_legal.proofs.Known.{known-fields}
+use Rattle.logic.specs.inner.MoveFields.{tEnd, qEnd, Fields}
+use Rattle.logic.proofs.MoveFields.{known-fields}
 use Rattle.contracts.specs.MoveOrder.{fieldsAre, allMoves, kept, candidates, Candidate}
 
 -- what is kept of a list

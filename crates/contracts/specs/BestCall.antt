@@ -61,12 +61,12 @@ unfoldable pub lists : Decoded → ℕ → State → ℕ → ℕ → Listing
 lists d kinds s scratch-length room = call listRefused (bestGrounds d s (scratch-length ∷ []) kinds room) d (listsOwn kinds) s .0
 
 -- A move record: "kind, set S, set T, port p, port q".
-unfoldable pub recordOf : Move → List ℕ
-recordOf m = m .kind ∷ m .s ∷ m .t ∷ m .p ∷ m .q ∷ []
+unfoldable pub moveRecord : Move → List ℕ
+moveRecord m = m .kind ∷ m .s ∷ m .t ∷ m .p ∷ m .q ∷ []
 
 -- What `best_moves` promises: its answer by the number and the count, and every record of the lent list afterwards: the moves in their
 -- order, those past the count as they were, and on refusal all.
 pub record ListPromise (given : Listing) (r : Counted) (list list′ : List (List ℕ)) : Type 0 where
   pub values-are : countValues r ≡ given .0
   pub told : CountTold r
-  pub list-is : list′ ≡ map recordOf (given .1) ++ drop (length (given .1)) list
+  pub list-is : list′ ≡ map moveRecord (given .1) ++ drop (length (given .1)) list

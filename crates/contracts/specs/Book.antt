@@ -15,6 +15,7 @@ use Rattle.contracts.specs.ImproveCall.{ImproveValues}
 pub record Book : Type 0 where
   pub sets : Sets
 
+-- The book at first: "the masks after the load", those of the plan's own.
 unfoldable pub firstBook : Plan → State → Book
 firstBook P s = record { sets = inMasks (take (ownMasks P) (s .masks)) }
 
@@ -29,6 +30,7 @@ pub data Fed : Type 0 where
 unfoldable pub bookMade : Plan → Move → Sets → Sets
 bookMade P m k = flips (movePairs P k m) k
 
+-- The book with a move's pairs changed.
 unfoldable pub movedBook : Plan → Move → Book → Book
 movedBook P m b = record { sets = bookMade P m (b .sets) }
 

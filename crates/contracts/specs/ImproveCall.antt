@@ -55,10 +55,11 @@ ImproveTold (Refused number) = number ≢ 0
 unfoldable pub improveGrounds : Decoded → State → List ℕ → ℕ → List Ground
 improveGrounds d s lengths kinds = callGrounds d s lengths (λ P k. (14, not (kindsKnown kinds)) ∷ [])
 
--- The root as the cells hold it, and as a move would leave it: what trial would answer, foreign cells included.
+-- The root as the cells hold it, "now".
 unfoldable pub rootNow : List ℕ → ℕ
 rootNow before = getD before 0 0
 
+-- The root as a move would leave it: what trial would answer, foreign cells included.
 unfoldable pub rootAfter : Plan → Move → List ℕ → List ℕ → ℕ
 rootAfter P m own before = getD (cellsAfter P m own before) 0 0
 

@@ -73,6 +73,7 @@ bookAfter P b (x ∷ xs) = bookAfter P (bookStep P b (feed x)) xs
 unfoldable pub bookRoot : Plan → Sets → ℕ
 bookRoot P k = rootPenalty P (configuration P k)
 
+-- The penalties of all cells under the book's sets.
 unfoldable pub bookCells : Plan → Sets → List ℕ
 bookCells P k = planCells P (configuration P k)
 
@@ -137,6 +138,7 @@ Right P b (improveCall kinds scratch r) =
 Right P b (bestCall kinds scratch room r) =
     ListedRight (refusal (scratchGround P scratch ∷ (14, not (kindsKnown kinds)) ∷ (16, ltb room (length (bookBest P (b .sets) kinds))) ∷ [])) P (b .sets) kinds r
 
+-- Each answer of a list is right under the book before its call.
 unfoldable pub AllRight : Plan → Book → List Exchange → Type 0
 AllRight P b [] = Unit {0}
 AllRight P b (x ∷ xs) = Right P b x × AllRight P (bookStep P b (feed x)) xs

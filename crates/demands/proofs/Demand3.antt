@@ -12,6 +12,8 @@ use Rattle.logic.specs.Configuration.{Sets, ownMasks}
 use Rattle.logic.specs.Cells.{ownCells}
 use Rattle.call_list.specs.Working.{Lent, Worked}
 use Rattle.table_format.specs.Decode.{Decoded, sound, decode}
+use Rattle.table_format.proofs.Encoding.{decode-sound}
+use Rattle.table_format.proofs.Facts.{plan-sized}
 use Rattle.contracts.specs.Load.{loads}
 use Rattle.contracts.specs.State.{State}
 use Rattle.contracts.specs.Least.{NoneBelow}
@@ -22,7 +24,6 @@ use Rattle.contracts.specs.Lists.{Asked, run, bookAfter, bookRoot, bookBest, Im
 use Rattle.contracts.proofs.Candidates.{candidate-in, in-candidate}
 use Rattle.contracts.proofs.Best.{best-is, is-best, best-in-order}
 use Rattle.contracts.proofs.Lists.{load-holds, run-right}
-use Rattle.move_legal.specs.inner.Legal.{Sized}
 use Rattle.move_order.proofs.Listing.{candidates-rising}
 
 -- Demand 3. From the tables as an accepted load leaves them, for every list of calls: each answer is right under the book's sets before
@@ -64,10 +65,11 @@ best-exactly P k kinds m = (
   (λ h. is-best (λ x. bookRoot P (bookMade P x k)) (candidates P kinds k) m (candidate-in P kinds k m (h .0)) (λ n d. h .1 n (in-candidate P kinds k n d))),
 )
 
--- "each once, in this order": each stands before all that follow it.
-pub best-rising : (P : Plan) → Sized (P .ports) (P .sets) → (k : Sets) (kinds : ℕ) → Rising (bookBest P k kinds)
+-- "each once, in this order", of every plan that has a table: each stands before all that follow it.
+pub best-rising : (bytes : List ℕ) (P : Plan) → decode bytes ≡ sound P → (k : Sets) (kinds : ℕ) → Rising (bookBest P k kinds)
 unfolding bookBest
-best-rising P Z k kinds = best-in-order (λ x. bookRoot P (bookMade P x k)) (candidates P kinds k) (candidates-rising P Z kinds k)
+best-rising bytes P d k kinds =
+    best-in-order (λ x. bookRoot P (bookMade P x k)) (candidates P kinds k) (candidates-rising P (plan-sized P (decode-sound bytes P d .rules)) kinds k)
 
 -- After an accepted load every answer that `work` writes is right under the book's sets before its call, and it leaves the masks
 -- as the book's sets and each cell as Definition 5's penalty under them, with what is past the plan's own as it was.

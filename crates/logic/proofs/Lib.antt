@@ -4,6 +4,7 @@ pub mod Changed
 pub mod Known
 pub mod Lists
 pub mod Masks
+pub mod MoveFields
 pub mod Moves
 pub mod Relations
 pub mod Tables

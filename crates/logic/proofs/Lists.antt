@@ -1,7 +1,7 @@
 -- Booleans, and lists over the cells below a cell. Assumes nothing.
-use mathlib.Core.Path.{_≡_, refl, ap, ap₂, _∙_}
+use mathlib.Core.Path.{_≡_, refl, sym, ap, ap₂, _∙_}
 use mathlib.Core.Bool.{Bool, true, false, _&&_, _||_, true≢false, false≢true}
-use mathlib.Core.List.{List, [], _∷_, _++_, map, map-append}
+use mathlib.Core.List.{List, [], _∷_, _++_, map, map-append, List·Memᴰ, List·Memᴰ·head, List·Memᴰ·tail, List·Memᴰ·cases-cons, List·Memᴰ·not-nil}
 use mathlib.Core.Logic.{_⊎_, inl, inr}
 use Prim.Native.Nat.{ℕ, zero, suc, _+_, _≤_, _<_}
 use native.Mathlib.Omega.{arith}
@@ -82,6 +82,34 @@ module _ {A : Type 0} where
       go : (b : Bool) → someOf f (xs ++ ys) ≡ (someOf f xs || someOf f ys) → (b || someOf f (xs ++ ys)) ≡ ((b || someOf f xs) || someOf f ys)
       go true e = refl
       go false e = e
+
+  -- two tests that agree on a list pass alike
+  pub some-same : (f g : A → Bool) (xs : List A) → ((x : A) → List·Memᴰ x xs → f x ≡ g x) → someOf f xs ≡ someOf g xs
+  unfolding someOf
+  some-same f g [] H = refl
+  some-same f g (x ∷ xs) H = ap₂ _||_ (H x (List·Memᴰ·head refl)) (some-same f g xs (λ y d. H y (List·Memᴰ·tail d)))
+
+  -- a list passes no test exactly when none of its entries does
+  pub none-fails : (f : A → Bool) (xs : List A) → someOf f xs ≡ false → (x : A) → List·Memᴰ x xs → f x ≡ false
+  unfolding someOf
+  none-fails f [] h x d = absurd (List·Memᴰ·not-nil d)
+  none-fails f (y ∷ xs) h x d = go (List·Memᴰ·cases-cons d) (none-fails f xs (or-right (f y) _ h) x)
+    where
+      go : (x ≡ y) ⊎ List·Memᴰ x xs → (List·Memᴰ x xs → f x ≡ false) → f x ≡ false
+      go (inl e) rest = ap f e ∙ or-left (f y) _ h
+      go (inr l) rest = rest l
+
+  pub fails-none : (f : A → Bool) (xs : List A) → ((x : A) → List·Memᴰ x xs → f x ≡ false) → someOf f xs ≡ false
+  unfolding someOf
+  fails-none f [] h = refl
+  fails-none f (x ∷ xs) h = or-false _ _ (h x (List·Memᴰ·head refl)) (fails-none f xs (λ y d. h y (List·Memᴰ·tail d)))
+
+  pub one-some : (f : A → Bool) (xs : List A) (x : A) → List·Memᴰ x xs → f x ≡ true → someOf f xs ≡ true
+  one-some f xs x d h = go (someOf f xs) refl
+    where
+      go : (b : Bool) → someOf f xs ≡ b → b ≡ true
+      go true e = refl
+      go false e = absurd (true≢false (sym h ∙ none-fails f xs e x d))
 
 -- the tuples of length d of ports below u
 pub data TupleOf (u : ℕ) : ℕ → Tuple → Type 0 where

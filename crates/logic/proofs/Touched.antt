@@ -15,7 +15,7 @@ use Rattle.logic.specs.Truth.{Tuple, portOf}
 use Rattle.logic.specs.Penalty.{eachPort, below}
 use Rattle.logic.specs.Moves.{Pair}
 use Rattle.logic.specs.Change.{someOf, Change, pairsChange, memberHit, hit, nodeHit, forestHit, touched}
-use Rattle.logic.proofs.Lists.{or-cases, or-true-left, or-true-right, and-left, and-right, and-true, same-test, some-append}
+use Rattle.logic.proofs.Lists.{or-cases, or-true-left, or-true-right, and-left, and-right, and-true, same-test, some-append, some-same}
 use Rattle.logic.proofs.Untouched.{port-out, forest-deeper}
 
 -- which trees of a forest are touched at a tuple
@@ -155,11 +155,6 @@ module _ (u : ℕ) (u1 : 1 ≤ u) where
 
 -- "A move touches the cells that one of its pairs touches."
 module _ {A : Type 0} where
-  some-same : (f g : A → Bool) → ((x : A) → f x ≡ g x) → (xs : List A) → someOf f xs ≡ someOf g xs
-  unfolding someOf
-  some-same f g H [] = refl
-  some-same f g H (x ∷ xs) = ap₂ _||_ (H x) (some-same f g H xs)
-
   some-none : (xs : List A) → false ≡ someOf (λ (x : A). false) xs
   unfolding someOf
   some-none [] = refl
@@ -187,10 +182,10 @@ byPair q = pairsChange (q ∷ [])
 module _ (qs : List Pair) where
   test-pairs : (t : Test) (e : Tuple) → hit (pairsChange qs) t e ≡ someOf (λ q. hit (byPair q) t e) qs
   unfolding hit pairsChange someOf
-  test-pairs (isin v S) e = some-same _ _ (λ q. or-nothing (memberHit v S e q)) qs
-  test-pairs (notin v S) e = some-same _ _ (λ q. or-nothing (memberHit v S e q)) qs
+  test-pairs (isin v S) e = some-same _ _ qs (λ q d. or-nothing (memberHit v S e q))
+  test-pairs (notin v S) e = some-same _ _ qs (λ q d. or-nothing (memberHit v S e q))
   test-pairs (port r v w) e = some-none qs
-  test-pairs (size r S c) e = some-same _ _ (λ q. or-nothing (eqb S (q .0))) qs
+  test-pairs (size r S c) e = some-same _ _ qs (λ q d. or-nothing (eqb S (q .0)))
 
   node-pairs : (n : Node) (e : Tuple) → nodeHit (pairsChange qs) n e ≡ someOf (λ q. nodeHit (byPair q) n e) qs
   unfolding nodeHit

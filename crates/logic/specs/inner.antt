@@ -2,3 +2,4 @@
 pub mod Agreement
 pub mod Flip
 pub mod Literals
+pub mod MoveFields

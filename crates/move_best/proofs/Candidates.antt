@@ -11,18 +11,16 @@ use Rattle.logic.specs.Configuration.{inMasks, ownMasks}
 use Rattle.logic.specs.Moves.{legal}
 use Rattle.table_format.specs.Decode.{sound, decode}
 use Rattle.table_format.proofs.Encoding.{decode-sound}
-use Rattle.table_format.proofs.Facts.{plan-facts}
+use Rattle.table_format.proofs.Facts.{plan-sized}
 use Rattle.call_open.specs.inner.Opening.{OpenPlan}
 use Rattle.move_order.specs.declared.Next.{Next}
-use Rattle.move_legal.specs.inner.Legal.{Sized}
+use Rattle.logic.specs.inner.MoveFields.{Sized}
 use Rattle.move_order.specs.inner.Stepping.{Begins, BeginsOver, SizedOver, NextOr, GivesNext}
 use Rattle.move_order.proofs.Listing.{candidate-begins}
 use Rattle.move_try.proofs.OpenMove.{facts, same-plan, ports-fit, sets-fit, masks-long}
 
 pub sized-of : (bytes : List ℕ) (P : Plan) → decode bytes ≡ sound P → Sized (P .ports) (P .sets)
-sized-of bytes P d =
-    let F = plan-facts P (decode-sound bytes P d .rules) in
-    record { ports-low = F .ports1; ports-high = F .ports64; sets-low = F .sets1; sets-high = F .sets16 }
+sized-of bytes P d = plan-sized P (decode-sound bytes P d .rules)
 
 -- u and n are the enumerator's numbers of ports and sets
 module _ {ports sets : ℕ} {bytes masks : List ℕ} {shortest : ℕ} {firsts ends uses : List ℕ} (opened : OpenPlan ports sets bytes masks shortest firsts ends uses)

@@ -3,7 +3,7 @@ use mathlib.Core.Path.{_≡_, refl, sym, ap, _∙_, subst}
 use mathlib.Core.Logic.{_≢_}
 use mathlib.Core.Bool.{Bool, true, false, cond, _||_, true≢false}
 use mathlib.Core.List.{List, [], _∷_, _++_, append-assoc, append-nil, List·Memᴰ, List·Memᴰ·head, Memᴰ·append-right}
-use Prim.Native.Nat.{ℕ, suc, _+_, _-_, _≤_, _<_}
+use Prim.Native.Nat.{ℕ, _+_, _-_, _≤_, _<_}
 use native.Mathlib.Omega.{arith}
 use native.Mathlib.Decide.{decLt}
 use lib.Dec.{eqb}
@@ -20,13 +20,19 @@ use Rattle.contracts.proofs.Candidates.{in-candidate}
 use Rattle.contracts.proofs.Best.{best-shorter, best-first, best-lower, best-equal, best-higher, best-none}
 use Rattle.move_order.specs.declared.Next.{Next}
 use Rattle.move_order.specs.inner.Stepping.{place, outset, NextOr, Walked, Stands}
-use Rattle.move_legal.specs.inner.Legal.{Sized}
+use Rattle.logic.specs.inner.MoveFields.{Sized}
 use Rattle.move_order.proofs.Count.{few-candidates}
 use Rattle.move_order.proofs.Listing.{candidates-walked, stands-next}
 use Rattle.move_try.specs.inner.Trying.{NumbersAre}
 use Rattle.move_best.specs.declared.Choice.{Choice}
 use Rattle.move_best.proofs.Placing.{no-places, place-more}
 use Rattle.move_best.specs.inner.Choosing.{choiceOf, noNumbers, rankedBy, BestIs, PlacesAre, placesWith}
+
+-- the choice counts the best moves
+pub count-is : (P : Plan) (own : State) (c : Choice) (ms : List Move) → BestIs ms P own c → c .count ≡ length ms
+unfolding BestIs
+count-is P own c [] b = b
+count-is P own c (m ∷ ms) b = b .0
 
 -- the choice between the best so far and a candidate
 module _ (best : Choice) (m : Move) (a : After) where
@@ -71,10 +77,6 @@ module _ (P : Plan) (own : State) where
     }
 
     module _ (x : Move) (xs : List Move) (best : Choice) (b : BestIs (x ∷ xs) P own best) where
-      count-is : best .count ≡ suc (length xs)
-      unfolding BestIs
-      count-is = b .0
-
       value-is : best .numbers .value ≡ root x
       unfolding BestIs
       value-is = b .2 .after-is
@@ -92,7 +94,7 @@ module _ (P : Plan) (own : State) where
       unfolding placesWith
       higher-more l = record {
         best-is = b;
-        some = omega (arith, count-is);
+        some = omega (arith, count-is P own best (x ∷ xs) b);
         places = λ ts h. subst (λ (c : Bool). PlacesAre (x ∷ xs) (cond c (set ts (best .count - 1) (place m)) ts))
             (sym (ne-eqb (a .value) (best .numbers .value) (λ e. omega arith))) h;
       }
@@ -109,7 +111,7 @@ module _ (P : Plan) (own : State) where
     ranked-is passed (x ∷ xs) best e b = go (decLt (root m) (root x)) (decLt (root x) (root m))
       where
         some : best .count ≢ 0
-        some z = let c = count-is x xs best b in omega (arith, c, z)
+        some z = let c = count-is P own best (x ∷ xs) b in omega (arith, c, z)
 
         go : Dec (root m < root x) → Dec (root x < root m) → OneMore (x ∷ xs) (bestOf root (passed ++ m ∷ [])) m (a .value) (rankedBy best m a)
         go (yes l) w =
@@ -147,17 +149,14 @@ module _ (P : Plan) (Z : Sized (P .ports) (P .sets)) (kinds : ℕ) (own : State)
     places-are = no-places places;
   }
 
-  -- so many are never the best
-  few : (ms rest : List Move) (best : Choice) → ms ++ rest ≡ candidates P kinds (inMasks (own .masks)) → (bs : List Move) → length bs ≤ length ms → BestIs bs P own best
-      → best .count ≤ 21504
-  unfolding BestIs
-  few ms rest best e [] l b = omega arith
-  few ms rest best e (x ∷ xs) l b =
-      omega (arith, few-candidates P Z kinds (inMasks (own .masks)), ap length e, length-append ms rest, b .0, l)
+  -- No more moves than the table of places takes are ever the best: of the candidates that are passed, and so of all.
+  pub few-best : (passed rest : List Move) → passed ++ rest ≡ candidates P kinds (inMasks (own .masks)) → length (bestOf (root P own) passed) ≤ 21504
+  few-best passed rest e =
+      omega (arith, best-shorter (root P own) passed, few-candidates P Z kinds (inMasks (own .masks)), ap length e, length-append passed rest)
 
   module _ (best : Choice) (places : List ℕ) (at : Next) (S : Sought P kinds own best places at) where
-    pub few-best : best .count ≤ 21504
-    few-best = few (S .passed) (S .rest) best (S .joined) (bestOf (root P own) (S .passed)) (best-shorter (root P own) (S .passed)) (S .best-is)
+    pub few-counted : best .count ≤ 21504
+    few-counted = omega (arith, few-best (S .passed) (S .rest) (S .joined), count-is P own best (bestOf (root P own) (S .passed)) (S .best-is))
 
     module _ (t : at .found ≡ true) where
       -- what is left begins with the candidate here

@@ -18,7 +18,7 @@ use Rattle.move_order.specs.inner.Stepping.{place, outset, BeginsOver, NextOr, 
 use Rattle.move_order.proofs.Listing.{candidate-fields, candidate-low, candidate-high}
 use Rattle.move_best.specs.declared.Choice.{Choice}
 use Rattle.move_best.specs.inner.Choosing.{Chooses, PlaceKept, choiceOf, noNumbers, rankedBy, placesWith}
-use Rattle.move_best.proofs.Choosing.{Sought, few-best, here-candidate, sought-first, sought-next, ranked-some, sought-end}
+use Rattle.move_best.proofs.Choosing.{Sought, few-counted, here-candidate, sought-first, sought-next, ranked-some, sought-end}
 use Rattle.call_open.specs.inner.Opening.{OpenTables}
 use Rattle.move_try.specs.inner.Trying.{TryReady, GivesNumbers}
 use Rattle.move_best.proofs.Candidates.{sized-of, gives-here, begins-over}
@@ -77,7 +77,7 @@ module _ (ports sets : ℕ) (bytes firsts ends uses masks cells : List ℕ) (rea
     search-begins = begins-over (ready .opened) u n ports-is sets-is (at .m) (here .is-legal)
 
     pub search-few : best .count < 4294967295
-    search-few = omega (arith, few-best P (sized-of bytes P (ready .opened .decodes)) kinds own best places at S′)
+    search-few = omega (arith, few-counted P (sized-of bytes P (ready .opened .decodes)) kinds own best places at S′)
 
     pub search-place : (a : After) (new : Choice) → GivesNumbers bytes masks cells (at .m) a → new ≡ rankedBy best (at .m) a → PlaceKept new (at .m)
     unfolding GivesNumbers ownTables

@@ -12,7 +12,7 @@ use Rattle.logic.specs.declared.Move.{Move}
 use Rattle.logic.specs.Configuration.{Sets, inMask, inMasks}
 use Rattle.logic.specs.Moves.{moveKind, fieldsFit, fits}
 use Rattle.move_legal.specs.inner.Legal.{KnownOver}
-use Rattle.move_legal.proofs.Known.{t-used, last-kind}
+use Rattle.logic.proofs.MoveFields.{t-used, last-kind}
 
 -- a set of the plan is the same in all masks and in the plan's own
 pub in-own : (sets : ℕ) (masks : List ℕ) (s p : ℕ) → s < sets → inMasks (take sets masks) s p ≡ inMasks masks s p

@@ -10,7 +10,7 @@ use Rattle.logic.specs.Formula.{none, Plan}
 use Rattle.logic.specs.Configuration.{inMasks}
 use Rattle.logic.specs.Moves.{refusal, moveGrounds, known, fits, legal}
 use Rattle.move_legal.specs.inner.Legal.{SaysKnown, KnownOver, MoveNumber, MoveReady}
-use Rattle.move_legal.proofs.Known.{known-fields}
+use Rattle.logic.proofs.MoveFields.{known-fields}
 
 module _ (ports sets u n : ℕ) (eu : u ≡ ports) (en : n ≡ sets) (m : Move) (masks : List ℕ) where
   -- 14 and 15 by the two tests

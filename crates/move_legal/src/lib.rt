@@ -8,7 +8,8 @@ ghost use Prim.Native.Nat.{_≤_, _<_};
 ghost use lib.ListN.{length, take};
 ghost use Rattle.logic.specs.Configuration.{inMasks};
 ghost use Rattle.logic.specs.Moves.{fits};
-ghost use Rattle.move_legal.specs.inner.Legal.{Fields, MoveNumber, tEnd, MoveReady, qEnd, Decides, SaysKnown, KnownOver};
+ghost use Rattle.logic.specs.inner.MoveFields.{Fields, tEnd, qEnd};
+ghost use Rattle.move_legal.specs.inner.Legal.{MoveNumber, MoveReady, Decides, SaysKnown, KnownOver};
 
 // A number of ports or sets at the width of a move's fields.
 pub fn narrow(x: usize) -> u32

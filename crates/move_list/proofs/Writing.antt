@@ -7,7 +7,7 @@ use native.Mathlib.Omega.{arith}
 use lib.ListN.{length, take, drop, set, getD, length-map, length-set}
 use lib.Seq.{take-suc, drop-cons, append-snoc, set-at, length-take-le}
 use Rattle.logic.specs.declared.Move.{Move}
-use Rattle.contracts.specs.BestCall.{recordOf}
+use Rattle.contracts.specs.BestCall.{moveRecord}
 use Rattle.move_order.specs.inner.Stepping.{place}
 use Rattle.move_list.specs.inner.Records.{RecordAt, AllLow, WritesMoves}
 
@@ -17,7 +17,7 @@ parts x = x / 1048576 ∷ x / 65536 % 16 ∷ x / 4096 % 16 ∷ x / 64 % 64 ∷ x
 
 -- it is that of every move at the place
 pub parts-are : (x : ℕ) → RecordAt x (parts x)
-unfolding RecordAt place recordOf
+unfolding RecordAt place moveRecord
 parts-are x m L e =
     let k : x / 1048576 ≡ m .kind = omega (arith, L, e) in
     let s : x / 65536 % 16 ≡ m .s = omega (arith, L, e) in
@@ -63,16 +63,16 @@ one-written places i list list′ r W R h l ms L e =
     let c =
     cut ms (take i places) (getD places i 0) (sym (take-suc places i 0 h) ∙ ap (λ (k : ℕ). take k places) (sym (add-one i)) ∙ e) in
     let low : AllLow (c .front ++ c .last ∷ []) = subst AllLow (c .is) L in
-    let A = map recordOf (c .front) in
+    let A = map moveRecord (c .front) in
     let f : list′ ≡ A ++ drop i list = W (c .front) (λ m d. low m (Memᴰ·append-left (c .last ∷ []) d)) (c .front-places) in
-    let g : r ≡ recordOf (c .last) =
+    let g : r ≡ moveRecord (c .last) =
     R (c .last) (low (c .last) (Memᴰ·append-right (c .front) (List·Memᴰ·head refl))) (c .last-place) in
     let n : length A ≡ i =
-    length-map (c .front) recordOf ∙ sym (length-map (c .front) place) ∙ ap length (sym (c .front-places)) ∙ length-take-le i places (omega arith) in
+    length-map (c .front) moveRecord ∙ sym (length-map (c .front) place) ∙ ap length (sym (c .front-places)) ∙ length-take-le i places (omega arith) in
     ap₂ (λ (k : List (List ℕ)) (x : List ℕ). set k i x) (f ∙ ap (λ (k : List (List ℕ)). A ++ k) (drop-cons list i [] l)) g
-    ∙ set-at A (getD list i []) (drop (suc i) list) (recordOf (c .last)) i n
-    ∙ sym (append-snoc A (recordOf (c .last)) (drop (suc i) list))
-    ∙ ap₂ (λ (x y : List (List ℕ)). x ++ y) (sym (map-append recordOf (c .front) (c .last ∷ [])) ∙ ap (map recordOf) (sym (c .is)))
+    ∙ set-at A (getD list i []) (drop (suc i) list) (moveRecord (c .last)) i n
+    ∙ sym (append-snoc A (moveRecord (c .last)) (drop (suc i) list))
+    ∙ ap₂ (λ (x y : List (List ℕ)). x ++ y) (sym (map-append moveRecord (c .front) (c .last ∷ [])) ∙ ap (map moveRecord) (sym (c .is)))
     (ap (λ (k : ℕ). drop k list) (sym (add-one i)))
 
 -- What the loop has done at i.

@@ -17,7 +17,7 @@ use Rattle.logic.specs.Moves.{moveKind, kindMasks, namedMasks}
 use Rattle.logic.proofs.Lists.{and-left, and-right}
 use Rattle.logic.proofs.Masks.{in-flip-other, enter-flip, leave-flip}
 use Rattle.move_legal.specs.inner.Legal.{LegalOver}
-use Rattle.move_legal.proofs.Known.{t-used}
+use Rattle.logic.proofs.MoveFields.{t-used}
 use Rattle.move_legal.proofs.Fitting.{in-own, fits-add, fits-drop, fits-transfer, fits-swap}
 
 -- a mask table with one port of one set flipped

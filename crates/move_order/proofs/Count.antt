@@ -17,7 +17,7 @@ use Rattle.logic.specs.Moves.{moveKind, fieldsFit, known, fits, legal, ofKinds}
 use Rattle.logic.proofs.Lists.{and-right}
 use Rattle.contracts.specs.MoveOrder.{fieldsAre, allMoves, kept, candidates}
 use Rattle.contracts.proofs.Candidates.{kept-append}
-use Rattle.move_legal.specs.inner.Legal.{tEnd, qEnd, Fields, Sized}
+use Rattle.logic.specs.inner.MoveFields.{tEnd, qEnd, Fields, Sized}
 use Rattle.move_order.proofs.Listing.{candidate-fields}
 
 -- the sum of h below n

@@ -12,8 +12,9 @@ use Rattle.logic.specs.Moves.{moveKind, known, fits, legal, kindWeight, ofKinds
 use Rattle.logic.proofs.Lists.{and-left, and-right, and-true}
 use Rattle.contracts.specs.MoveOrder.{Candidate}
 use Rattle.move_order.specs.inner.Stepping.{Suits}
-use Rattle.move_legal.specs.inner.Legal.{Fields, Decides}
-use Rattle.move_legal.proofs.Known.{fields-known, fields-here, known-fields, fields-there}
+use Rattle.logic.specs.inner.MoveFields.{Fields}
+use Rattle.move_legal.specs.inner.Legal.{Decides}
+use Rattle.logic.proofs.MoveFields.{fields-known, fields-here, known-fields, fields-there}
 
 pub suits-candidate : (P : Plan) (ports sets kinds : ℕ) (masks : List ℕ) (m : Move) → P .ports ≡ ports → P .sets ≡ sets
     → Suits ports sets kinds masks m → Candidate P kinds (inMasks (take sets masks)) m

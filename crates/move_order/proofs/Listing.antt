@@ -15,9 +15,9 @@ use Rattle.logic.specs.Moves.{noMove, known, fits, legal}
 use Rattle.logic.proofs.Lists.{and-left}
 use Rattle.contracts.specs.MoveOrder.{fieldsAre, allMoves, kept, candidates, Candidate, Rising, Once}
 use Rattle.contracts.proofs.Candidates.{candidates-are, end-over}
-use Rattle.move_legal.specs.inner.Legal.{tEnd, qEnd, Fields, Sized}
+use Rattle.logic.specs.inner.MoveFields.{tEnd, qEnd, Fields, Sized}
 use Rattle.move_order.specs.inner.Stepping.{place, Begins, Follows, NextOr, outset, Walked, Stands, Low}
-use Rattle.move_legal.proofs.Known.{known-fields}
+use Rattle.logic.proofs.MoveFields.{known-fields}
 use Rattle.move_order.proofs.Order.{fields-low, place-same, place-earlier}
 
 -- numbers that rise, from a on and below b

@@ -7,7 +7,7 @@ use native.Mathlib.Omega.{arith}
 use native.Mathlib.Decide.{decLt}
 use lib.Dec.{eqb}
 use Rattle.logic.specs.declared.Move.{Move}
-use Rattle.move_legal.specs.inner.Legal.{tEnd, qEnd, Fields, Sized}
+use Rattle.logic.specs.inner.MoveFields.{tEnd, qEnd, Fields, Sized}
 use Rattle.move_order.specs.inner.Stepping.{place, Low, Position}
 use Rattle.contracts.specs.MoveOrder.{fieldsAre, Earlier}
 

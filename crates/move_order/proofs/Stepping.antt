@@ -10,7 +10,7 @@ use Rattle.logic.specs.declared.Move.{Move}
 use Rattle.logic.specs.Moves.{ofKinds, moveKind, kindWeight}
 use Rattle.contracts.specs.MoveOrder.{fieldsAre}
 use Rattle.move_order.specs.inner.Stepping.{place, Position, Begins, BeginsOver, SizedOver, Suits, NextOr, GivesNext, StepsOn, Low}
-use Rattle.move_legal.specs.inner.Legal.{tEnd, qEnd, Fields}
+use Rattle.logic.specs.inner.MoveFields.{tEnd, qEnd, Fields}
 use Rattle.move_order.proofs.Known.{suits-candidate, candidate-suits}
 use Rattle.move_order.proofs.Order.{end-low, fields-low, position-low, place-same}
 

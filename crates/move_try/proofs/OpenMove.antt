@@ -25,8 +25,9 @@ use Rattle.cells_sum.specs.declared.After.{After}
 use Rattle.cells_walk.specs.inner.Visit.{MasksSettled}
 use Rattle.cells_walk.specs.inner.Root.{RootReady, RootGives}
 use Rattle.call_open.specs.inner.Opening.{OpenPlan}
-use Rattle.move_legal.specs.inner.Legal.{tEnd, Fields, LegalOver, MoveReady, MoveNumber}
-use Rattle.move_legal.proofs.Known.{known-fields}
+use Rattle.logic.specs.inner.MoveFields.{tEnd, Fields}
+use Rattle.move_legal.specs.inner.Legal.{LegalOver, MoveReady, MoveNumber}
+use Rattle.logic.proofs.MoveFields.{known-fields}
 use Rattle.contracts.specs.MoveCall.{moveAccepted, cellsAfter, moveAnswer}
 use Rattle.contracts.specs.ImproveCall.{rootNow, rootAfter}
 use Rattle.contracts.proofs.Within.{move-within, move-length}

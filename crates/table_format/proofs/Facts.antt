@@ -5,6 +5,7 @@ use Prim.Native.Nat.{ℕ}
 use native.Mathlib.Omega.{arith}
 use lib.Dec.{ltb}
 use borrow.Author.Tests.{leb-true, ltb-true}
+use Rattle.logic.specs.inner.MoveFields.{Sized}
 use Rattle.logic.specs.Formula.{Test, isin, notin, port, size, Node, root, all, any, and, or, lit, Forest, none, tree, Plan, childDepth}
 use Rattle.logic.specs.inner.Literals.{Every, OfLiteral, OfTest, VariablesBelow, VariablesBound, ConstantLow, ConstantsLow}
 use Rattle.logic.proofs.Lists.{and-left, and-right}
@@ -74,3 +75,8 @@ pub plan-facts : (P : Plan) → planRule P ≡ true → PlanFacts P
 plan-facts P h =
     let c = is-rooted P h in
     subst PlanFacts (sym (c .1)) (rooted-facts (P .ports) (P .sets) (c .0) (rooted-is P h))
+
+pub plan-sized : (P : Plan) → planRule P ≡ true → Sized (P .ports) (P .sets)
+plan-sized P h =
+    let F = plan-facts P h in
+    record { ports-low = F .ports1; ports-high = F .ports64; sets-low = F .sets1; sets-high = F .sets16 }

@@ -8,7 +8,8 @@ use Rattle.contracts.proofs.Scratch.{scratch-kept}
 use Rattle.call_open.proofs.Opening.{open-longer}
 use Rattle.move_best.specs.inner.Choosing.{Chooses}
 use Rattle.move_best.proofs.Candidates.{sized-of}
-use Rattle.call_best.proofs.Answering.{list-shut, list-unknown, list-short, list-made, count-is, few-best, best-written}
+use Rattle.move_best.proofs.Choosing.{count-is}
+use Rattle.call_best.proofs.Answering.{list-shut, list-unknown, list-short, list-made, few-listed, best-written}
 use borrow.Author.Needs.{needs}
 use Rattle.call_best.proofs.best_moves.Statement.{statement}
 use Rattle.call_best.proofs.best_moves.Tie as tie
@@ -78,7 +79,7 @@ unfolding Chooses
 write-records-requires c κs =
     let o = c .before .before .before .before .before .before .before .before .before .before .before .before .before .before .before .before .before .open-tables .ensures .opens (c .before .before .before .before .before .before .before .before .before .before .before .before .if1 .left) in
     let own = ownTables (o .plan) (tables (c .before .before .before .before .before .before .before .before .before .before .before .before .before .before .before .before .before .before .before .before .before .before .before .before .before .before .args .masks .now) (c .before .before .before .before .before .before .before .before .before .before .before .before .before .before .before .before .before .before .before .before .before .before .before .before .before .before .args .cells .now)) in
-    (omega (arith, few-best (o .plan) (sized-of _ (o .plan) (o .decodes)) (c .before .before .before .before .before .before .before .before .before .before .before .before .before .before .before .before .before .before .before .before .before .before .before .before .before .before .args .kinds) own, count-is (o .plan) own _ _ (c .before .before .before .before .before .choose .ensures (o .plan) (o .decodes) .0), c .before .before .before .wide .ensures .0, c .before .before .before .before .before .choose .kept .1 .1 .1 .1 .1 .1 .1 .1 .1 .0), c .before .before .if3 .left)
+    (omega (arith, few-listed (o .plan) (sized-of _ (o .plan) (o .decodes)) (c .before .before .before .before .before .before .before .before .before .before .before .before .before .before .before .before .before .before .before .before .before .before .before .before .before .before .args .kinds) own, count-is (o .plan) own _ _ (c .before .before .before .before .before .choose .ensures (o .plan) (o .decodes) .0), c .before .before .before .wide .ensures .0, c .before .before .before .before .before .choose .kept .1 .1 .1 .1 .1 .1 .1 .1 .1 .0), c .before .before .if3 .left)
 
 same-length : tie.Need-same-length
 same-length c = search needs

@@ -1,7 +1,7 @@
 use native.Mathlib.Omega.{arith}
 use denote.Ref.{now}
 use borrow.Author.Needs.{needs}
-use Rattle.move_legal.proofs.Known.{t-used, q-used, last-kind}
+use Rattle.logic.proofs.MoveFields.{t-used, q-used, last-kind}
 use Rattle.move_legal.proofs.Fitting.{says-add, says-drop, says-same, says-transfer, says-swap}
 use Rattle.move_legal.proofs.fits_move.Statement.{statement}
 use Rattle.move_legal.proofs.fits_move.Tie as tie

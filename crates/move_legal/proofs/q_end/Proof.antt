@@ -1,5 +1,5 @@
 use borrow.Author.Tests.{eq-eqb, ne-eqb}
-use Rattle.move_legal.specs.inner.Legal.{qEnd}
+use Rattle.logic.specs.inner.MoveFields.{qEnd}
 use Rattle.move_legal.proofs.q_end.Statement.{statement}
 use Rattle.move_legal.proofs.q_end.Tie as tie
 

@@ -1,5 +1,5 @@
 use borrow.Author.Tests.{eq-eqb, ne-eqb}
-use Rattle.move_legal.specs.inner.Legal.{tEnd}
+use Rattle.logic.specs.inner.MoveFields.{tEnd}
 use Rattle.move_legal.proofs.t_end.Statement.{statement}
 use Rattle.move_legal.proofs.t_end.Tie as tie
 

@@ -6,7 +6,7 @@ use lib.ListN.{getD, set}
 use denote.Ref.{now}
 use borrow.Author.Needs.{needs}
 use Rattle.logic.specs.inner.Flip.{flipPort}
-use Rattle.move_legal.proofs.Known.{t-used, q-used}
+use Rattle.logic.proofs.MoveFields.{t-used, q-used}
 use Rattle.move_masks.proofs.Masks.{after-one, after-swap, after-transfer}
 use Rattle.move_masks.proofs.masks_after.Statement.{statement}
 use Rattle.move_masks.proofs.masks_after.Tie as tie

@@ -4,7 +4,8 @@ use denote.Ref.{now}
 use borrow.Author.Tests.{not-true, not-false}
 use borrow.Author.Needs.{needs}
 use Rattle.logic.specs.Moves.{ofKinds}
-use Rattle.move_legal.specs.inner.Legal.{Decides, Fields}
+use Rattle.logic.specs.inner.MoveFields.{Fields}
+use Rattle.move_legal.specs.inner.Legal.{Decides}
 use Rattle.move_order.proofs.Known.{says-suits}
 use Rattle.move_legal.proofs.Known.{says-yes, says-no}
 use Rattle.move_order.proofs.is_candidate.Statement.{statement}

@@ -10,7 +10,7 @@ use Rattle.logic.specs.Configuration.{inMasks}
 use Rattle.logic.specs.Moves.{noMove, fits, ofKinds}
 use Rattle.contracts.specs.MoveOrder.{Candidate}
 use Rattle.move_order.specs.declared.Next.{Next}
-use Rattle.move_legal.specs.inner.Legal.{Fields, Sized}
+use Rattle.logic.specs.inner.MoveFields.{Fields, Sized}
 
 -- The same order as one number, for sets below 16 and ports below 64: proofs/Order shows that both order the plan's moves alike.
 unfoldable pub place : Move → ℕ
