@@ -27,7 +27,7 @@ use Rattle.logic.specs.inner.MoveFields.{Sized}
 use Rattle.move_order.specs.inner.Stepping.{place}
 use Rattle.move_order.proofs.Listing.{candidate-low}
 use Rattle.move_list.specs.inner.Records.{AllLow, WritesMoves}
-use Rattle.move_best.specs.declared.Choice.{Choice}
+use Rattle.move_rank.specs.declared.Choice.{Choice}
 use Rattle.move_best.specs.inner.Choosing.{BestIs, PlacesAre}
 use Rattle.move_best.proofs.Choosing.{count-is, few-best}
 

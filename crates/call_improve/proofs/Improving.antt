@@ -21,7 +21,7 @@ use Rattle.call_open.proofs.Opening.{two-tables, shut-first, root-cell}
 use Rattle.call_open.proofs.OfKinds.{kinds-unknown, kinds-pass}
 use Rattle.move_try.proofs.OpenMove.{answer-is}
 use Rattle.move_make.specs.inner.Carrying.{Carried}
-use Rattle.move_best.specs.declared.Choice.{Choice}
+use Rattle.move_rank.specs.declared.Choice.{Choice}
 use Rattle.move_best.specs.inner.Choosing.{BestIs, lowersBy}
 use Rattle.move_best.proofs.Answering.{improve-stays, improve-makes}
 

@@ -15,7 +15,7 @@ use Rattle.contracts.specs.MoveCall.{movesOwn}
 use Rattle.contracts.specs.ImproveCall.{improveMade, noBetter, rootNow, rootAfter, bestMoves, improvesBy}
 use Rattle.contracts.proofs.Candidates.{in-candidate}
 use Rattle.contracts.proofs.Best.{best-is}
-use Rattle.move_best.specs.declared.Choice.{Choice}
+use Rattle.move_rank.specs.declared.Choice.{Choice}
 use Rattle.move_best.specs.inner.Choosing.{BestIs, lowersBy}
 
 module _ (P : Plan) (own : State) (c : Choice) (root : ℕ) (root-is : root ≡ rootNow (own .cells)) where

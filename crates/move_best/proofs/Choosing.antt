@@ -1,14 +1,13 @@
 -- One candidate more: what holds of the best so far, of their places and of what is left. Assumes nothing.
 use mathlib.Core.Path.{_≡_, refl, sym, ap, _∙_, subst}
 use mathlib.Core.Logic.{_≢_}
-use mathlib.Core.Bool.{Bool, true, false, cond, _||_, true≢false}
+use mathlib.Core.Bool.{Bool, true, false, cond, true≢false}
 use mathlib.Core.List.{List, [], _∷_, _++_, append-assoc, append-nil, List·Memᴰ, List·Memᴰ·head, Memᴰ·append-right}
 use Prim.Native.Nat.{ℕ, _+_, _-_, _≤_, _<_}
 use native.Mathlib.Omega.{arith}
 use native.Mathlib.Decide.{decLt}
-use lib.Dec.{eqb}
 use lib.ListN.{length, set, length-append}
-use borrow.Author.Tests.{lt-ltb, le-ltb, eq-eqb, ne-eqb}
+use borrow.Author.Tests.{eq-eqb, ne-eqb}
 use Rattle.logic.specs.declared.Move.{Move}
 use Rattle.logic.specs.Formula.{Plan}
 use Rattle.logic.specs.Configuration.{inMasks}
@@ -24,37 +23,17 @@ use Rattle.logic.specs.inner.MoveFields.{Sized}
 use Rattle.move_order.proofs.Count.{few-candidates}
 use Rattle.move_order.proofs.Listing.{candidates-walked, stands-next}
 use Rattle.move_try.specs.inner.Trying.{NumbersAre}
-use Rattle.move_best.specs.declared.Choice.{Choice}
+use Rattle.move_rank.specs.declared.Choice.{Choice}
+use Rattle.move_rank.proofs.Ranking.{ranked-first, ranked-lower, ranked-equal, ranked-higher}
 use Rattle.move_best.proofs.Placing.{no-places, place-more}
-use Rattle.move_best.specs.inner.Choosing.{choiceOf, noNumbers, rankedBy, BestIs, PlacesAre, placesWith}
+use Rattle.move_rank.specs.inner.Ranking.{choiceOf, noNumbers, rankedBy, placesWith}
+use Rattle.move_best.specs.inner.Choosing.{BestIs, PlacesAre}
 
 -- the choice counts the best moves
 pub count-is : (P : Plan) (own : State) (c : Choice) (ms : List Move) → BestIs ms P own c → c .count ≡ length ms
 unfolding BestIs
 count-is P own c [] b = b
 count-is P own c (m ∷ ms) b = b .0
-
--- the choice between the best so far and a candidate
-module _ (best : Choice) (m : Move) (a : After) where
-  pub ranked-first : best .count ≡ 0 → rankedBy best m a ≡ choiceOf 1 m a
-  unfolding rankedBy
-  ranked-first e = rw (eq-eqb (best .count) 0 e)
-
-  pub ranked-lower : a .value < best .numbers .value → rankedBy best m a ≡ choiceOf 1 m a
-  unfolding rankedBy
-  ranked-lower l = rw (lt-ltb (a .value) (best .numbers .value) l, or-true (eqb (best .count) 0))
-    where
-      or-true : (b : Bool) → (b || true) ≡ true
-      or-true true = refl
-      or-true false = refl
-
-  pub ranked-equal : best .count ≢ 0 → a .value ≡ best .numbers .value → rankedBy best m a ≡ choiceOf (best .count + 1) (best .m) (best .numbers)
-  unfolding rankedBy
-  ranked-equal c e = rw (ne-eqb (best .count) 0 c, le-ltb (a .value) (best .numbers .value) (omega arith), eq-eqb (a .value) (best .numbers .value) e)
-
-  pub ranked-higher : best .count ≢ 0 → best .numbers .value ≤ a .value → a .value ≢ best .numbers .value → rankedBy best m a ≡ best
-  unfolding rankedBy
-  ranked-higher c l d = rw (ne-eqb (best .count) 0 c, le-ltb (a .value) (best .numbers .value) l, ne-eqb (a .value) (best .numbers .value) d)
 
 module _ (P : Plan) (own : State) where
   abbrev root : Move → ℕ

@@ -1,18 +1,13 @@
 -- The places of the best moves in a lent table. Assumes nothing.
 use mathlib.Core.Path.{_≡_, refl, sym, ap, ap₂, _∙_}
-use mathlib.Core.Logic.{_≢_}
-use mathlib.Core.Bool.{Bool, true, false, cond}
 use mathlib.Core.List.{List, [], _∷_, _++_, map, map-append, head-eq-of-cons-eq, tail-eq-of-cons-eq}
-use Prim.Native.Nat.{ℕ, suc, _-_, _≤_}
+use Prim.Native.Nat.{ℕ, suc, _-_}
 use native.Mathlib.Omega.{arith}
-use lib.Dec.{eqb}
 use lib.ListN.{length, take, set, length-append, length-map, length-set}
-use lib.Seq.{take-nil, set-out}
-use borrow.Author.Tests.{eq-eqb, ne-eqb}
+use lib.Seq.{take-nil}
 use Rattle.logic.specs.declared.Move.{Move}
 use Rattle.move_order.specs.inner.Stepping.{place}
-use Rattle.move_best.specs.declared.Choice.{Choice}
-use Rattle.move_best.specs.inner.Choosing.{PlacesAre, placesWith}
+use Rattle.move_best.specs.inner.Choosing.{PlacesAre}
 
 -- one number more behind those that a table holds
 one-more : (ns ts : List ℕ) (x : ℕ) → take (length ns) ts ≡ take (length ts) ns → take (suc (length ns)) (set ts (length ns) x) ≡ take (length ts) (ns ++ x ∷ [])
@@ -36,21 +31,3 @@ place-more ms m ts h =
     ∙ ap (λ (n : ℕ). take (suc n) (set ts n x)) (sym e)
     ∙ one-more ns ts x (ap (λ (n : ℕ). take n ts) e ∙ h)
     ∙ ap₂ take (sym (length-set ts (length ms) x)) (sym (map-append place ms (m ∷ [])))
-
--- the table after a candidate: its place is written, or would stand past the table's end, or it is none of the best
-module _ (best : Choice) (m : Move) (value : ℕ) (places : List ℕ) where
-  pub placed-here : (at x : ℕ) → value ≡ best .numbers .value → at ≡ best .count → x ≡ place m → set places (at - 1) x ≡ placesWith best m value places
-  unfolding placesWith
-  placed-here at x e f g = rw (eq-eqb value (best .numbers .value) e, f, g)
-
-  pub placed-past : (at : ℕ) → at ≡ best .count → length places ≤ at - 1 → places ≡ placesWith best m value places
-  unfolding placesWith
-  placed-past at f l = go (eqb value (best .numbers .value))
-    where
-      go : (b : Bool) → places ≡ cond b (set places (best .count - 1) (place m)) places
-      go true = sym (set-out places (best .count - 1) (place m) (omega (arith, f, l)))
-      go false = refl
-
-  pub placed-not : value ≢ best .numbers .value → places ≡ placesWith best m value places
-  unfolding placesWith
-  placed-not d = rw (ne-eqb value (best .numbers .value) d)

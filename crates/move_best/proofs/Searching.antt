@@ -16,8 +16,9 @@ use Rattle.contracts.specs.MoveOrder.{Candidate}
 use Rattle.move_order.specs.declared.Next.{Next}
 use Rattle.move_order.specs.inner.Stepping.{place, outset, BeginsOver, NextOr, GivesNext}
 use Rattle.move_order.proofs.Listing.{candidate-fields, candidate-low, candidate-high}
-use Rattle.move_best.specs.declared.Choice.{Choice}
-use Rattle.move_best.specs.inner.Choosing.{Chooses, PlaceKept, choiceOf, noNumbers, rankedBy, placesWith}
+use Rattle.move_rank.specs.declared.Choice.{Choice}
+use Rattle.move_rank.specs.inner.Ranking.{PlaceKept, choiceOf, noNumbers, rankedBy, placesWith}
+use Rattle.move_best.specs.inner.Choosing.{Chooses}
 use Rattle.move_best.proofs.Choosing.{Sought, few-counted, here-candidate, sought-first, sought-next, ranked-some, sought-end}
 use Rattle.call_open.specs.inner.Opening.{OpenTables}
 use Rattle.move_try.specs.inner.Trying.{TryReady, GivesNumbers}

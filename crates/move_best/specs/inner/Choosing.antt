@@ -1,40 +1,25 @@
 -- The best of all candidates, by the root that each would leave. Paper 01, section One move; paper 02, request 2026-01.
 use mathlib.Core.Path.{_≡_}
-use mathlib.Core.Bool.{Bool, cond, not, _&&_, _||_}
+use mathlib.Core.Bool.{Bool, not, _&&_}
 use mathlib.Core.List.{List, [], _∷_, map}
-use Prim.Native.Nat.{ℕ, suc, _+_, _-_, _≤_}
+use Prim.Native.Nat.{ℕ, suc, _-_}
 use lib.Dec.{eqb, ltb}
-use lib.ListN.{length, take, set}
+use lib.ListN.{length, take}
 use Rattle.logic.specs.declared.Move.{Move}
 use Rattle.logic.specs.Formula.{Plan}
 use Rattle.logic.specs.Configuration.{maskCount}
 use Rattle.table_format.specs.Decode.{sound, decode}
 use Rattle.call_open.specs.inner.Opening.{OpenTables}
-use Rattle.cells_sum.specs.declared.After.{After}
 use Rattle.contracts.specs.State.{State, tables, ownTables}
 use Rattle.contracts.specs.ImproveCall.{bestMoves}
 use Rattle.move_try.specs.inner.Trying.{NumbersAre}
 use Rattle.move_order.specs.inner.Stepping.{place}
-use Rattle.move_list.specs.inner.Records.{PlaceFits}
-use Rattle.move_best.specs.declared.Choice.{Choice}
+use Rattle.move_rank.specs.declared.Choice.{Choice}
 
 -- Open tables, and room for the masks after a move.
 pub record SearchRoom (ports sets : ℕ) (bytes firsts ends uses masks cells work : List ℕ) : Type 0 where
   pub ready : OpenTables ports sets bytes firsts ends uses masks cells
   pub work-long : length work ≡ maskCount sets
-
--- A choice with its fields, and the numbers of none.
-unfoldable pub choiceOf : ℕ → Move → After → Choice
-choiceOf count m a = record { count = count; m = m; numbers = a }
-
-unfoldable pub noNumbers : After
-noNumbers = record { old = 0; value = 0; changed = 0 }
-
--- The best so far and one candidate more.
-unfoldable pub rankedBy : Choice → Move → After → Choice
-rankedBy best m a =
-    cond (eqb (best .count) 0 || ltb (a .value) (best .numbers .value)) (choiceOf 1 m a)
-    (cond (eqb (a .value) (best .numbers .value)) (choiceOf (best .count + 1) (best .m) (best .numbers)) best)
 
 -- The choice is the first of these moves, with how many they are and its three numbers.
 unfoldable pub BestIs : List Move → Plan → State → Choice → Type 0
@@ -44,15 +29,6 @@ BestIs (m ∷ ms) P own r = (r .count ≡ suc (length ms)) × (r .m ≡ m) × Nu
 -- A table holds the places of these moves, as many as it takes.
 unfoldable pub PlacesAre : List Move → List ℕ → Type 0
 PlacesAre ms places = take (length ms) places ≡ take (length places) (map place ms)
-
--- The table with the place of a candidate that has become one of the best; past its end nothing is written.
-unfoldable pub placesWith : Choice → Move → ℕ → List ℕ → List ℕ
-placesWith best m value places = cond (eqb value (best .numbers .value)) (set places (best .count - 1) (place m)) places
-
--- A move that has a place, and a choice of at least one.
-pub record PlaceKept (best : Choice) (m : Move) : Type 0 where
-  pub some : 1 ≤ best .count
-  pub fits : PlaceFits m
 
 -- The first of the best, if there is one, leaves a smaller root than now.
 unfoldable pub lowersBy : Choice → ℕ → Bool

@@ -1,8 +1,8 @@
 use borrow.Author.Needs.{needs}
 use Rattle.move_order.specs.inner.Stepping.{outset}
-use Rattle.move_best.specs.inner.Choosing.{choiceOf, noNumbers}
-use Rattle.move_best.proofs.none_yet.Statement.{statement}
-use Rattle.move_best.proofs.none_yet.Tie as tie
+use Rattle.move_rank.specs.inner.Ranking.{choiceOf, noNumbers}
+use Rattle.move_rank.proofs.none_yet.Statement.{statement}
+use Rattle.move_rank.proofs.none_yet.Tie as tie
 
 no-move-requires : tie.Need-no-move-requires
 no-move-requires c κs = search needs

@@ -1,7 +1,7 @@
 use borrow.Author.Needs.{needs}
-use Rattle.move_best.specs.inner.Choosing.{choiceOf}
-use Rattle.move_best.proofs.alone.Statement.{statement}
-use Rattle.move_best.proofs.alone.Tie as tie
+use Rattle.move_rank.specs.inner.Ranking.{choiceOf}
+use Rattle.move_rank.proofs.alone.Statement.{statement}
+use Rattle.move_rank.proofs.alone.Tie as tie
 
 returns : tie.Need-returns
 unfolding choiceOf

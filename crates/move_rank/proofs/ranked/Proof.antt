@@ -1,9 +1,9 @@
 use mathlib.Core.Path.{sym, _∙_}
-use Rattle.move_best.specs.inner.Choosing.{choiceOf}
-use Rattle.move_best.proofs.Choosing.{ranked-first, ranked-lower, ranked-equal, ranked-higher}
+use Rattle.move_rank.specs.inner.Ranking.{choiceOf}
+use Rattle.move_rank.proofs.Ranking.{ranked-first, ranked-lower, ranked-equal, ranked-higher}
 use borrow.Author.Needs.{needs}
-use Rattle.move_best.proofs.ranked.Statement.{statement}
-use Rattle.move_best.proofs.ranked.Tie as tie
+use Rattle.move_rank.proofs.ranked.Statement.{statement}
+use Rattle.move_rank.proofs.ranked.Tie as tie
 
 alone-requires : tie.Need-alone-requires
 alone-requires c κs = search needs

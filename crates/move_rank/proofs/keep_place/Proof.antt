@@ -1,7 +1,7 @@
-use Rattle.move_best.proofs.Placing.{placed-here, placed-past, placed-not}
+use Rattle.move_rank.proofs.Ranking.{placed-here, placed-past, placed-not}
 use borrow.Author.Needs.{needs}
-use Rattle.move_best.proofs.keep_place.Statement.{statement}
-use Rattle.move_best.proofs.keep_place.Tie as tie
+use Rattle.move_rank.proofs.keep_place.Statement.{statement}
+use Rattle.move_rank.proofs.keep_place.Tie as tie
 
 wide-requires : tie.Need-wide-requires
 wide-requires c κs = search needs
