@@ -1,5 +1,5 @@
-/* Reads plan A of paper 01, loads it, prints its numbers and the cells of one node, mends the plan by one move, and lists the moves
- * that keep it so.
+/* Reads plan A of paper 01, writes its table as text, loads it, prints its numbers and the cells of one node, mends the plan by one
+ * move, and lists the moves that keep it so.
  *
  * Built and run by .ci/run, which holds what it prints to examples/plan.stdout. */
 #include <stdio.h>
@@ -19,6 +19,11 @@ int main(void)
     uint8_t table[VK_MOST_TABLE];
     vk_read_answer plan = vk_read(3, (const uint8_t *)text, strlen(text), table, sizeof table);
     printf("read: number %u, nodes %u, cells %u\n", plan.number, plan.nodes, plan.cells);
+
+    /* From the table alone: the letters are the writer's own, and the arrow is gone. */
+    uint8_t own[VK_MOST_TEXT];
+    vk_count_answer written = vk_write(table, sizeof table, own, sizeof own);
+    printf("write: number %u, length %u: %.*s\n", written.number, written.count, (int)written.count, (const char *)own);
 
     /* S holds ports 0 and 1, T holds 0 to 2, I holds 0. Port 1 is in S and T and not in I: the plan misses by 1. */
     uint64_t masks[] = {3, 7, 1};

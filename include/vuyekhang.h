@@ -1,4 +1,4 @@
-/* Vuyekhang: a planning engine for the ports of a cabinet, proved in Rattle. Version 0.3: read, load, a node's cells, move,
+/* Vuyekhang: a planning engine for the ports of a cabinet, proved in Rattle. Version 0.4: read, write, load, a node's cells, move,
  * trial, improve and the list of best moves.
  *
  * Link target/staticlib/libvuyekhang.a, which `rt staticlib vuyekhang` writes (x86-64, Linux). Each function is proved to meet its
@@ -13,14 +13,15 @@
  * quantifiers around one token; 5 set undeclared, declared twice or a seventeenth, variable unbound or bound again within its
  * reach; 6 constant above 64; 7 a fourth enclosing quantifier; 8 core over 512 nodes; 9 more than 1,048,576 cells; 10 u outside
  * 1 to 64; 11 plan table breaks a rule or is cut short; 12 cell, scratch, mask or output table too short; 13 a mask with a port of
- * u or more; 14 unknown kind, set, port or kinds sum, or an unused field not 0; 15 illegal move; 16 the list of moves too short. */
+ * u or more; 14 unknown kind, set, port or kinds sum, or an unused field not 0; 15 illegal move; 16 the list of moves too short;
+ * 17 the written text would meet 1 or 4. */
 #ifndef VUYEKHANG_H
 #define VUYEKHANG_H
 
 #include <stddef.h>
 #include <stdint.h>
 
-#define VK_VERSION "0.3"
+#define VK_VERSION "0.4"
 
 #ifdef __cplusplus
 extern "C" {
@@ -28,6 +29,9 @@ extern "C" {
 
 /* Every plan table fits this many bytes: 9 and 8 for each of at most 512 nodes. */
 #define VK_MOST_TABLE 4105
+
+/* No text is longer than this many bytes, so that a text table of so many never meets 12. */
+#define VK_MOST_TEXT 4096
 
 /* No plan ever has more legal moves than this, so that a list of so many records never meets 16. */
 #define VK_MOST_MOVES 21504
@@ -40,6 +44,18 @@ typedef struct {
 /* Reads a plan text over u ports and writes its plan table, 9 + 8 * nodes bytes. Tries ground 10, then 1 to 9, each over the whole
  * text, then 12 (the table is shorter than the plan's). A text may nest so deep that it takes 4 MB of stack. */
 vk_read_answer vk_read(uint64_t u, const uint8_t *text, size_t text_len, uint8_t *table, size_t table_len);
+
+/* Number; how many: bytes of a text that was written, moves that were listed. */
+typedef struct {
+    uint32_t number, count;
+} vk_count_answer;
+
+/* Writes a plan table as text and answers the text's length in bytes; no 0 ends it. Sets are named from A, all of them declared,
+ * variables a, b, c by number; one space stands round `&`, `|` and relations, after a quantifier's variable and after `]`; brackets
+ * only where the grammar needs them. vk_read of this text with the table's own u gives the table's own bytes. Tries 11, then 17 (the
+ * text is over 4,096 bytes, or has more than 64 of `(` and quantifiers around one token), then 12 (the text table is shorter than the
+ * text). The text table's bytes past the text are kept. */
+vk_count_answer vk_write(const uint8_t *table, size_t table_len, uint8_t *text, size_t text_len);
 
 /* Number, the root's penalty (0 exactly when the plan is true), cell total. */
 typedef struct {
@@ -100,11 +116,6 @@ typedef struct {
  * 2 drop, 4 transfer, 8 swap. Tries 11 to 13 as vk_trial does, then 14 (kinds 0 or above 15). Scratch as for vk_trial. */
 vk_improve_answer vk_improve(const uint8_t *table, size_t table_len, uint64_t *masks, size_t masks_len, uint32_t *cells,
                              size_t cells_len, uint32_t *scratch, size_t scratch_len, uint32_t kinds);
-
-/* Number, how many moves were listed. */
-typedef struct {
-    uint32_t number, count;
-} vk_count_answer;
 
 /* Lists the legal moves of some kinds that leave the least root, as vk_trial would answer it, each once and in order, also where
  * that root is not smaller than now; 0 of them where none is legal. Tries 11 to 14 as vk_improve does, then 16 (list_len, in

@@ -9,10 +9,11 @@ use Rattle.contracts.specs.State.{State}
 use Rattle.contracts.specs.MoveCall.{MoveValues}
 use Rattle.contracts.specs.TrialCall.{ScratchAfter}
 use Rattle.contracts.specs.ImproveCall.{ImproveValues}
-use Rattle.contracts.specs.BestCall.{CountValues, Listing, moveRecord}
+use Rattle.contracts.specs.BestCall.{Listing, moveRecord}
 use Rattle.answers.specs.declared.MoveAnswer.{MoveAnswer}
 use Rattle.answers.specs.declared.ImproveAnswer.{ImproveAnswer}
 use Rattle.answers.specs.declared.CountAnswer.{CountAnswer}
+use Rattle.answers.specs.Boundary.{CountFields}
 
 -- "The answer is the number with all other fields 0", and the three numbers of an accepted move: each field by the call's own
 -- definitions.
@@ -46,11 +47,6 @@ pub record ImproveGives (d : Decoded) (given : ImproveValues × State) (r : Impr
   pub fields : ImproveFields (given .0) r
   pub tables-are : s′ ≡ given .1
   pub scratch-is : ScratchAfter d (r .number) scratch scratch′
-
--- A number and a count.
-pub record CountFields (v : CountValues) (r : CountAnswer) : Type 0 where
-  pub number-is : r .number ≡ v .number
-  pub count-is : r .count ≡ v .count
 
 -- The struct, every record of the lent list and scratch afterwards.
 pub record ListGives (d : Decoded) (given : Listing) (r : CountAnswer) (list list′ : List (List ℕ)) (scratch scratch′ : List ℕ) : Type 0 where

@@ -13,10 +13,10 @@ ghost use Rattle.contracts.specs.declared.Improved.the-variants.{Made};
 ghost use Rattle.contracts.specs.Load.{loadValues};
 ghost use Rattle.contracts.specs.MoveCall.{moveValues};
 ghost use Rattle.contracts.specs.ImproveCall.{improveValues};
-ghost use Rattle.contracts.specs.BestCall.{countValues};
+ghost use Rattle.contracts.specs.Counting.{countValues};
 ghost use Rattle.contracts.specs.Read.{readValues};
-ghost use Rattle.answers.specs.Boundary.{ReadFields, LoadFields};
-ghost use Rattle.answers.specs.Moving.{MoveFields, ImproveFields, CountFields};
+ghost use Rattle.answers.specs.Boundary.{ReadFields, LoadFields, CountFields};
+ghost use Rattle.answers.specs.Moving.{MoveFields, ImproveFields};
 
 // Root before, root after, and how many cells differ.
 pub fn accepted(r: After) -> Moved

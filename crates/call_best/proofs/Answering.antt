@@ -16,7 +16,8 @@ use Rattle.contracts.specs.State.{State, tables, ownTables}
 use Rattle.contracts.specs.MoveOrder.{candidates}
 use Rattle.contracts.specs.declared.Counted.the-variants.{Accepted, Refused}
 use Rattle.contracts.specs.ImproveCall.{rootAfter, bestMoves}
-use Rattle.contracts.specs.BestCall.{Listing, countValues, CountTold, countAccepted, bestGrounds, listRefused, listsOwn, lists, moveRecord, ListPromise}
+use Rattle.contracts.specs.Counting.{countValues, CountTold, countAccepted}
+use Rattle.contracts.specs.BestCall.{Listing, bestGrounds, listRefused, listsOwn, lists, moveRecord, ListPromise}
 use Rattle.contracts.proofs.Calls.{call-refused, call-accepted}
 use Rattle.contracts.proofs.Candidates.{in-candidate}
 use Rattle.contracts.proofs.Best.{best-is}

@@ -10,7 +10,8 @@ ghost use lib.ListN.{length};
 ghost use Rattle.table_format.specs.Decode.{decode};
 ghost use Rattle.contracts.specs.State.{tables};
 ghost use Rattle.contracts.specs.TrialCall.{ScratchAfter};
-ghost use Rattle.contracts.specs.BestCall.{countValues, lists, ListPromise};
+ghost use Rattle.contracts.specs.Counting.{countValues};
+ghost use Rattle.contracts.specs.BestCall.{lists, ListPromise};
 
 // No plan has more legal moves, so that the places of the best fit (move_order/proofs/Count).
 const MOST_MOVES: usize = 21504;

@@ -12,7 +12,8 @@ use Rattle.contracts.specs.declared.Counted.{Counted}
 use Rattle.contracts.specs.MoveCall.{MoveValues, moveValues, MovedAs, moves, MovePromise}
 use Rattle.contracts.specs.TrialCall.{trials, ScratchAfter}
 use Rattle.contracts.specs.ImproveCall.{ImproveValues, improveValues, improves, ImprovePromise}
-use Rattle.contracts.specs.BestCall.{CountValues, countValues, lists, ListPromise}
+use Rattle.contracts.specs.Counting.{CountValues, countValues}
+use Rattle.contracts.specs.BestCall.{lists, ListPromise}
 use Rattle.contracts.specs.Lists.{askMove, askTrial, askImprove, askBest, trialCall, improveCall, bestCall, step}
 use Rattle.call_list.specs.Encoding.{tag, moveOf, kindsOf, cellsLent, recordsLent, Encodes, movedNumbers, improvedNumbers, countedNumbers, answerNumbers, listOne}
 use Rattle.call_list.specs.Scratch.{lentTo, answerNumber}

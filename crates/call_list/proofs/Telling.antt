@@ -11,7 +11,7 @@ use Rattle.contracts.specs.declared.Counted.{Counted}
 use Rattle.contracts.specs.MoveCall.{moveValues}
 use Rattle.logic.specs.Moves.{noMove}
 use Rattle.contracts.specs.ImproveCall.{improveValues}
-use Rattle.contracts.specs.BestCall.{countValues}
+use Rattle.contracts.specs.Counting.{countValues}
 use Rattle.call_list.specs.Encoding.{tenNumbers, movedNumbers, improvedNumbers, countedNumbers}
 
 -- ten stores leave the ten numbers and what stood behind them

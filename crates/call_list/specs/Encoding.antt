@@ -8,7 +8,8 @@ use Rattle.logic.specs.declared.Move.{Move}
 use Rattle.logic.specs.Moves.{noMove}
 use Rattle.contracts.specs.MoveCall.{MoveValues}
 use Rattle.contracts.specs.ImproveCall.{ImproveValues}
-use Rattle.contracts.specs.BestCall.{CountValues, moveRecord}
+use Rattle.contracts.specs.Counting.{CountValues}
+use Rattle.contracts.specs.BestCall.{moveRecord}
 use Rattle.contracts.specs.Lists.{Asked, askMove, askTrial, askImprove, askBest, Exchange, moveCall, trialCall, improveCall, bestCall}
 
 -- "a tag, five fields, and how much of the lent scratch this call gets"

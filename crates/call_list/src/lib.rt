@@ -17,7 +17,7 @@ ghost use lib.ListN.{length, drop};
 ghost use Rattle.contracts.specs.State.{tables};
 ghost use Rattle.contracts.specs.MoveCall.{moveValues};
 ghost use Rattle.contracts.specs.ImproveCall.{improveValues};
-ghost use Rattle.contracts.specs.BestCall.{countValues};
+ghost use Rattle.contracts.specs.Counting.{countValues};
 ghost use Rattle.call_list.specs.Encoding.{moveOf, tenNumbers, movedNumbers, improvedNumbers, countedNumbers};
 ghost use Rattle.call_list.specs.inner.Steps.{OneAfter, NextFits};
 ghost use Rattle.call_list.specs.Working.{lends, Worked, Stopped};

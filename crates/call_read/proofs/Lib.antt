@@ -1,3 +1,4 @@
 -- Laws.
 pub mod Answers
 pub mod Finishing
+pub mod Reading

@@ -2,13 +2,11 @@
 use mathlib.Core.Path.{_≡_, refl, sym, ap, ap₂, _∙_, subst}
 use mathlib.Core.Bool.{true}
 use mathlib.Core.List.{List, [], _∷_, _++_, append-assoc}
-use Prim.Native.Nat.{ℕ, suc, _+_, _-_, _*_, _^_, _≤_, _<_}
+use Prim.Native.Nat.{ℕ, _+_, _-_, _*_, _^_, _≤_, _<_}
 use native.Mathlib.Nat.{le-trans, add-zero, suc-add, mul-le-mul-right, mul-left-comm, pow-suc}
-use native.Mathlib.Numerals.{add-one}
 use native.Mathlib.Omega.{arith}
 use lib.ListN.{length, getD, take, drop, length-append, length-drop, take-append-drop, List·getD-append}
 use lib.Seq.{drop-at, length-take-le, ext-getD, drop-append-add}
-use borrow.Author.Tests.{leb-true}
 use Rattle.logic.specs.Formula.{Node, root, all, any, and, or, lit, Forest, none, tree, kindNumber, nodeCount, childDepth}
 use Rattle.logic.specs.inner.Literals.{ConstantLow, ConstantsLow}
 use Rattle.logic.specs.Configuration.{Configuration, configured, inMasks}
@@ -18,17 +16,16 @@ use Rattle.logic.specs.Cells.{cellCount, tupleAt, tabulate, layout}
 use Rattle.logic.proofs.Tables.{length-tabulate, getD-tabulate, tabulate-cong, length-layout}
 use Rattle.logic.proofs.Bound.{spread, spread-pos, subtreeCells, subtree-count, below-penalties-le, literals-low, ports-in-le}
 use Rattle.logic.proofs.Lent.{lent, back, lent-is, back-is}
-use Rattle.table_format.specs.Bytes.{recordLength, kindField, relationField, aField, bField, endField, relationByte, aByte, bByte, nodeOf, records}
-use Rattle.table_format.specs.Rules.{everyNode, nodeRule, depthRule, treeCount, arityRule}
-use Rattle.table_format.specs.inner.Tests.{fieldRule, kindDepth, kindWidth}
-use Rattle.table_format.specs.Decode.{forestOf}
-use Rattle.table_format.proofs.Parts.{siblingsOf, rest-all, length-rest-all, one-fits, some-record, length-children, end-below, children-below, siblings-below, span-within}
-use Rattle.table_format.proofs.Bytes.{record-pos, kind-of-record, relation-of-record, a-of-record, b-of-record, end-of-record}
-use Rattle.table_format.proofs.Encoding.{forest-of-records, length-records, node-of-record, children-part, siblings-part}
-use Rattle.table_format.proofs.FieldRules.{node-fields, kind-depth, kind-depth-le, kind-width}
+use Rattle.table_format.specs.Bytes.{recordLength, kindField, relationField, aField, bField, endField, nodeOf, records}
+use Rattle.table_format.specs.Rules.{everyNode, nodeRule}
+use Rattle.table_format.specs.inner.Tests.{kindDepth, kindWidth}
+use Rattle.table_format.proofs.Parts.{rest-all, some-record}
+use Rattle.table_format.proofs.Opened.{one-forest, not-none, PartOpened, part-opened, part-span}
+use Rattle.table_format.proofs.Bytes.{record-pos}
+use Rattle.table_format.proofs.Encoding.{length-records}
+use Rattle.table_format.proofs.FieldRules.{kind-depth-le, kind-width}
 use Rattle.table_format.proofs.Facts.{every-inner, constant-low}
 use Rattle.table_format.proofs.Laid.{kidsOf, restOf, width-low}
-use Rattle.table_format.proofs.Rooted.{every-node}
 use Rattle.cells_join.specs.inner.Joined.{joinAll, merged, joinOf, spreadOf}
 use Rattle.cells_fill.specs.inner.Fill.{startCell, treewise, config, table, StartPlaced, started, FillPlaced, Filled, Fills}
 use Rattle.cells_join.proofs.Prefix.{join-append}
@@ -43,13 +40,6 @@ tabulate-getD : (l : List ℕ) (m : ℕ) → length l ≡ m → tabulate m (λ t
 tabulate-getD l m h =
     ext-getD 0 (tabulate m (λ t. getD l t 0)) l (length-tabulate m _ ∙ sym h)
     (λ i q. getD-tabulate m (λ t. getD l t 0) i (rw length-tabulate at q))
-
--- records name their forest, whatever the parent's number
-pub one-forest : (l : List ℕ) (f g : Forest) (i p q : ℕ) → l ≡ records f i p → l ≡ records g i q → f ≡ g
-one-forest l f g i p q a b =
-    sym (forest-of-records (nodeCount f + nodeCount g) f i p (omega arith))
-    ∙ ap (λ (x : List ℕ). forestOf (nodeCount f + nodeCount g) x i) (sym a ∙ b)
-    ∙ forest-of-records (nodeCount f + nodeCount g) g i q (omega arith)
 
 -- no records: nothing is written
 pub fill-none : (l : List ℕ) (i above ports sets depth over at : ℕ) (masks cells : List ℕ) → length l < recordLength → Fills l i above ports sets depth over at masks cells cells at
@@ -66,48 +56,6 @@ fill-none l i above ports sets depth over at masks cells h n outer none up kn dn
     no-length (x ∷ X) q = absurd (omega arith)
 fill-none l i above ports sets depth over at masks cells h n outer (tree m c s) up kn dn on is =
     absurd (omega (arith, some-record recordLength record-pos (length l) (nodeCount c + nodeCount s) (ap length is ∙ length-records (tree m c s) i up ∙ ap (λ (x : ℕ). recordLength * x) (suc-add (nodeCount c) (nodeCount s)))))
-
--- What a placed part that is not empty begins with.
-pub record FillOpened (l : List ℕ) (i up depth sets : ℕ) (m : Node) (c s : Forest) (e : ℕ) : Type 0 where
-  pub end-is : e ≡ i + suc (nodeCount c)
-  pub kind : kindField l ≡ kindNumber m
-  pub node-is : nodeOf (kindField l) (relationField l) (aField l) (bField l) ≡ m
-  pub fields : fieldRule sets depth (kindField l) (relationField l) (aField l) (bField l) ≡ true
-  pub depth3 : depth ≤ 3
-  pub below : childDepth m depth ≡ kindDepth (kindField l) depth
-  pub arity : arityRule (kindNumber m) (treeCount c) ≡ true
-  pub rules-kids : everyNode (nodeRule sets) c (childDepth m depth) ≡ true
-  pub rules-rest : everyNode (nodeRule sets) s depth ≡ true
-  pub kids : kidsOf l i e ≡ records c (i + 1) i
-  pub rest : siblingsOf recordLength (e - i) l ≡ records s e up
-  pub long : length l ≡ recordLength * nodeCount (tree m c s)
-
-pub fill-opened : (l : List ℕ) (i up depth sets e : ℕ) (m : Node) (c s : Forest) → l ≡ records (tree m c s) i up
-    → everyNode (nodeRule sets) (tree m c s) depth ≡ true → e ≡ endField l → FillOpened l i up depth sets m c s e
-unfolding records depthRule
-fill-opened l i up depth sets e m c s is rules en =
-    let r = every-node sets m c s depth rules in
-    let E = i + suc (nodeCount c) in
-    let t = records c (suc i) i ++ records s E up in
-    let q : e ≡ E = en ∙ ap endField is ∙ end-of-record m up E t in
-    let k : kindField l ≡ kindNumber m = ap kindField is ∙ kind-of-record m up E t in
-    let f : fieldRule sets depth (kindNumber m) (relationByte m) (aByte m) (bByte m) ≡ true = node-fields sets depth m (r .0) in
-    record {
-      end-is = q;
-      kind = k;
-      node-is = ap (λ (x : List ℕ). nodeOf (kindField x) (relationField x) (aField x) (bField x)) is ∙ node-of-record m up E t;
-      fields = ap (λ (x : List ℕ). fieldRule sets depth (kindField x) (relationField x) (aField x) (bField x)) is
-          ∙ (λ j. fieldRule sets depth (kind-of-record m up E t j) (relation-of-record m up E t j) (a-of-record m up E t j) (b-of-record m up E t j)) ∙ f;
-      depth3 = leb-true depth 3 (r .1);
-      below = kind-depth sets depth m (r .0) ∙ ap (λ (x : ℕ). kindDepth x depth) (sym k);
-      arity = r .2;
-      rules-kids = r .4;
-      rules-rest = r .5;
-      kids = ap₂ (λ (x : ℕ) (y : List ℕ). kidsOf y i x) q is ∙ children-part m c s i up
-          ∙ ap (λ (x : ℕ). records c x i) (sym (add-one i));
-      rest = ap₂ (λ (x : ℕ) (y : List ℕ). siblingsOf recordLength (x - i) y) q is ∙ siblings-part m c s i up ∙ ap (λ (x : ℕ). records s x up) (sym q);
-      long = ap length is ∙ length-records (tree m c s) i up;
-    }
 
 -- the constants of nodes that keep the rules are low
 pub constants-low : (sets : ℕ) (f : Forest) (d : ℕ) → everyNode (nodeRule sets) f d ≡ true → ConstantsLow f d
@@ -169,7 +117,7 @@ split X w cc = sym (take-append-drop w X) ∙ ap (λ (Y : List ℕ). take w X ++
 
 -- One tree and its later siblings, from the leaf functions and the two calls.
 module _ (l : List ℕ) (i up above ports sets depth width over at outer : ℕ) (masks xs : List ℕ) (n m : Node) (c s : Forest) (e : ℕ)
-    (o : FillOpened l i up depth sets m c s e) (u1 : 1 ≤ ports) (u64 : ports ≤ 64) (few : cellCount ports (tree m c s) 0 ≤ 1048576)
+    (o : PartOpened l i up depth sets m c s e) (u1 : 1 ≤ ports) (u64 : ports ≤ 64) (few : cellCount ports (tree m c s) 0 ≤ 1048576)
     (kn : kindNumber n ≡ above) (dn : depth ≡ childDepth n outer) (on : over ≡ ports ^ outer) (wn : width ≡ ports ^ depth)
     (below′ nn r : ℕ) (bd : below′ ≡ childDepth m depth) (ys₁ zs₁ xs₃ xs₄ : List ℕ) where
   abbrev K : Configuration
@@ -301,10 +249,6 @@ module _ (l : List ℕ) (i up above ports sets depth width over at outer : ℕ) 
           lA lG (length-take-le width X (omega arith)) (length-take-le cc Y (omega arith)) (omega (arith, length-drop cc Y));
     }
 
-not-none : (l : List ℕ) (i up : ℕ) → l ≡ records none i up → recordLength ≤ length l → ⊥
-unfolding records
-not-none l i up q h = omega (arith, ap length q, record-pos)
-
 -- The same over the calls' own contracts and the fields as the code reads them.
 pub fill-tree : (l : List ℕ) (i above ports sets depth width over at : ℕ) (masks xs : List ℕ) → FillPlaced l i above ports sets depth width over at masks xs
     → (e : ℕ) → e ≡ endField l
@@ -322,7 +266,7 @@ fill-tree l i above ports sets depth width over at masks xs p e en kind relation
     go : (f : Forest) → l ≡ records f i up → p .forest ≡ f → Filled above ports sets depth over at outer n f masks xs xs₄ r
     go none q g = absurd (not-none l i up q long)
     go (tree m c s) q g =
-        let o = fill-opened l i up depth sets e m c s q (ap (λ (x : Forest). everyNode (nodeRule sets) x depth) (sym g) ∙ p .rules) en in
+        let o = part-opened l i up depth sets e m c s q (ap (λ (x : Forest). everyNode (nodeRule sets) x depth) (sym g) ∙ p .rules) en in
         let below-is = bd ∙ ap (λ (x : ℕ). kindDepth x depth) ki ∙ sym (o .below) in
         let started-is = st ∙ (λ j. started (ki j) (ri j) (ai j) (bi j) sets ports depth width masks) in
         let filled = kids m depth c i (sym (ki ∙ o .kind)) below-is (p .width-is) (o .kids) in
@@ -370,26 +314,23 @@ fill-facts l i above ports sets depth width over at masks xs p long e en kind re
     go none q = absurd (not-none l i (p .up) (p .is ∙ ap (λ (x : Forest). records x i (p .up)) q) long)
     go (tree m c s) q =
         let is = p .is ∙ ap (λ (x : Forest). records x i (p .up)) q in
-        let o = fill-opened l i (p .up) depth sets e m c s is (ap (λ (x : Forest). everyNode (nodeRule sets) x depth) (sym q) ∙ p .rules) en in
+        let o = part-opened l i (p .up) depth sets e m c s is (ap (λ (x : Forest). everyNode (nodeRule sets) x depth) (sym q) ∙ p .rules) en in
         let room : at + cellCount ports (tree m c s) depth ≤ length xs = rw q at (p .room) in
         let few : cellCount ports (tree m c s) 0 ≤ 1048576 = rw q at (p .few) in
         let parts = few-parts ports m c s (p .ports1) few in
         let w = p .width-is in
-        let en′ = o .end-is in
-        let after : i < e = omega arith in
-        let within : recordLength * (e - i) ≤ length l = omega (arith, o .long, span-within recordLength record-pos (e - i) (nodeCount (tree m c s)) (omega arith)) in
-        let span : recordLength ≤ recordLength * (e - i) = one-fits recordLength record-pos (e - i) (omega arith) in
-        let lk = length-children recordLength record-pos (e - i) l within in
-        let lr = length-rest-all (recordLength * (e - i)) l in
+        let sp = part-span l i (p .up) depth sets m c s e o (p .nodes) in
+        let lk = sp .kids-long in
+        let lr = sp .rest-long in
         let own : at + width ≤ length xs = omega arith in
         let lx = lent-length at (at + width) xs (omega arith) own in
         let wl : width ≤ 262144 = rw w (width-low ports depth (p .ports1) (p .ports64) (o .depth3)) in
         record {
-          after = after;
-          few = end-below recordLength record-pos i e (length l) 512 after within (p .nodes);
-          within = within;
-          kids-shorter = omega (arith, record-pos);
-          rest-shorter = omega (arith, record-pos);
+          after = sp .after;
+          few = sp .few;
+          within = sp .within;
+          kids-shorter = sp .kids-shorter;
+          rest-shorter = sp .rest-shorter;
           depth3 = o .depth3;
           width-low = wl;
           own-room = own;
@@ -420,7 +361,7 @@ fill-facts l i above ports sets depth width over at masks xs p long e en kind re
                 is = o .kids;
                 rules = ap (everyNode (nodeRule sets) c) b ∙ o .rules-kids;
                 few = parts .1;
-                nodes = rw lk (children-below recordLength record-pos i e (length l) 512 after within (p .nodes));
+                nodes = sp .kids-nodes;
                 ports1 = p .ports1;
                 ports64 = p .ports64;
                 depth4 = omega (arith, kind-depth-le (kindField l) depth, o .depth3);
@@ -447,7 +388,7 @@ fill-facts l i above ports sets depth width over at masks xs p long e en kind re
                   is = rest-all (recordLength * (e - i)) l ∙ o .rest;
                   rules = o .rules-rest;
                   few = parts .2;
-                  nodes = rw lr (siblings-below recordLength record-pos i e (length l) 512 after within (p .nodes));
+                  nodes = sp .rest-nodes;
                   ports1 = p .ports1;
                   ports64 = p .ports64;
                   depth4 = p .depth4;

@@ -1,5 +1,5 @@
 -- How a node's own cells are begun. Assumes nothing.
-use mathlib.Core.Path.{_≡_, refl}
+use mathlib.Core.Path.{_≡_, refl, sym, ap}
 use mathlib.Core.Bool.{true}
 use Prim.Native.Nat.{ℕ, zero, suc, _≤_}
 use native.Mathlib.Omega.{arith}
@@ -10,19 +10,14 @@ use Rattle.logic.specs.Penalty.{literalPenalty}
 use Rattle.logic.proofs.Relations.{test-kind-range}
 use Rattle.table_format.specs.Bytes.{testOf, nodeOf}
 use Rattle.table_format.specs.inner.Tests.{fieldRule}
-use Rattle.table_format.proofs.FieldRules.{fields-node}
+use Rattle.table_format.proofs.FieldRules.{fields-node, literal-node}
 use Rattle.cells_join.specs.inner.Joined.{unitOf, joinOf}
 use Rattle.cells_fill.specs.inner.Fill.{startCell}
 
 pub start-literal : (k : Configuration) (kind r a b : ℕ) (e : Tuple) → 5 ≤ kind
     → literalPenalty k (literalOf (testOf kind r a b)) e ≡ startCell k (nodeOf kind r a b) e
-unfolding startCell nodeOf
-start-literal k zero r a b e h = absurd (omega arith)
-start-literal k (suc zero) r a b e h = absurd (omega arith)
-start-literal k (suc (suc zero)) r a b e h = absurd (omega arith)
-start-literal k (suc (suc (suc zero))) r a b e h = absurd (omega arith)
-start-literal k (suc (suc (suc (suc zero)))) r a b e h = absurd (omega arith)
-start-literal k (suc (suc (suc (suc (suc j))))) r a b e h = refl
+unfolding startCell
+start-literal k kind r a b e h = sym (ap (λ (n : Node). startCell k n e) (literal-node kind r a b h))
 
 pub start-inner : (k : Configuration) (kind r a b : ℕ) (e : Tuple) → kind ≤ 4 → unitOf (joinOf kind) ≡ startCell k (nodeOf kind r a b) e
 unfolding startCell nodeOf

@@ -14,4 +14,5 @@ pub mod NodeParts
 pub mod Spelling
 pub mod Steps
 pub mod Within
+pub mod Writing
 pub mod Scratch

@@ -29,7 +29,8 @@ use Rattle.contracts.specs.TrialCall.{trialsOwn, trials}
 use Rattle.contracts.specs.Least.{NoneBelow}
 use Rattle.contracts.specs.MoveOrder.{candidates, Candidate}
 use Rattle.contracts.specs.ImproveCall.{ImproveValues, improveRefused, improveMade, noBetter, improveGrounds, rootNow, rootAfter, bestMoves, improvesBy, improvesOwn, improves}
-use Rattle.contracts.specs.BestCall.{countAccepted, listRefused, bestGrounds, listsOwn, lists}
+use Rattle.contracts.specs.Counting.{countAccepted}
+use Rattle.contracts.specs.BestCall.{listRefused, bestGrounds, listsOwn, lists}
 use Rattle.contracts.specs.Book.{Book, fedMove, bookMade, movedBook, chosenStep, bookStep}
 use Rattle.contracts.specs.Lists.{Asked, askMove, askTrial, askImprove, askBest, step, feed, bookRoot, bookCells, NumbersRight, MovedRight, scratchGround, bookBest, FirstOf, ImprovedRight, ListedRight, Right, AsBook}
 use Rattle.contracts.proofs.Candidates.{candidate-in, in-candidate}

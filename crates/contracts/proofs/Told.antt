@@ -12,7 +12,7 @@ use Rattle.contracts.specs.Read.{ReadValues, readRefused, readValues, Re
 use Rattle.contracts.specs.Load.{LoadValues, loadRefused, loadValues, LoadTold}
 use Rattle.contracts.specs.MoveCall.{MoveValues, moveRefused, moveAccepted, moveValues, MoveTold}
 use Rattle.contracts.specs.ImproveCall.{ImproveValues, improveRefused, improveMade, noBetter, improveValues, ImproveTold}
-use Rattle.contracts.specs.BestCall.{CountValues, countRefused, countAccepted, countValues, CountTold}
+use Rattle.contracts.specs.Counting.{CountValues, countRefused, countAccepted, countValues, CountTold}
 use Rattle.contracts.specs.declared.Answer.the-variants as read
 use Rattle.contracts.specs.declared.Loaded.the-variants as load
 use Rattle.contracts.specs.declared.Moved.the-variants as move

@@ -1,6 +1,5 @@
 -- The call that lists the best moves. Paper 02, request 2026-01.
 use mathlib.Core.Path.{_≡_}
-use mathlib.Core.Logic.{_≢_}
 use mathlib.Core.Bool.{not}
 use mathlib.Core.List.{List, [], _∷_, _++_, map}
 use Prim.Native.Nat.{ℕ}
@@ -13,31 +12,8 @@ use Rattle.table_format.specs.Decode.{Decoded}
 use Rattle.contracts.specs.State.{State, ownTables}
 use Rattle.contracts.specs.Call.{callGrounds, call}
 use Rattle.contracts.specs.declared.Counted.{Counted}
-use Rattle.contracts.specs.declared.Counted.the-variants.{Accepted, Refused}
+use Rattle.contracts.specs.Counting.{CountValues, countRefused, countAccepted, countValues, CountTold}
 use Rattle.contracts.specs.ImproveCall.{bestMoves}
-
--- What a call that counts answers: the number, and "how many".
-pub record CountValues : Type 0 where
-  pub number : ℕ
-  pub count : ℕ
-
--- "The answer is the number with all other fields 0."
-unfoldable pub countRefused : ℕ → CountValues
-countRefused number = record { number = number; count = 0 }
-
--- "and returns how many"
-unfoldable pub countAccepted : ℕ → CountValues
-countAccepted count = record { number = 0; count = count }
-
--- The number and the values of each case of the enum.
-unfoldable pub countValues : Counted → CountValues
-countValues (Accepted count) = countAccepted count
-countValues (Refused number) = countRefused number
-
--- No refusal has the number 0, so that the values tell the case.
-unfoldable pub CountTold : Counted → Type 0
-CountTold (Accepted count) = Unit {0}
-CountTold (Refused number) = number ≢ 0
 
 -- Grounds 11 to 13, 14 of the kinds, then "16, the lent list is too short": the list has room for so many moves.
 unfoldable pub bestGrounds : Decoded → State → List ℕ → ℕ → ℕ → List Ground

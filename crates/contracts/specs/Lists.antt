@@ -18,7 +18,8 @@ use Rattle.contracts.specs.MoveCall.{MoveValues, moveRefused, moves}
 use Rattle.contracts.specs.TrialCall.{trials}
 use Rattle.contracts.specs.MoveOrder.{candidates, Candidate, bestOf}
 use Rattle.contracts.specs.ImproveCall.{ImproveValues, improveRefused, noBetter, improves}
-use Rattle.contracts.specs.BestCall.{Listing, countAccepted, listRefused, lists}
+use Rattle.contracts.specs.Counting.{countAccepted}
+use Rattle.contracts.specs.BestCall.{Listing, listRefused, lists}
 use Rattle.contracts.specs.Least.{NoneBelow}
 use Rattle.contracts.specs.Book.{Book, Fed, fedMove, fedTrial, fedImprove, fedBest, bookMade, bookStep}
 

@@ -42,7 +42,7 @@ pub enum Improved {
     Refused(u8),
 }
 
-// How many: of the best moves.
+// How many: the best moves, or the bytes of a text.
 pub enum Counted {
     Accepted(u32),
     Refused(u8),

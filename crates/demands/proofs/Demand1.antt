@@ -23,6 +23,7 @@ use Rattle.contracts.specs.MoveCall.{moveCallGrounds, moves}
 use Rattle.contracts.specs.TrialCall.{scratchOwn, trials}
 use Rattle.contracts.specs.ImproveCall.{improveGrounds, improves}
 use Rattle.contracts.specs.BestCall.{bestGrounds, lists}
+use Rattle.contracts.specs.WriteCall.{writes}
 use Rattle.contracts.specs.Lists.{run}
 use Rattle.contracts.specs.OwnParts.{SameFirst, SameTables, SameLent}
 use Rattle.contracts.proofs.OwnParts.{load-sound, move-sound, trial-sound, improve-sound, lists-sound}
@@ -46,6 +47,11 @@ own-parts f l l′ s s′ b same none some = (
     go : (d : Decoded) → decode l ≡ d → f d s .0 ≡ f d s′ .0
     go broken e = none
     go (sound P) e = some P (same P e) .0
+
+-- Two writings of tables that agree on the plan's own bytes, and on being long enough for them, are the same; of the lent text only the
+-- length is read (`writes`).
+pub write-own-parts : (l l′ text : List ℕ) → SameFirst (ownBytes l) l l′ → writes (decode l) text ≡ writes (decode l′) text
+write-own-parts l l′ text b = ap (λ (d : Decoded). writes d text) (own-agree l l′ (b .entries) (b .enough))
 
 -- Two loads whose tables agree on the plan's own bytes, masks and cells, and on being long enough for them, have the same answer and
 -- leave the same own masks and cells.

@@ -10,7 +10,7 @@ use Rattle.logic.specs.Cells.{cellCount, placeOf, tupleAt, tabulate, siblingFir
 use Rattle.logic.specs.Moves.{refusal}
 use Rattle.logic.specs.Change.{someOf}
 use Rattle.text_tree.specs.Tree.{lettersOf, tooDeep}
-use Rattle.text_tokens.specs.Tokens.{blanks, afterBlanks, singleKind, signOf, digits, numberOf, runAt, runToken, hereAt, tokenAt, blanksAndSigns, among, knownByte, knownBytes}
+use Rattle.text_tokens.specs.Tokens.{blanks, afterBlanks, singleKind, signOf, digits, numberOf, digitsOf, runAt, runToken, hereAt, tokenAt, blanksAndSigns, among, knownByte, knownBytes}
 use Rattle.text_grammar.specs.Parser.{arrowOf, quantifierOf, parseAt, setsAt, afterSets, parsed}
 use Rattle.text_core.specs.Names.{setNumber, variableNumber, declaredTwice, misdeclared, misnamedTest, misnamed, ground5, highConstant, ground6, fourth, ground7}
 use Rattle.text_core.specs.Core.{jointNode, joint, two, quantifierNode, opposite, relationAt, memberAt, testAt, literalAt, joinWith, place, coreOf, planOf}
@@ -23,7 +23,7 @@ use Rattle.contracts.specs.State.{ownTables, withRest}
 use Rattle.contracts.specs.Load.{loadRefused, loadGrounds, loadedMasks, loadedTables, loadsOwn, loads}
 use Rattle.contracts.specs.Call.{planGrounds, tableGrounds, callGrounds, callOr, call}
 use Rattle.planroot_print.specs.declared.Line.the-variants.{Penalty}
-use Rattle.planroot_print.specs.Line.{isPenalty, lineRoot, lineTotal, digitsOf, decimal, penaltyBytes, lineBytes}
+use Rattle.planroot_print.specs.Line.{isPenalty, lineRoot, lineTotal, decimal, penaltyBytes, lineBytes}
 use Rattle.planroot_line.specs.Loading.{loadLine}
 use Rattle.planroot_line.specs.Line.{readLine, textLine, zeros, inputLine}
 use Rattle.text_core.specs.Names as Names

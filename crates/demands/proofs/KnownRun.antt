@@ -25,7 +25,8 @@ use Rattle.contracts.specs.Load.{LoadValues, loadRefused, loadGrounds, loadedMa
 use Rattle.contracts.specs.MoveCall.{MoveValues, moveRefused, moveAccepted, moveCallGrounds, cellsAfter, moveAnswer, tablesAfter, movesOwn, moves}
 use Rattle.contracts.specs.TrialCall.{trialsOwn, trials}
 use Rattle.contracts.specs.ImproveCall.{improveRefused, improveMade, noBetter, improveGrounds, rootNow, rootAfter, bestMoves, improvesBy, improvesOwn, improves}
-use Rattle.contracts.specs.BestCall.{countRefused, countAccepted, bestGrounds, listRefused, listsOwn, lists}
+use Rattle.contracts.specs.Counting.{countRefused, countAccepted}
+use Rattle.contracts.specs.BestCall.{bestGrounds, listRefused, listsOwn, lists}
 use Rattle.contracts.specs.MoveOrder.{fieldsAre, allMoves, kept, candidates, noneSmaller, bestOf}
 use Rattle.contracts.specs.Lists.{Asked, askMove, askTrial, askImprove, askBest, Exchange, moveCall, trialCall, improveCall, bestCall, step, run, bookAfter, AllRight, AsBook}
 use Rattle.demands.proofs.Demand3.{lists-right}
@@ -133,7 +134,7 @@ unfolding computing
 known-kinds = (refl, refl, refl, refl, refl, refl, refl, refl, refl, refl, refl)
 
 -- the table of plan A, and 99 for a byte past it
-abbrev bytesA : List ℕ
+abbrev pub bytesA : List ℕ
 bytesA = encoding planA ++ 99 ∷ []
 
 rules-A : planRule planA ≡ true

@@ -6,3 +6,5 @@ pub mod KnownRun
 pub mod Demand3
 pub mod KnownLine
 pub mod PrintedLine
+pub mod ReadBack
+pub mod KnownWritten

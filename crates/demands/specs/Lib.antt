@@ -1,3 +1,4 @@
 pub mod KnownTexts
+pub mod ReadBack
 pub mod ReadThenLoad
 pub mod TextToPlan

@@ -42,7 +42,7 @@ number-snoc n [] b h d = rw d
 number-snoc n (c ∷ v) b h d = rw (and-left (isDigit c) _ h) (number-snoc (10 * n + (c - 48)) v b (and-right (isDigit c) _ h) d)
 
 -- a number is no smaller than its beginning
-number-grows : (n : ℕ) (v x : List ℕ) → digitsOnly v ≡ true → numberOf n v ≤ numberOf n (v ++ x)
+pub number-grows : (n : ℕ) (v x : List ℕ) → digitsOnly v ≡ true → numberOf n v ≤ numberOf n (v ++ x)
 unfolding digitsOnly numberOf
 number-grows n [] x h = at-least n x
   where

@@ -3,7 +3,7 @@ use mathlib.Core.Path.{_≡_, refl, sym, ap, _∙_, subst}
 use mathlib.Core.Bool.{Bool, true, false, _&&_, _||_}
 use mathlib.Core.Logic.{_⊎_, inl, inr}
 use mathlib.Core.List.{List, [], _∷_, _++_, append-assoc, append-nil}
-use Prim.Native.Nat.{ℕ, _+_, _≤_, _<_}
+use Prim.Native.Nat.{ℕ, _≤_, _<_}
 use native.Mathlib.Decide.{ℕ-discrete}
 use native.Mathlib.Omega.{arith}
 use lib.Dec.{eqb}
@@ -150,7 +150,7 @@ decides-wrong s f o input ms tx (in-text p T) = record {
 
 -- more bytes behind an input that has a second line change neither its first two lines nor the beginning of its text
 module _ (more : List ℕ) where
-  ends-kept : (x : List ℕ) → 1 ≤ length (behind x) → ends (x ++ more) ≡ ends x
+  pub ends-kept : (x : List ℕ) → 1 ≤ length (behind x) → ends (x ++ more) ≡ ends x
   unfolding behind ends
   ends-kept [] h = absurd (omega arith)
   ends-kept (c ∷ x) h = go (eqb c 10) h (λ k. ends-kept x k)
@@ -159,7 +159,7 @@ module _ (more : List ℕ) where
       go true h K = refl
       go false h K = K h
 
-  line-kept : (x : List ℕ) → 1 ≤ length (behind x) → line (x ++ more) ≡ line x
+  pub line-kept : (x : List ℕ) → 1 ≤ length (behind x) → line (x ++ more) ≡ line x
   unfolding behind line
   line-kept [] h = absurd (omega arith)
   line-kept (c ∷ x) h = go (eqb c 10) h (λ k. line-kept x k)
@@ -168,7 +168,7 @@ module _ (more : List ℕ) where
       go true h K = refl
       go false h K = ap (λ (l : List ℕ). c ∷ l) (K h)
 
-  behind-kept : (x : List ℕ) → 1 ≤ length (behind x) → behind (x ++ more) ≡ behind x ++ more
+  pub behind-kept : (x : List ℕ) → 1 ≤ length (behind x) → behind (x ++ more) ≡ behind x ++ more
   unfolding behind
   behind-kept [] h = absurd (omega arith)
   behind-kept (c ∷ x) h = go (eqb c 10) h (λ k. behind-kept x k)

@@ -29,7 +29,7 @@ fn digit(b: u8) -> u64
 }
 
 // The word with one byte more.
-fn add_byte(w: Word, b: u8) -> Word
+pub fn add_byte(w: Word, b: u8) -> Word
     ensures { λ r. ⌜ AddsByte w b r ⌝ }
 {
     if b < 48 {
@@ -58,7 +58,7 @@ fn add_byte(w: Word, b: u8) -> Word
 }
 
 // Whether the word is a digit run.
-fn is_run(w: Word) -> bool
+pub fn is_run(w: Word) -> bool
     ensures { λ r. ⌜ JudgesWord w r ⌝ }
 {
     if w.run == 1 {
@@ -79,7 +79,7 @@ pub struct Scan {
 }
 
 // A word before its first byte.
-fn empty() -> Word
+pub fn empty() -> Word
     ensures { λ r. ⌜ (r .run ≡ 0) × (r .number ≡ 0) ⌝ }
 {
     Word { run: 0, number: 0 }

@@ -1,67 +1,34 @@
 -- The line in each of its cases. Assumes nothing.
-use mathlib.Core.Path.{_≡_, refl, sym, ap, _∙_, subst}
+use mathlib.Core.Path.{_≡_, sym, ap, _∙_, subst}
 use mathlib.Core.Logic.{_≢_}
-use mathlib.Core.Bool.{Bool, true, false, cond, not, _&&_}
-use mathlib.Core.List.{List, _++_}
-use Prim.Native.Nat.{ℕ, _-_, _≤_, _<_, min}
-use native.Mathlib.Decide.{decLe}
+use mathlib.Core.Bool.{Bool}
+use mathlib.Core.List.{List}
+use Prim.Native.Nat.{ℕ, _-_, _≤_, min}
 use native.Mathlib.Omega.{arith}
-use lib.Dec.{leb}
 use lib.ListN.{length, take, drop}
-use lib.Seq.{take-all, length-take-le}
-use borrow.Author.Tests.{eq-eqb, ne-eqb, lt-ltb}
-use Rattle.logic.specs.Moves.{refusal}
+use lib.Seq.{take-all}
+use borrow.Author.Tests.{eq-eqb, ne-eqb}
 use Rattle.text_tokens.specs.Tokens.{pick}
-use Rattle.text_grammar.specs.Parser.{Result, parsed}
-use Rattle.text_core.specs.Core.{planOf}
-use Rattle.table_format.specs.Bytes.{setsField, encoding}
+use Rattle.table_format.specs.Bytes.{setsField}
 use Rattle.table_format.specs.Decode.{decode}
 use Rattle.contracts.specs.declared.Answer.{Answer}
 use Rattle.contracts.specs.declared.Answer.the-variants.{Accepted, Refused}
-use Rattle.contracts.specs.Read.{ReadValues, readRefused, readValues, ReadTold, tableLength, textGrounds, readGrounds, readOr, reads, ReadPromise}
-use Rattle.contracts.specs.Admitted.{admittedPlan}
-use Rattle.contracts.proofs.Grounds.{few-sets}
-use Rattle.contracts.proofs.Reading.{accepted-admitted, admitted-read}
+use Rattle.contracts.specs.Read.{ReadValues, readRefused, readValues, ReadTold, reads, ReadPromise}
 use Rattle.contracts.specs.declared.Loaded.{Loaded}
 use Rattle.contracts.specs.declared.Loaded.the-variants as load
 use Rattle.contracts.specs.State.{State, tables}
 use Rattle.contracts.specs.Load.{loadRefused, loadValues, LoadTold, loads, LoadPromise}
+use Rattle.call_read.proofs.Reading.{same-start, accepted-table}
 use Rattle.planroot_print.specs.declared.Line.{Line}
 use Rattle.planroot_print.specs.declared.Line.the-variants.{Penalty, Refusal}
 use Rattle.planroot_line.specs.Loading.{loadLine}
 use Rattle.planroot_line.specs.Line.{readLine, textLine}
 use Rattle.planroot_line.specs.inner.Contract.{LinesLoad, LinesPlan, LinesText}
-use Rattle.planroot_line.proofs.Tables.{header-sets, refused-line}
-
--- a text that is too long is refused by its length, whatever follows
-too-long : (u : ℕ) (s B : List ℕ) → 4096 < length s → reads u s B ≡ (readRefused (cond (leb 1 u && leb u 64) 1 10), B)
-unfolding reads textGrounds readGrounds refusal readOr
-too-long u s B h = rw (lt-ltb 4096 (length s) h) (go (leb 1 u && leb u 64) (parsed s))
-  where
-    go : (p : Bool) (r : Result) → readOr (cond (not p) 10 1) u r B ≡ (readRefused (cond p 1 10), B)
-    go true r = refl
-    go false r = refl
-
--- reading is decided by the first 4,097 bytes
-pub same-start : (u : ℕ) (t B : List ℕ) → reads u (take 4097 t) B ≡ reads u t B
-same-start u t B = go (decLe (length t) 4097)
-  where
-    go : Dec (length t ≤ 4097) → reads u (take 4097 t) B ≡ reads u t B
-    go (yes h) = ap (λ (x : List ℕ). reads u x B) (take-all 4097 t h)
-    go (no f) =
-        let long : length (take 4097 t) ≡ 4097 = length-take-le 4097 t (omega arith) in
-        too-long u (take 4097 t) B (omega arith) ∙ sym (too-long u t B (omega arith))
+use Rattle.planroot_line.proofs.Tables.{refused-line}
 
 -- a table that reading left has at most 16 sets
 pub read-sets : (u : ℕ) (s B O : List ℕ) (x : Answer) (nodes total : ℕ) → ReadPromise (reads u s B) x O → x ≡ Accepted nodes total → setsField O ≤ 16
-unfolding readValues admittedPlan planOf
-read-sets u s B O x nodes total e y =
-    let z : reads u s B .0 .number ≡ 0 = ap (λ (v : ReadValues). v .number) (sym (e .values-are)) ∙ ap (λ (a : Answer). readValues a .number) y in
-    let A = accepted-admitted u s B z in
-    let P = admittedPlan A in
-    let bytes : O ≡ encoding P ++ drop (tableLength P) B = e .table-is ∙ ap (λ (q : ReadValues × List ℕ). q .1) (admitted-read u s B A) in
-    let n : setsField O ≡ length (A .sets) = ap setsField bytes ∙ header-sets P (drop (tableLength P) B) in
-    omega (arith, few-sets (A .sets) (A .tree) (A .names))
+read-sets u s B O x nodes total e y = let T = accepted-table u s B O x nodes total e y in omega (arith, T .sets-field, T .few-sets)
 
 -- load's answer as a line
 pub line-accepted : (x : Loaded) (root total : ℕ) → x ≡ load.Accepted root total → LinesLoad x (Penalty root total)

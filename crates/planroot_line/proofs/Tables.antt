@@ -11,7 +11,7 @@ use Rattle.logic.specs.Formula.{Plan}
 use Rattle.text_tokens.specs.Tokens.{pick}
 use Rattle.text_grammar.specs.Parser.{Result, failed, read, parsed}
 use Rattle.text_core.specs.Core.{planOf}
-use Rattle.table_format.specs.Bytes.{recordsFrom, headerLength, recordLength, setsField, wordBytes, header, encoding}
+use Rattle.table_format.specs.Bytes.{recordsFrom, headerLength, recordLength, setsField}
 use Rattle.table_format.specs.Decode.{Decoded, sound, decode}
 use Rattle.contracts.specs.Read.{ReadValues, tableLength, readGrounds, readOr, reads}
 use Rattle.contracts.specs.Admitted.{Admitted, admittedPlan}
@@ -21,6 +21,7 @@ use Rattle.contracts.specs.Load.{LoadValues, loadRefused, loadGrounds, loadedMa
 use Rattle.contracts.proofs.Reading.{accepted-admitted, admitted-read, read-decodes}
 use Rattle.logic.specs.Moves.{refusal}
 use Rattle.logic.specs.Configuration.{ownMasks}
+use Rattle.call_read.proofs.Reading.{sets-encoded}
 use Rattle.planroot_print.specs.declared.Line.{Line}
 use Rattle.planroot_print.specs.declared.Line.the-variants.{Refusal}
 use Rattle.planroot_line.specs.Loading.{loadLine}
@@ -77,10 +78,6 @@ same-loaded P ms cells cells′ e = go (ground (length cells)) ∙ ap (λ (n : �
     go zero = refl
     go (suc g) = refl
 
-pub header-sets : (P : Plan) (rest : List ℕ) → setsField (encoding P ++ rest) ≡ P .sets
-unfolding setsField encoding header wordBytes
-header-sets P rest = refl
-
 module _ (u : ℕ) (ms s : List ℕ) where
   planLine : Plan → List ℕ → Line
   planLine P cells = pick (eqb (length ms) (P .sets)) (loadLine (loads (sound P) (tables ms cells) .0)) (Refusal 0)
@@ -90,7 +87,7 @@ module _ (u : ℕ) (ms s : List ℕ) where
   text-accepted B cells A =
       let P = admittedPlan A in
       let O = reads u s B .1 in
-      let sets : setsField O ≡ P .sets = ap (λ (q : ReadValues × List ℕ). setsField (q .1)) (admitted-read u s B A) ∙ header-sets P (drop (tableLength P) B) in
+      let sets : setsField O ≡ P .sets = ap (λ (q : ReadValues × List ℕ). setsField (q .1)) (admitted-read u s B A) ∙ sets-encoded P (drop (tableLength P) B) in
       ap (λ (q : ReadValues × List ℕ). readLine (q .0) O ms cells) (admitted-read u s B A)
       ∙ ap (λ (n : ℕ). pick (eqb (length ms) n) (loadLine (loads (decode O) (tables ms cells) .0)) (Refusal 0)) sets
       ∙ ap (λ (d : Decoded). pick (eqb (length ms) (P .sets)) (loadLine (loads d (tables ms cells) .0)) (Refusal 0)) (read-decodes u s B A)

@@ -2,17 +2,17 @@
 use mathlib.Core.Path.{_≡_, refl}
 use mathlib.Core.Bool.{true}
 use mathlib.Core.List.{List, [], _∷_, _++_}
-use Prim.Native.Nat.{ℕ, zero, suc, _+_, _*_, _-_, _/_, _%_, _≤_, _<_}
+use Prim.Native.Nat.{ℕ, zero, suc, _+_, _*_, _/_, _%_, _≤_, _<_}
 use native.Mathlib.Decide.{decLt}
 use native.Mathlib.Omega.{arith}
 use lib.Dec.{ltb}
 use borrow.Author.Tests.{lt-ltb, le-ltb, ne-eqb}
 use Rattle.logic.proofs.Lists.{and-true}
-use Rattle.text_tokens.specs.Tokens.{pick, isDigit, numberOf}
+use Rattle.text_tokens.specs.Tokens.{pick, isDigit, numberOf, digitsOf}
 use Rattle.planroot_input.specs.Lines.{digitsOnly, beginsWell, value, isRun}
 use Rattle.planroot_input.specs.inner.Words.{leads}
 use Rattle.planroot_input.proofs.Runs.{digit-is, digits-snoc, number-snoc, leads-on, leads-well}
-use Rattle.planroot_print.specs.Line.{digitsOf, decimal}
+use Rattle.planroot_print.specs.Line.{decimal}
 
 -- 10 to the power k
 tens : ℕ → ℕ

@@ -1,5 +1,3 @@
 -- Laws.
 pub mod Decimal
-pub mod Digits
 pub mod Lines
-pub mod Putting

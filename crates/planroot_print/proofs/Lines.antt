@@ -4,12 +4,13 @@ use mathlib.Core.List.{List, _++_}
 use Prim.Native.Nat.{ℕ, _≤_}
 use native.Mathlib.Omega.{arith}
 use lib.ListN.{length, length-append}
+use Rattle.text_tokens.specs.Tokens.{digitsOf}
 use Rattle.planroot_print.specs.declared.Line.{Line}
 use Rattle.planroot_print.specs.declared.Line.the-variants.{Penalty, Refusal}
-use Rattle.planroot_print.specs.Line.{isPenalty, lineNumber, lineRoot, lineTotal, digitsOf, decimal, penaltyWord, cellsWord, refusedWord, lineEnd, penaltyBytes, refusalBytes, lineBytes, lineRoom, Shows}
-use Rattle.planroot_print.specs.inner.Puts.{Puts}
-use Rattle.planroot_print.proofs.Putting.{puts-more, puts-front}
-use Rattle.planroot_print.proofs.Digits.{digits-few}
+use Rattle.planroot_print.specs.Line.{isPenalty, lineNumber, lineRoot, lineTotal, decimal, penaltyWord, cellsWord, refusedWord, lineEnd, penaltyBytes, refusalBytes, lineBytes, lineRoom, Shows}
+use Rattle.text_put.specs.inner.Puts.{Puts}
+use Rattle.text_put.proofs.Putting.{puts-more, puts-front}
+use Rattle.text_put.proofs.Digits.{digits-few}
 
 module _ (out x y : List ℕ) (a b end : ℕ) (out′ : List ℕ) where
   pub penalty-put : (root total : ℕ) (z w : List ℕ) (c d : ℕ) → Puts 0 penaltyWord out a x → Puts a (digitsOf 10 root) x b y → Puts b cellsWord y c z → Puts c (digitsOf 10 total) z d w

@@ -2,10 +2,9 @@
 use mathlib.Core.Path.{_≡_}
 use mathlib.Core.Bool.{Bool, true, false}
 use mathlib.Core.List.{List, [], _∷_, _++_}
-use Prim.Native.Nat.{ℕ, zero, suc, _+_, _/_, _%_, _≤_}
-use lib.Dec.{ltb}
+use Prim.Native.Nat.{ℕ, _≤_}
 use lib.ListN.{length, drop}
-use Rattle.text_tokens.specs.Tokens.{pick}
+use Rattle.text_tokens.specs.Tokens.{pick, digitsOf}
 use Rattle.planroot_print.specs.declared.Line.{Line}
 use Rattle.planroot_print.specs.declared.Line.the-variants.{Penalty, Refusal}
 
@@ -29,12 +28,7 @@ unfoldable pub lineTotal : Line → ℕ
 lineTotal (Penalty root total) = total
 lineTotal (Refusal number) = 0
 
--- "Numbers are written in decimal": the digits of a number that has at most k of them.
-unfoldable pub digitsOf : ℕ → ℕ → List ℕ
-digitsOf zero n = []
-digitsOf (suc k) n = pick (ltb n 10) [] (digitsOf k (n / 10)) ++ ((48 + n % 10) ∷ [])
-
--- A number of 32 bits has at most 10 digits.
+-- "Numbers are written in decimal"; one of 32 bits has at most 10 digits.
 unfoldable pub decimal : ℕ → List ℕ
 decimal n = digitsOf 10 n
 

@@ -75,6 +75,16 @@ fields-node sets d (suc (suc (suc (suc (suc (suc (suc (suc zero)))))))) r a b h 
 fields-node sets d (suc (suc (suc (suc (suc (suc (suc (suc (suc k))))))))) r a b h =
     absurd (false≢true (sym (fields-high sets d (suc (suc (suc (suc (suc (suc (suc (suc (suc k))))))))) r a b (omega arith)) ∙ h))
 
+-- from kind 5 on, a literal
+pub literal-node : (kind r a b : ℕ) → 5 ≤ kind → nodeOf kind r a b ≡ lit (literalOf (testOf kind r a b))
+unfolding nodeOf
+literal-node zero r a b h = absurd (omega arith)
+literal-node (suc zero) r a b h = absurd (omega arith)
+literal-node (suc (suc zero)) r a b h = absurd (omega arith)
+literal-node (suc (suc (suc zero))) r a b h = absurd (omega arith)
+literal-node (suc (suc (suc (suc zero)))) r a b h = absurd (omega arith)
+literal-node (suc (suc (suc (suc (suc k))))) r a b h = refl
+
 -- a relation's number is in range
 relation-low : (r : Relation) (a b : Bool) → (a && b) ≡ true → (leb (relationNumber r) 5 && a && b) ≡ true
 relation-low r a b h =

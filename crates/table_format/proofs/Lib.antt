@@ -1,5 +1,4 @@
 -- Laws of the plan table.
-pub mod Writing
 pub mod BrokenTables
 pub mod Bytes
 pub mod Conjunctions
@@ -7,7 +6,9 @@ pub mod Encoding
 pub mod Facts
 pub mod FieldRules
 pub mod Laid
-pub mod Rooted
+pub mod Opened
 pub mod Own
 pub mod Parts
 pub mod Ready
+pub mod Rooted
+pub mod Writing

@@ -11,12 +11,12 @@ use borrow.Author.Tests.{leb-true, ltb-true, ltb-false}
 use Rattle.logic.specs.Formula.{Test, isin, notin, port, size, Node, root, all, any, and, or, lit, Forest, none, tree, Plan, testKind, kindNumber, nodeCount, childDepth}
 use Rattle.logic.proofs.Lists.{and-left, and-right}
 use Rattle.logic.proofs.Relations.{relation-number-le}
-use Rattle.table_format.specs.Bytes.{headerLength, tableBytes, setsField, nodesField, testRelation, testA, testB, relationByte, aByte, bByte, recordOf, records, header, encoding}
+use Rattle.table_format.specs.Bytes.{headerLength, tableBytes, portsField, setsField, nodesField, testRelation, testA, testB, relationByte, aByte, bByte, recordOf, records, header, encoding}
 use Rattle.table_format.specs.inner.Fields.{Bytes}
 use Rattle.table_format.specs.Rules.{everyNode, depthRule, testRule, literalRule, innerRule, nodeRule, planRule}
-use Rattle.table_format.specs.Decode.{TableOf, Decoded, broken, sound, decode, ownBytes}
+use Rattle.table_format.specs.Decode.{TableOf, candidate, Decoded, broken, sound, decode, ownBytes}
 use Rattle.table_format.proofs.Bytes.{header-within, length-header, sets-of-header, nodes-of-header, sets-of-front, nodes-of-front, bytes-append, no-bytes, NodeBytes, record-bytes, header-bytes}
-use Rattle.table_format.proofs.Encoding.{length-records, decode-complete, decode-sound}
+use Rattle.table_format.proofs.Encoding.{length-records, candidate-of, decode-complete, decode-sound}
 use Rattle.table_format.proofs.Rooted.{every-node, rooted, RootedIs, rooted-nodes, front-is, open-table, refused, is-rooted, rooted-is}
 
 -- a table cut short is broken
@@ -36,6 +36,25 @@ own-encoding P rest =
     ∙ sym (ap₂ tableBytes
     (ap setsField (append-assoc front t rest) ∙ sets-of-header (P .ports) (P .sets) k (t ++ rest))
     (ap nodesField (append-assoc front t rest) ∙ nodes-of-header (P .ports) (P .sets) k (t ++ rest)))
+
+-- What the table of a plan says of its own bytes.
+pub record OwnIs (l : List ℕ) (P : Plan) : Type 0 where
+  pub long : ownBytes l ≡ tableBytes (P .sets) (nodeCount (P .formula))
+  pub bytes-are : take (ownBytes l) l ≡ encoding P
+  pub ports-are : portsField l ≡ P .ports
+
+pub own-is : (l : List ℕ) (P : Plan) → decode l ≡ sound P → OwnIs l P
+unfolding encoding candidate
+own-is l P d =
+    let t = decode-sound l P d in
+    let k = nodeCount (P .formula) in
+    let e = ap ownBytes (t .is) ∙ sym (own-encoding P (t .rest)) in
+    record {
+      long = e ∙ length-append (header (P .ports) (P .sets) k) (records (P .formula) 0 65535)
+          ∙ ap₂ _+_ (length-header (P .ports) (P .sets) k) (length-records (P .formula) 0 65535);
+      bytes-are = ap (λ (x : List ℕ). take (ownBytes x) x) (t .is) ∙ take-at (encoding P) (t .rest) _ (own-encoding P (t .rest));
+      ports-are = ap portsField (t .is) ∙ ap (λ (Q : Plan). Q .ports) (candidate-of P (t .rest));
+    }
 
 own-table : (l rest : List ℕ) (P : Plan) → TableOf l P → TableOf (take (ownBytes l) l ++ rest) P
 own-table l rest P t = record {

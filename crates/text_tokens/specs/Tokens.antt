@@ -1,7 +1,7 @@
 -- The tokens of a plan's text: paper 01, section Plan text. A text is a list of bytes.
-use mathlib.Core.List.{List, [], _∷_}
+use mathlib.Core.List.{List, [], _∷_, _++_}
 use mathlib.Core.Bool.{Bool, true, false, _&&_, _||_}
-use Prim.Native.Nat.{ℕ, suc, _+_, _-_, _*_, min}
+use Prim.Native.Nat.{ℕ, zero, suc, _+_, _-_, _*_, _/_, _%_, min}
 use lib.ListN.{length, getD, drop}
 use lib.Dec.{ltb, leb, eqb}
 use Rattle.text_tokens.specs.declared.Token.{Token}
@@ -153,6 +153,11 @@ digits (b ∷ s) = pick (isDigit b) (suc (digits s)) 0
 unfoldable pub numberOf : ℕ → List ℕ → ℕ
 numberOf v [] = v
 numberOf v (b ∷ s) = pick (isDigit b) (numberOf (10 * v + (b - 48)) s) v
+
+-- "Numbers are written in decimal" (01, section Known plans): the digits of a number that has at most k of them.
+unfoldable pub digitsOf : ℕ → ℕ → List ℕ
+digitsOf zero n = []
+digitsOf (suc k) n = pick (ltb n 10) [] (digitsOf k (n / 10)) ++ ((48 + n % 10) ∷ [])
 
 -- The digit run at i: its number, kept as 65 if above 64, and the position after it.
 unfoldable pub runAt : List ℕ → ℕ → ℕ → Run

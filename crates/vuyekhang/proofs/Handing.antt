@@ -14,19 +14,24 @@ use Rattle.contracts.specs.Load.{LoadValues, loadValues, LoadPromise}
 use Rattle.contracts.specs.MoveCall.{MoveValues, moveValues, MovedAs, MovePromise}
 use Rattle.contracts.specs.TrialCall.{ScratchAfter}
 use Rattle.contracts.specs.ImproveCall.{ImproveValues, improveValues, ImprovePromise}
-use Rattle.contracts.specs.BestCall.{CountValues, Listing, countValues, ListPromise}
+use Rattle.contracts.specs.Counting.{CountValues, countValues}
+use Rattle.contracts.specs.BestCall.{Listing, ListPromise}
+use Rattle.contracts.specs.WriteCall.{WritePromise}
 use Rattle.answers.specs.declared.ReadAnswer.{ReadAnswer}
 use Rattle.answers.specs.declared.LoadAnswer.{LoadAnswer}
 use Rattle.answers.specs.declared.MoveAnswer.{MoveAnswer}
 use Rattle.answers.specs.declared.ImproveAnswer.{ImproveAnswer}
 use Rattle.answers.specs.declared.CountAnswer.{CountAnswer}
-use Rattle.answers.specs.Boundary.{ReadFields, ReadGives, LoadFields, LoadGives}
-use Rattle.answers.specs.Moving.{MoveFields, MoveGives, TrialGives, ImproveFields, ImproveGives, CountFields, ListGives}
+use Rattle.answers.specs.Boundary.{ReadFields, ReadGives, LoadFields, LoadGives, CountFields, WriteGives}
+use Rattle.answers.specs.Moving.{MoveFields, MoveGives, TrialGives, ImproveFields, ImproveGives, ListGives}
 
 -- an answer handed on field by field
 pub read-gives : (a : Answer) (t : List ℕ) (given : ReadValues × List ℕ) (r : ReadAnswer)
     → ReadPromise given a t → ReadFields (readValues a) r → ReadGives given r t
 read-gives a t given r p f = record { fields = subst (λ (v : ReadValues). ReadFields v r) (p .values-are) f; table-is = p .table-is }
+
+pub write-gives : (given : CountValues × List ℕ) (a : Counted) (t : List ℕ) (r : CountAnswer) → WritePromise given a t → CountFields (countValues a) r → WriteGives given r t
+write-gives given a t r p f = record { fields = subst (λ (v : CountValues). CountFields v r) (p .values-are) f; text-is = p .text-is }
 
 pub load-gives : (given : LoadValues × State) (a : Loaded) (s′ : State) (r : LoadAnswer) → LoadPromise given a s′ → LoadFields (loadValues a) r → LoadGives given r s′
 load-gives given a s′ r p f = record { fields = subst (λ (v : LoadValues). LoadFields v r) (p .values-are) f; tables-are = p .tables-are }

@@ -18,11 +18,13 @@ use call_move::make_move;
 use call_move::trial;
 use call_node::node_bounds;
 use call_read::read;
+use call_write::write;
 use contracts::Part;
 use logic::Move;
 ghost use lib.ListN.{length};
 ghost use Rattle.table_format.specs.Decode.{decode};
 ghost use Rattle.contracts.specs.Read.{reads};
+ghost use Rattle.contracts.specs.WriteCall.{writes};
 ghost use Rattle.contracts.specs.Load.{loads};
 ghost use Rattle.contracts.specs.State.{tables};
 ghost use Rattle.contracts.specs.MoveCall.{moves};
@@ -30,7 +32,7 @@ ghost use Rattle.contracts.specs.TrialCall.{trials};
 ghost use Rattle.contracts.specs.ImproveCall.{improves};
 ghost use Rattle.contracts.specs.BestCall.{lists};
 ghost use Rattle.contracts.specs.NodeCells.{PartGives};
-ghost use Rattle.answers.specs.Boundary.{ReadGives, LoadGives};
+ghost use Rattle.answers.specs.Boundary.{ReadGives, LoadGives, WriteGives};
 ghost use Rattle.answers.specs.Moving.{MoveGives, TrialGives, ImproveGives, ListGives};
 
 // Reads a plan text and writes its plan table.
@@ -40,6 +42,15 @@ pub extern "C" fn vk_read(u: u64, text: &[u8], table: &mut [u8]) -> ReadAnswer
 {
     let a = read(u, text, table);
     read_fields(a)
+}
+
+// Writes the text of a plan table.
+#[no_mangle]
+pub extern "C" fn vk_write(table: &[u8], text: &mut [u8]) -> CountAnswer
+    ensures { λ r. ⌜ WriteGives (writes (decode (now (table .entry))) (now (text .entry))) r (now (text .exit)) ⌝ }
+{
+    let a = write(table, text);
+    count_fields(a)
 }
 
 // Checks the tables and fills every cell.

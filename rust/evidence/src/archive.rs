@@ -11,6 +11,11 @@ pub fn read(u: u64, text: &[u8], table: &mut [u8]) -> Result<Read, u32> {
     answer.map(|a| Read { nodes: a.nodes, cells: a.cells }).map_err(|refusal| refusal.number())
 }
 
+/// Answers the length of the text.
+pub fn write(table: &[u8], text: &mut [u8]) -> Result<usize, u32> {
+    vuyekhang::write(table, text).map_err(|refusal| refusal.number())
+}
+
 pub fn load(table: &[u8], masks: &[u64], cells: &mut [u32]) -> Result<Loaded, u32> {
     let answer = vuyekhang::load(table, masks, cells);
     answer.map(|a| Loaded { root: a.root, cells: a.cells }).map_err(|refusal| refusal.number())
@@ -77,7 +82,7 @@ fn improve_fields(answer: Result<Improved, u32>) -> ImproveAnswer {
     ImproveAnswer { number: a.number, found, chosen: record(&m), before: a.before, after: a.after, changed: a.changed }
 }
 
-fn count_fields(answer: Result<usize, u32>) -> CountAnswer {
+pub fn count_fields(answer: Result<usize, u32>) -> CountAnswer {
     match answer {
         Ok(count) => CountAnswer { number: 0, count: count as u32 },
         Err(number) => CountAnswer { number, count: 0 },

@@ -1,7 +1,7 @@
 //! The list of best moves (request 2026-01), compared with the second evaluator at every length of the lent list that matters.
 use crate::calls::{Calls, Move};
 use crate::counts::Counts;
-use crate::lent::{same, same_table, Compared};
+use crate::lent::{lengths, same, same_table, Compared};
 use crate::random::Random;
 use crate::second::moves::{best_moves, listed, Tried};
 use crate::second::table::decode;
@@ -25,13 +25,6 @@ pub fn compare_best(calls: &dyn Calls, g: &Given, r: &mut Random, counts: &mut C
         count_ties(best, g.cells[0], counts);
     }
     Ok(())
-}
-
-/// None at all, one record too few, just as many, and more.
-fn lengths(count: usize, r: &mut Random) -> Vec<usize> {
-    let mut all = vec![0, count.saturating_sub(1), count, count + 1 + r.below(4)];
-    all.dedup();
-    all
 }
 
 fn one_length(

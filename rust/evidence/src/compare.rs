@@ -2,106 +2,22 @@
 //! stands past a plan's own.
 use vuyekhang::raw::{self, Part};
 
-use crate::archive::{load, load_fields, read, read_fields, Archive};
+use crate::archive::{load, load_fields, Archive};
 use crate::best::{compare_best, wanted_ties, Given};
-use crate::calls::{Loaded, Read};
+use crate::calls::Loaded;
 use crate::counts::Counts;
+use crate::damage::{Damage, Target};
+use crate::forest::{any_plan, damage_plan};
 use crate::lent::{same, Compared, Lent};
-use crate::random::{any_kinds, any_text, damage_plan, damage_table, masks, Random};
+use crate::random::{any_bytes, any_kinds, damage_table, masks, Random};
+use crate::reading::{compare_read, one_text};
 use crate::second::formula::RELATIONS;
 use crate::second::moves::{legal_moves, tables};
 use crate::second::penalty::{cells as cells_of, text_true};
-use crate::second::plan::{Plan, COMPARE, SIZE};
+use crate::second::plan::Plan;
 use crate::second::table::{decode, encode, judge, RULES};
-use crate::second::text::{read as second_read, Accepted};
-
-/// What the damaging mode changes after a call.
-#[derive(PartialEq)]
-pub enum Target {
-    Nothing,
-    Bytes,
-    Cells,
-}
-
-/// Changes one bit of the target's tables after each call, anywhere in them, and counts how often.
-pub struct Damage {
-    pub target: Target,
-    pub done: u64,
-}
-
-impl Damage {
-    pub fn to(target: Target) -> Self {
-        Damage { target, done: 0 }
-    }
-
-    fn bytes(&mut self, table: &mut [u8], r: &mut Random) {
-        if self.target == Target::Bytes && !table.is_empty() {
-            table[r.below(table.len())] ^= 1 << r.below(8);
-            self.done += 1;
-        }
-    }
-
-    pub fn cells(&mut self, cells: &mut [u32], r: &mut Random) {
-        if self.target == Target::Cells && !cells.is_empty() {
-            cells[r.below(cells.len())] ^= 1 << r.below(32);
-            self.done += 1;
-        }
-    }
-}
-
-/// Reads a random text with both and compares the answer and every byte of the output table.
-pub fn one_text(r: &mut Random, counts: &mut Counts, damage: &mut Damage) -> Compared<Option<Accepted>> {
-    let (u, text) = any_text(r);
-    let roomy = second_read(u, &text, usize::MAX);
-    let need = roomy.as_ref().map_or(64, |a| a.plan.bytes());
-    let room = match r.below(10) {
-        0 => r.below(need),
-        1 => need,
-        _ => need + r.below(40),
-    };
-    let before: Vec<u8> = (0..room).map(|_| r.word() as u8).collect();
-    let mut table = Lent::of(&before, r.word() as u8);
-    let fields = raw::read(u, &text, &mut before.clone());
-    let answer = read(u, &text, table.part());
-    damage.bytes(table.part(), r);
-    let expected = second_read(u, &text, room);
-    let told = |e: String| format!("{e}\n  u {u}, room {room}, text {:?}", String::from_utf8_lossy(&text));
-    compare_read(answer, fields, &expected, &table).map_err(told)?;
-    counts.met("texts");
-    match expected {
-        Ok(accepted) => {
-            count_accepted(&accepted, counts);
-            Ok(Some(accepted))
-        }
-        Err(number) => {
-            counts.met(format!("read {number:02}"));
-            Ok(None)
-        }
-    }
-}
-
-/// The answer by the binding, every field of the raw one, and the table.
-fn compare_read(answer: Result<Read, u32>, fields: raw::ReadAnswer, expected: &Result<Accepted, u32>, table: &Lent<u8>) -> Compared<()> {
-    let numbers = expected.as_ref().map(|a| Read { nodes: a.plan.nodes.len(), cells: a.cells }).map_err(|number| *number);
-    same("read's answer", &answer, &numbers)?;
-    same("read's fields", &fields, &read_fields(numbers))?;
-    let own = expected.as_ref().map_or(Vec::new(), |a| encode(&a.plan));
-    table.holds("plan table", &own)
-}
-
-fn count_accepted(accepted: &Accepted, counts: &mut Counts) {
-    let plan = &accepted.plan;
-    counts.met("read accepted");
-    counts.met(format!("depth {}", plan.deepest()));
-    counts.met(format!("sets {:02}", plan.n));
-    counts.met(format!("ports {:02}", plan.u));
-    for node in &plan.nodes {
-        if node.kind >= COMPARE {
-            let what = if node.kind == SIZE { "size" } else { "ports compared by" };
-            counts.met(format!("{what} {}", RELATIONS[usize::from(node.relation)]));
-        }
-    }
-}
+use crate::second::text::Accepted;
+use crate::writing::{compare_write, wanted_writings};
 
 /// The tables of one load: a plan table, masks and a cell table that holds anything.
 struct Tables {
@@ -193,22 +109,51 @@ fn one_part(table: &[u8], cells: &[u32], r: &mut Random, counts: &mut Counts) ->
 const OFTEN: usize = 3_000;
 const SOMETIMES: usize = 100_000;
 
-/// One text, and where it is accepted its loads: the plan's own table, the same damaged, and truth beside the root.
+/// One text with the plan that it is read into, and one plan that is made as a table.
 pub fn one_round(r: &mut Random, counts: &mut Counts, damage: &mut Damage) -> Compared<()> {
-    let Some(accepted) = one_text(r, counts, damage)? else {
-        return Ok(());
-    };
+    if let Some(accepted) = one_text(r, counts, damage)? {
+        one_read_plan(&accepted, r, counts, damage)?;
+    }
+    one_made_plan(r, counts, damage)
+}
+
+/// A plan's table with some bytes behind it, which play no part.
+fn table_of(plan: &Plan, r: &mut Random) -> Vec<u8> {
+    let behind = r.below(5);
+    [encode(plan), any_bytes(r, behind)].concat()
+}
+
+/// Whether a plan with so many cells is loaded.
+fn loaded(cells: usize, r: &mut Random) -> bool {
+    cells <= OFTEN || cells < SOMETIMES && r.chance(5)
+}
+
+/// A table of any shape is written; the same damaged is written and loaded.
+fn one_made_plan(r: &mut Random, counts: &mut Counts, damage: &mut Damage) -> Compared<()> {
+    let plan = any_plan(r);
+    let table = table_of(&plan, r);
+    assert_eq!(judge(&table).as_ref(), Ok(&plan), "what is made keeps the rules");
+    counts.met("tables made");
+    compare_write(&table, r, counts, damage)?;
+    if loaded(plan.cells(), r) {
+        one_damaged_table(&plan, r, counts, damage)?;
+    }
+    Ok(())
+}
+
+/// Writes the plan of an accepted text, and loads it: its own table, the same damaged, and truth beside the root.
+fn one_read_plan(accepted: &Accepted, r: &mut Random, counts: &mut Counts, damage: &mut Damage) -> Compared<()> {
     let plan = &accepted.plan;
-    if accepted.cells > OFTEN && !(accepted.cells < SOMETIMES && r.chance(5)) {
+    let bytes = table_of(plan, r);
+    compare_write(&bytes, r, counts, damage)?;
+    if !loaded(accepted.cells, r) {
         return Ok(());
     }
-    let mut bytes = encode(plan);
-    bytes.extend((0..r.below(5)).map(|_| r.word() as u8));
     let t = tables_for(plan, bytes.clone(), r);
     let told = |e: String| format!("{e}\n  masks {:?}, table {bytes:?}", t.masks);
     one_load(&t, r, counts, damage).map_err(told)?;
     if tables(&t.table, &t.masks, &[t.cells.len()]).is_ok() {
-        one_truth(&accepted, &t.masks, counts)?;
+        one_truth(accepted, &t.masks, counts)?;
     }
     (0..2).try_for_each(|_| one_damaged_table(plan, r, counts, damage))
 }
@@ -243,6 +188,7 @@ fn one_damaged_table(plan: &Plan, r: &mut Random, counts: &mut Counts, damage: &
     // Damage may leave a sound table of many more cells; its own masks and cells are then made for it.
     let now = judge(&bytes);
     counts.met(now.as_ref().map_or_else(|rule| format!("broken: {rule}"), |_| "damaged and sound".to_string()));
+    compare_write(&bytes, r, counts, damage)?;
     let fits = now.as_ref().unwrap_or(plan);
     if fits.cells() > SOMETIMES {
         return Ok(());
@@ -269,14 +215,12 @@ pub fn short_texts(tokens: usize, counts: &mut Counts) -> Compared<()> {
     })
 }
 
+/// Reads a text with both, and writes the plan where it is accepted.
 fn short_text(text: &str, counts: &mut Counts) -> Compared<()> {
-    let mut table = Lent::of(&[0; 64], 0xA5);
-    let fields = raw::read(2, text.as_bytes(), &mut [0; 64]);
-    let answer = read(2, text.as_bytes(), table.part());
-    let expected = second_read(2, text.as_bytes(), 64);
-    compare_read(answer, fields, &expected, &table).map_err(|e| format!("{e}\n  u 2, room 64, text {text:?}"))?;
-    counts.met(expected.map_or_else(|n| format!("read {n:02}"), |_| "read accepted".to_string()));
-    Ok(())
+    let (mut r, mut damage) = (Random::new(0), Damage::to(Target::Nothing));
+    let answer = compare_read(2, text.as_bytes(), 64, &mut r, &mut damage)?;
+    counts.met(answer.as_ref().map_or_else(|n| format!("read {n:02}"), |_| "read accepted".to_string()));
+    answer.map_or(Ok(()), |accepted| compare_write(&encode(&accepted.plan), &mut r, counts, &mut damage))
 }
 
 /// Classes of the calls that exist today and how often each must be met.
@@ -294,6 +238,7 @@ pub fn missed(counts: &Counts) -> Vec<String> {
     wanted.extend((11..=14).chain([16]).map(|n| (format!("best moves over any cells: refused {n}"), 100)));
     wanted.push(("best moves over any cells: listed".to_string(), 100));
     wanted.extend(wanted_ties());
+    wanted.extend(wanted_writings());
     wanted.extend(["broken table", "short cells", "no such node", "a part"].map(|c| (format!("node cells: {c}"), 100)));
     wanted
         .into_iter()

@@ -1,6 +1,8 @@
 //! Answers and tables compared, and tables lent between guard words.
 use std::fmt::Debug;
 
+use crate::random::Random;
+
 /// A difference, in words.
 pub type Compared<T> = Result<T, String>;
 
@@ -18,6 +20,13 @@ pub fn same_table<T: PartialEq + Debug>(what: &str, engine: &[T], second: &[T]) 
         Some(i) => same(&format!("{what} at {i}"), &engine[i], &second[i]),
         None => Ok(()),
     }
+}
+
+/// Lengths of a lent table of which a call writes so many elements: none at all, one too few, just as many, and more.
+pub fn lengths(count: usize, r: &mut Random) -> Vec<usize> {
+    let mut all = vec![0, count.saturating_sub(1), count, count + 1 + r.below(4)];
+    all.dedup();
+    all
 }
 
 /// A table that is lent from the middle of a larger one, so that a word written outside of it is seen.

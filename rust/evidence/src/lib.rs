@@ -1,19 +1,23 @@
 //! What the proved archive is held against: a second evaluator, and a plain engine for times.
 //!
 //! `second` and `plain` do not use the binding and share no code; `calls` has the records in which all three answer. `compare` and
-//! `lists` compare the archive with `second`, call by call and in lists of calls; `best` is the list of best moves in both. `bench`
-//! measures it beside `plain`.
+//! `lists` compare the archive with `second`, call by call and in lists of calls; `reading` and `writing` are texts in the first,
+//! `best` is the list of best moves in both. `random` and `forest` make what they are given. `bench` measures it beside `plain`.
 pub mod archive;
 pub mod bench;
 pub mod best;
 pub mod calls;
 pub mod compare;
 pub mod counts;
+pub mod damage;
+pub mod forest;
 pub mod lent;
 pub mod lists;
 pub mod plain;
 pub mod random;
+pub mod reading;
 pub mod second;
+pub mod writing;
 
 /// Runs on a thread with stack enough for the deepest text, by any of the evaluators, and hands back what it answers.
 pub fn with_stack<T: Send + 'static>(run: impl FnOnce() -> T + Send + 'static) -> T {

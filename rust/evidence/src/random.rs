@@ -1,6 +1,6 @@
-//! Random plan texts, masks and tables, and damage to them. Everything follows from a seed.
+//! Random plan texts and masks, and damage to texts and to the bytes of tables. Everything follows from a seed.
 use crate::second::formula::RELATIONS;
-use crate::second::plan::{Node, Plan, HEADER, RECORD};
+use crate::second::plan::{HEADER, RECORD};
 
 /// SplitMix64.
 pub struct Random(u64);
@@ -360,6 +360,11 @@ pub fn any_kinds(r: &mut Random) -> u32 {
     }
 }
 
+/// Bytes that hold anything, so that one which is written, or not, is seen.
+pub fn any_bytes(r: &mut Random, count: usize) -> Vec<u8> {
+    (0..count).map(|_| r.word() as u8).collect()
+}
+
 /// Masks of n sets within u ports, sparse, dense or even.
 pub fn masks(r: &mut Random, u: usize, n: usize) -> Vec<u64> {
     let within = if u == 64 { u64::MAX } else { (1 << u) - 1 };
@@ -411,59 +416,4 @@ fn set(bytes: &mut [u8], at: usize, value: u8) {
     if at < bytes.len() {
         bytes[at] = value;
     }
-}
-
-/// A node with the nodes below it, so that damage can be done to a plan's tree while parents and ends stay right.
-struct Branch {
-    node: Node,
-    below: Vec<Branch>,
-}
-
-fn branch(plan: &Plan, i: usize) -> Branch {
-    Branch { node: plan.nodes[i].clone(), below: plan.children(i).into_iter().map(|c| branch(plan, c)).collect() }
-}
-
-fn lay(b: &Branch, parent: u16, nodes: &mut Vec<Node>) {
-    let i = nodes.len();
-    nodes.push(Node { parent, ..b.node.clone() });
-    b.below.iter().for_each(|c| lay(c, i as u16, nodes));
-    nodes[i].end = nodes.len() as u16;
-}
-
-/// The branch at a place in the table's order, counted down to 0.
-fn at_place<'a>(b: &'a mut Branch, left: &mut usize) -> Option<&'a mut Branch> {
-    if *left == 0 {
-        return Some(b);
-    }
-    *left -= 1;
-    b.below.iter_mut().find_map(|c| at_place(c, left))
-}
-
-/// One change to a plan's tree or its numbers, with parents and ends laid out anew: it may break any other rule, or none.
-pub fn damage_plan(plan: &Plan, r: &mut Random) -> Plan {
-    let mut tree = branch(plan, 0);
-    let (mut u, mut n) = (plan.u, plan.n);
-    let mut place = r.below(plan.nodes.len());
-    let chosen = at_place(&mut tree, &mut place).expect("there are so many nodes");
-    match r.below(9) {
-        0 => chosen.node.kind = r.below(10) as u8,
-        1 => chosen.node.relation = r.below(8) as u8,
-        2 => chosen.node.a = r.one_of(&[0, 1, 2, 3, n - 1, n]) as u8,
-        3 => chosen.node.b = r.one_of(&[0, 1, 2, n - 1, n, 63, 64, 65]) as u8,
-        4 => drop(chosen.below.pop()),
-        5 => {
-            let inner = Branch { node: chosen.node.clone(), below: std::mem::take(&mut chosen.below) };
-            chosen.node = Node { kind: 1 + r.below(4) as u8, relation: 0, a: 0, b: 0, parent: 0, end: 0 };
-            chosen.below.push(inner);
-        }
-        6 => {
-            let same = chosen.below.first().map(|c| c.node.clone());
-            chosen.below.extend(same.map(|node| Branch { node, below: Vec::new() }));
-        }
-        7 => u = r.one_of(&[0, 1, 40, 63, 64, 65]),
-        _ => n = r.one_of(&[0, 1, n - 1, 16, 17]),
-    }
-    let mut nodes = Vec::new();
-    lay(&tree, u16::MAX, &mut nodes);
-    Plan { u, n, nodes }
 }

@@ -1,7 +1,7 @@
 //! The binding's own part: each ground by its name, moves and kinds with any fields, and answers that no version gives today.
 use vuyekhang::raw::{CountAnswer, ImproveAnswer, LoadAnswer, MoveAnswer, ReadAnswer};
-use vuyekhang::{best_moves, improve, load, make_move, read, trial};
-use vuyekhang::{Improved, Kinds, Loaded, Move, Moved, Read, Refusal, MOST_TABLE, READ_STACK};
+use vuyekhang::{best_moves, improve, load, make_move, read, trial, write};
+use vuyekhang::{Improved, Kinds, Loaded, Move, Moved, Read, Refusal, MOST_TABLE, MOST_TEXT, READ_STACK};
 
 const PLAN_A: &[u8] = b"[STI] @x (x:I <-> x:S & x:T) & #I <= 1";
 const CELLS: usize = 34;
@@ -46,8 +46,22 @@ fn grounds_of_the_host() {
     assert_eq!(load(&table, &[3, 7, 1], &mut [0; CELLS - 1]), Err(Refusal::TooShort));
     assert_eq!(load(&table, &[3, 7], &mut [0; CELLS]), Err(Refusal::TooShort));
     assert_eq!(load(&table, &[3, 8, 1], &mut [0; CELLS]), Err(Refusal::PortOutsidePlan));
+    assert_eq!(write(&table[1..], &mut [0; MOST_TEXT]), Err(Refusal::BrokenTable));
+    assert_eq!(write(&table, &mut [0; 57]), Err(Refusal::TooShort));
+    assert_eq!(write(&table, &mut [0; 58]), Ok(58));
     let host = [Refusal::WrongPortCount, Refusal::BrokenTable, Refusal::TooShort, Refusal::PortOutsidePlan];
     assert_eq!(host.map(|refusal| refusal.number()), [10, 11, 12, 13]);
+}
+
+/// A text without spaces is read, and would be over 4,096 bytes with the writer's.
+#[test]
+fn a_plan_without_a_text() {
+    let mut table = [0; MOST_TABLE];
+    let dense = format!("[S]{}", ["#S<=64"; 510].join("&"));
+    assert_eq!(read(3, dense.as_bytes(), &mut table), Ok(Read { nodes: 512, cells: 512 }));
+    assert_eq!(write(&table, &mut [0; MOST_TEXT]), Err(Refusal::Unwritable));
+    assert_eq!(write(&table, &mut []), Err(Refusal::Unwritable));
+    assert_eq!(Refusal::Unwritable.number(), 17);
 }
 
 #[test]
@@ -123,19 +137,19 @@ fn best_moves_in_order() {
 #[test]
 fn numbers_and_meanings() {
     let refusal = |number: u32| ReadAnswer { number, nodes: 0, cells: 0 }.typed().expect_err("a number other than 0");
-    let meanings: std::collections::BTreeSet<String> = (1..=16).map(|n| refusal(n).to_string()).collect();
-    assert_eq!(meanings.len(), 16);
+    let meanings: std::collections::BTreeSet<String> = (1..=17).map(|n| refusal(n).to_string()).collect();
+    assert_eq!(meanings.len(), 17);
     for number in (1..40).chain([u32::MAX]) {
         assert_eq!(refusal(number).number(), number);
         assert!(refusal(number).to_string().starts_with(&format!("refused ({number}): ")));
-        assert_eq!(matches!(refusal(number), Refusal::Other { .. }), number > 16);
+        assert_eq!(matches!(refusal(number), Refusal::Other { .. }), number > 17);
     }
-    assert_eq!(refusal(17).to_string(), "refused (17): a ground that this version does not name");
-    assert_eq!(LoadAnswer { number: 17, root: 0, cells: 0 }.typed(), Err(refusal(17)));
-    assert_eq!(MoveAnswer { number: 17, before: 0, after: 0, changed: 0 }.typed(), Err(refusal(17)));
+    assert_eq!(refusal(18).to_string(), "refused (18): a ground that this version does not name");
+    assert_eq!(LoadAnswer { number: 18, root: 0, cells: 0 }.typed(), Err(refusal(18)));
+    assert_eq!(MoveAnswer { number: 18, before: 0, after: 0, changed: 0 }.typed(), Err(refusal(18)));
     let chosen = Move::default();
-    assert_eq!(ImproveAnswer { number: 17, found: 0, chosen, before: 0, after: 0, changed: 0 }.typed(), Err(refusal(17)));
-    assert_eq!(CountAnswer { number: 17, count: 0 }.typed(), Err(refusal(17)));
+    assert_eq!(ImproveAnswer { number: 18, found: 0, chosen, before: 0, after: 0, changed: 0 }.typed(), Err(refusal(18)));
+    assert_eq!(CountAnswer { number: 18, count: 0 }.typed(), Err(refusal(18)));
     assert_eq!(CountAnswer { number: 0, count: 21_504 }.typed(), Ok(21_504));
 }
 

@@ -1,9 +1,9 @@
 //! A planning engine for the ports of a cabinet, proved in Rattle, behind safe functions.
 //!
-//! A plan is a formula over sets of ports. [`read`] writes its plan table from a text, [`load`] fills a penalty for every node
-//! and every tuple of ports (a cell), and the root's penalty is 0 exactly when the formula is true. [`make_move`] changes the
-//! sets and the cells that this touches, [`trial`] says what a move would do, [`improve`] makes the best move and [`best_moves`]
-//! lists those that are equally good.
+//! A plan is a formula over sets of ports. [`read`] writes its plan table from a text and [`write`] a text from its plan table.
+//! [`load`] fills a penalty for every node and every tuple of ports (a cell), and the root's penalty is 0 exactly when the formula
+//! is true. [`make_move`] changes the sets and the cells that this touches, [`trial`] says what a move would do, [`improve`] makes
+//! the best move and [`best_moves`] lists those that are equally good.
 //!
 //! The caller owns every table and lends it for one call; the engine keeps nothing between two calls. A refused call writes
 //! nothing, and nothing past a plan's own bytes, masks or cells is read or written.
@@ -48,6 +48,9 @@ pub use refusal::Refusal;
 /// Every plan table fits this many bytes: 9, and 8 for each of at most 512 nodes.
 pub const MOST_TABLE: usize = 9 + 8 * 512;
 
+/// No text is longer than this many bytes, so that a text table of so many is long enough for any [`write`].
+pub const MOST_TEXT: usize = 4_096;
+
 /// No plan has more cells than this.
 pub const MOST_CELLS: usize = 1_048_576;
 
@@ -76,6 +79,32 @@ pub const READ_STACK: usize = 8 << 20;
 /// ```
 pub fn read(u: u64, text: &[u8], table: &mut [u8]) -> Result<Read, Refusal> {
     raw::read(u, text, table).typed()
+}
+
+/// Writes a plan table as text and answers the text's length in bytes. The text is ASCII; bytes past it stay.
+///
+/// Sets are named from A, all of them declared, variables a, b, c by number; one space stands round `&`, `|` and relations, after a
+/// quantifier's variable and after `]`; brackets only where the grammar needs them. Reading this text with the table's own u gives
+/// the table's own bytes.
+///
+/// Tries 11, then 17 (the text is over 4,096 bytes, or has more than 64 of `(` and quantifiers around one token), then 12: the text
+/// table is shorter than the text, so that one of [`MOST_TEXT`] is always long enough.
+///
+/// ```
+/// # use vuyekhang::{read, write, MOST_TABLE, MOST_TEXT};
+/// # let mut table = [0; MOST_TABLE];
+/// let plan = read(3, b"[STI] @x (x:I <-> x:S & x:T) & #I <= 1", &mut table)?;
+/// let mut text = [0; MOST_TEXT];
+/// let length = write(&table, &mut text)?;
+/// assert_eq!(text[..length], *b"[ABC] @a ((a/C | a:A & a:B) & (a:C | a/A | a/B)) & #C <= 1");
+///
+/// let mut again = [0; MOST_TABLE];
+/// read(3, &text[..length], &mut again)?;
+/// assert_eq!(again[..plan.table_len()], table[..plan.table_len()]);
+/// # Ok::<(), vuyekhang::Refusal>(())
+/// ```
+pub fn write(table: &[u8], text: &mut [u8]) -> Result<usize, Refusal> {
+    raw::write(table, text).typed()
 }
 
 /// Checks a plan table and the masks, and writes every cell of the plan: its penalty.

@@ -79,12 +79,13 @@ pub struct ImproveAnswer {
 pub struct CountAnswer {
     /// 0, or the ground for refusal.
     pub number: u32,
-    /// How many moves were listed.
+    /// How many bytes of text were written, or moves listed.
     pub count: u32,
 }
 
 extern "C" {
     fn vk_read(u: u64, text: *const u8, text_len: usize, table: *mut u8, table_len: usize) -> ReadAnswer;
+    fn vk_write(table: *const u8, table_len: usize, text: *mut u8, text_len: usize) -> CountAnswer;
     fn vk_load(table: *const u8, table_len: usize, masks: *const u64, masks_len: usize, cells: *mut u32, cells_len: usize) -> LoadAnswer;
     fn vk_node_cells(table: *const u8, table_len: usize, cells: *const u32, cells_len: usize, node: usize) -> Part;
     fn vk_move(
@@ -137,6 +138,12 @@ extern "C" {
 pub fn read(u: u64, text: &[u8], table: &mut [u8]) -> ReadAnswer {
     // SAFETY: each pointer comes from a slice of the length beside it, and `table`, which is written, is borrowed here alone.
     unsafe { vk_read(u, text.as_ptr(), text.len(), table.as_mut_ptr(), table.len()) }
+}
+
+/// `vk_write`; see [`crate::write`].
+pub fn write(table: &[u8], text: &mut [u8]) -> CountAnswer {
+    // SAFETY: each pointer comes from a slice of the length beside it, and `text`, which is written, is borrowed here alone.
+    unsafe { vk_write(table.as_ptr(), table.len(), text.as_mut_ptr(), text.len()) }
 }
 
 /// `vk_load`; see [`crate::load`].

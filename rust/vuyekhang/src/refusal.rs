@@ -49,6 +49,8 @@ pub enum Refusal {
     IllegalMove,
     /// 16: the list that is lent for moves is too short.
     ListTooShort,
+    /// 17: the plan's text would be over 4,096 bytes, or have more than 64 of `(` and quantifiers around one token.
+    Unwritable,
     /// A ground that this version does not name. Only the engine's own answers make one, so that it never stands for a ground
     /// that has a name.
     #[non_exhaustive]
@@ -59,7 +61,7 @@ pub enum Refusal {
 }
 
 /// Each ground with its meaning; ground n stands at n - 1.
-const GROUNDS: [(Refusal, &str); 16] = [
+const GROUNDS: [(Refusal, &str); 17] = [
     (Refusal::TextTooLong, "text over 4,096 bytes"),
     (Refusal::UnknownByte, "a byte of no token, space or line end"),
     (Refusal::OutsideGrammar, "text outside the grammar"),
@@ -76,6 +78,7 @@ const GROUNDS: [(Refusal, &str); 16] = [
     (Refusal::UnknownMove, "unknown kind, set, port or sum of kinds, or an unused field not 0"),
     (Refusal::IllegalMove, "move not legal"),
     (Refusal::ListTooShort, "list of moves too short"),
+    (Refusal::Unwritable, "the plan's text would be over 4,096 bytes or have more than 64 of `(` and quantifiers around one token"),
 ];
 
 impl Refusal {
@@ -103,6 +106,7 @@ impl Refusal {
             Refusal::UnknownMove => 14,
             Refusal::IllegalMove => 15,
             Refusal::ListTooShort => 16,
+            Refusal::Unwritable => 17,
             Refusal::Other { number } => *number,
         }
     }

@@ -1,5 +1,5 @@
 use borrow.Author.Needs.{needs}
-use Rattle.contracts.specs.BestCall.{countRefused, countAccepted, countValues}
+use Rattle.contracts.specs.Counting.{countRefused, countAccepted, countValues}
 use Rattle.answers.proofs.count_fields.Statement.{statement}
 use Rattle.answers.proofs.count_fields.Tie as tie
 

@@ -1,4 +1,4 @@
-use Rattle.contracts.specs.BestCall.{countRefused, countAccepted, countValues}
+use Rattle.contracts.specs.Counting.{countRefused, countAccepted, countValues}
 use Rattle.call_list.proofs.Telling.{told-counted}
 use borrow.Author.Needs.{needs}
 use Rattle.call_list.proofs.tell_counted.Statement.{statement}

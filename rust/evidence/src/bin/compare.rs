@@ -7,11 +7,13 @@ use std::process::ExitCode;
 
 use evidence::archive::Archive;
 use evidence::best::told_ties;
-use evidence::compare::{missed, one_round, short_texts, Damage, Target};
+use evidence::compare::{missed, one_round, short_texts};
 use evidence::counts::Counts;
+use evidence::damage::{Damage, Target};
 use evidence::lists::{self, Hit};
 use evidence::random::Random;
 use evidence::with_stack;
+use evidence::writing::told_writings;
 
 const QUICK_ROUNDS: u64 = 20_000;
 const QUICK_TOKENS: u64 = 3;
@@ -56,6 +58,7 @@ fn rounds_fail(rounds: u64, seed: u64) -> bool {
     }
     print(&counts);
     println!("{}", told_ties(&counts));
+    println!("{}", told_writings(&counts));
     println!("{rounds} rounds, {} texts, {} loads: no difference", counts.of("texts"), counts.of("loads"));
     too_seldom(&missed(&counts))
 }
@@ -67,18 +70,18 @@ fn too_seldom(missed: &[String]) -> bool {
 
 /// Fails unless every round in which a byte or a cell was changed ends in a difference.
 fn damage_unseen(rounds: u64, seed: u64) -> bool {
-    unseen("bytes", || Target::Bytes, rounds, seed) || unseen("cells", || Target::Cells, rounds, seed)
+    [Target::Tables, Target::Texts, Target::Cells].into_iter().any(|target| unseen(target, rounds, seed))
 }
 
-fn unseen(what: &str, target: fn() -> Target, rounds: u64, seed: u64) -> bool {
+fn unseen(target: Target, rounds: u64, seed: u64) -> bool {
     let (mut damaged, mut reported) = (0, 0);
     for round in 0..rounds {
-        let mut damage = Damage::to(target());
+        let mut damage = Damage::to(target);
         let result = one_round(&mut Random::new(seed.wrapping_add(round)), &mut Counts::default(), &mut damage);
         damaged += u64::from(damage.done > 0);
         reported += u64::from(result.is_err());
     }
-    println!("{what}: {damaged} rounds damaged, {reported} reported");
+    println!("{target:?}: {damaged} rounds damaged, {reported} reported");
     damaged == 0 || damaged != reported
 }
 
@@ -88,7 +91,7 @@ fn short_fail(tokens: u64, _seed: u64) -> bool {
     let result = (0..=tokens as usize).try_for_each(|k| short_texts(k, &mut counts));
     print(&counts);
     match result {
-        Ok(()) => println!("every choice of at most {tokens} tokens: no difference"),
+        Ok(()) => println!("{}\nevery choice of at most {tokens} tokens: no difference", told_writings(&counts)),
         Err(ref difference) => println!("difference: {difference}"),
     }
     result.is_err()

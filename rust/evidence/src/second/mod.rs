@@ -7,3 +7,4 @@ pub mod penalty;
 pub mod plan;
 pub mod table;
 pub mod text;
+pub mod write;

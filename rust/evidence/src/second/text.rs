@@ -3,8 +3,8 @@ use super::core::{amounts, plan_of};
 use super::formula::{parts_of, Tree, RELATIONS};
 use super::plan::{Plan, MOST_CELLS, MOST_NODES, MOST_SETS};
 
-const LONGEST_TEXT: usize = 4096;
-const MOST_AROUND: usize = 64;
+pub const LONGEST_TEXT: usize = 4096;
+pub const MOST_AROUND: usize = 64;
 
 #[derive(Debug, Clone, PartialEq)]
 enum Token {
@@ -229,11 +229,13 @@ fn quantifiers(tree: &Tree) -> usize {
     below + usize::from(matches!(tree, Tree::All(..) | Tree::Some(..)))
 }
 
-/// An accepted text: its set letters, its own tree, its plan, and how many cells the plan has.
+/// An accepted text: its set letters, its own tree, the most of `(`, `~` and quantifiers around one token, its plan, and how many
+/// cells the plan has.
 #[derive(Debug)]
 pub struct Accepted {
     pub sets: Vec<u8>,
     pub tree: Tree,
+    pub around: usize,
     pub plan: Plan,
     pub cells: usize,
 }
@@ -249,8 +251,8 @@ pub fn read(u: u64, text: &[u8], room: usize) -> Result<Accepted, u32> {
     if !text.iter().all(|b| known_byte(*b)) {
         return Err(2);
     }
-    let (sets, tree, deepest) = parse(text).ok_or(3u32)?;
-    if deepest > MOST_AROUND {
+    let (sets, tree, around) = parse(text).ok_or(3u32)?;
+    if around > MOST_AROUND {
         return Err(4);
     }
     if misdeclared(&sets) || misnamed(&tree, &sets, &mut Vec::new()) {
@@ -274,5 +276,5 @@ pub fn read(u: u64, text: &[u8], room: usize) -> Result<Accepted, u32> {
     if room < plan.bytes() {
         return Err(12);
     }
-    Ok(Accepted { sets, tree, plan, cells: (below.cells + 1) as usize })
+    Ok(Accepted { sets, tree, around, plan, cells: (below.cells + 1) as usize })
 }

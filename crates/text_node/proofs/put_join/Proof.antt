@@ -1,0 +1,46 @@
+use borrow.Author.Tests.{ne-eqb}
+use Rattle.text_node.specs.inner.Nodes.{joinAt}
+use borrow.Author.Needs.{needs}
+use Rattle.text_node.proofs.put_join.Statement.{statement}
+use Rattle.text_node.proofs.put_join.Tie as tie
+
+slice-aggregate-put-bytes : tie.Need-slice-aggregate-put-bytes
+slice-aggregate-put-bytes c = search needs
+
+put-bytes-requires : tie.Need-put-bytes-requires
+put-bytes-requires c κs = search needs
+
+same-length : tie.Need-same-length
+same-length c = search needs
+
+returns : tie.Need-returns
+unfolding joinAt
+returns c =
+    rw (c .before .before .before .before .before .if1 .taken) (c .before .before .put-bytes .ensures)
+
+slice-aggregate-put-bytes-2 : tie.Need-slice-aggregate-put-bytes-2
+slice-aggregate-put-bytes-2 c = search needs
+
+put-bytes-requires-2 : tie.Need-put-bytes-requires-2
+put-bytes-requires-2 c κs = search needs
+
+same-length-2 : tie.Need-same-length-2
+same-length-2 c = search needs
+
+returns-2 : tie.Need-returns-2
+unfolding joinAt
+returns-2 c =
+    rw (ne-eqb _ _ (c .before .before .before .before .before .if1 .left)) (c .before .before .put-bytes2 .ensures)
+
+pub put-join-spec : {M : Type 1} → statement M
+put-join-spec =
+    tie.close
+    (tie.spec
+    slice-aggregate-put-bytes
+    put-bytes-requires
+    same-length
+    returns
+    slice-aggregate-put-bytes-2
+    put-bytes-requires-2
+    same-length-2
+    returns-2)

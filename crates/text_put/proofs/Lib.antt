@@ -1,0 +1,3 @@
+-- Laws.
+pub mod Digits
+pub mod Putting

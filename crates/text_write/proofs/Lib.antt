@@ -1,0 +1,4 @@
+-- Laws.
+pub mod Forming
+pub mod Texts
+pub mod Trees
