@@ -11,11 +11,12 @@ pub data Outcome : Type 0 where
   output : List ℕ → Outcome
   refused : ℕ → Outcome
 
--- The same of each case of the enum, and how many bytes of the lent table it names.
+-- The same of each case of the enum, over the lent table.
 unfoldable pub outcomeOf : Given → List ℕ → Outcome
 outcomeOf (Bytes n) table = output (take n table)
 outcomeOf (Refusal number) table = refused number
 
+-- How many bytes of the lent table a case names.
 unfoldable pub namedBytes : Given → ℕ
 namedBytes (Bytes n) = n
 namedBytes (Refusal number) = 0

@@ -16,7 +16,7 @@ setByte S = 65 + S
 unfoldable pub variableByte : ℕ → ℕ
 variableByte v = 97 + v
 
--- A literal's test by letters in place of numbers.
+-- "The writer names sets from A, variables a, b, c by number": a literal's test by letters in place of numbers.
 unfoldable pub letteredTest : Test → Test
 letteredTest (isin v S) = isin (variableByte v) (setByte S)
 letteredTest (notin v S) = notin (variableByte v) (setByte S)
@@ -27,7 +27,8 @@ letteredTest (size r S c) = size r (setByte S) c
 unfoldable pub letteredLiteral : Literal → Literal
 letteredLiteral l = literalOf (letteredTest (l .test))
 
--- The level of the grammar at which a node's text stands without brackets.
+-- "A disjunction joins conjunctions by `|`; a conjunction joins units by `&`. A unit is [..] `@v` unit (for all), `?v` unit (exists),
+-- [..] or a literal" (01): the level of the grammar at which a node's text stands without brackets.
 unfoldable pub ownLevel : Node → Level
 ownLevel root = formula
 ownLevel all = unit
@@ -36,8 +37,7 @@ ownLevel and = conjunction
 ownLevel or = disjunction
 ownLevel (lit l) = unit
 
--- The level that the grammar asks of each child of a node: "A disjunction joins conjunctions by `|`, a conjunction joins units by `&`";
--- "`@v` unit (for all), `?v` unit (exists)"; the root's child is the formula.
+-- The level that the same sentences ask of each child of a node; the root's child is the formula.
 unfoldable pub childLevel : Node → Level
 childLevel root = formula
 childLevel all = unit
@@ -50,7 +50,7 @@ childLevel (lit l) = unit
 unfoldable pub needsBrackets : Node → Node → Bool
 needsBrackets above n = ltb (rank (childLevel above)) (rank (ownLevel n))
 
--- A part in brackets, or as it is.
+-- "a bracketed formula" (01), or the part as it is.
 unfoldable pub enclosed : Bool → Tree → Tree
 enclosed true a = par a
 enclosed false a = a
@@ -64,7 +64,7 @@ nodeTree and d a = a
 nodeTree or d a = a
 nodeTree (lit l) d a = leaf (letteredLiteral l)
 
--- What joins the children of a node: only "and" and "or" have several.
+-- "joins conjunctions by `|`", "joins units by `&`" (01): what joins the children of a node. Only "and" and "or" have several.
 unfoldable pub joinOf : Node → Join
 joinOf root = conj
 joinOf all = conj
@@ -73,7 +73,7 @@ joinOf and = conj
 joinOf or = disj
 joinOf (lit l) = conj
 
--- A tree, joined to that of its later siblings if it has any.
+-- A tree, joined to that of its later siblings if it has any: a & b & c is a & (b & c), as the reader has it.
 unfoldable pub beside : Join → Tree → Forest → Tree → Tree
 beside j a none b = a
 beside j a (tree n c s) b = join j a b

@@ -9,7 +9,7 @@ use Rattle.text_tokens.specs.Tokens.{digitsOf}
 use Rattle.text_tree.specs.Tree.{Quantifier, forall, exists, Join, conj, disj, imp, rev, iff, Tree, leaf, neg, par, bind, join, Declared, lettersOf, tooDeep}
 use Rattle.text_form.specs.Form.{treeOf, setsOf}
 
--- The bytes of the signs: `<` `<=` `=` `!=` `>=` `>`.
+-- "Tokens: [..] `< <= = != >= >`" (01): the bytes of the relations' signs.
 unfoldable pub relationBytes : Relation → List ℕ
 relationBytes lt = 60 ∷ []
 relationBytes le = 60 ∷ 61 ∷ []
@@ -18,7 +18,7 @@ relationBytes ne = 33 ∷ 61 ∷ []
 relationBytes ge = 62 ∷ 61 ∷ []
 relationBytes gt = 62 ∷ []
 
--- `&` `|` `->` `<-` `<->`. The writer's trees have no arrow.
+-- "Tokens: [..] `& | -> <- <->`" (01). The writer's trees have no arrow.
 unfoldable pub joinBytes : Join → List ℕ
 joinBytes conj = 38 ∷ []
 joinBytes disj = 124 ∷ []
@@ -26,7 +26,7 @@ joinBytes imp = 45 ∷ 62 ∷ []
 joinBytes rev = 60 ∷ 45 ∷ []
 joinBytes iff = 60 ∷ 45 ∷ 62 ∷ []
 
--- `@` `?`
+-- "`@v` unit (for all), `?v` unit (exists)" (01): the quantifier's sign.
 unfoldable pub quantifierByte : Quantifier → ℕ
 quantifierByte forall = 64
 quantifierByte exists = 63
@@ -35,7 +35,7 @@ quantifierByte exists = 63
 unfoldable pub spaced : List ℕ → List ℕ
 spaced sign = 32 ∷ (sign ++ (32 ∷ []))
 
--- A constant, 0 to 64: one digit or two.
+-- "A digit run is 0 or doesn't begin with 0." (01): a constant, 0 to 64, in one digit or two.
 unfoldable pub constantBytes : ℕ → List ℕ
 constantBytes c = digitsOf 2 c
 
@@ -58,7 +58,7 @@ treeBytes (join j a b) = treeBytes a ++ (spaced (joinBytes j) ++ treeBytes b)
 unfoldable pub textBytes : List Declared → Tree → List ℕ
 textBytes sets a = 91 ∷ (lettersOf sets ++ (93 ∷ 32 ∷ treeBytes a))
 
--- The text that a plan is written as.
+-- "Write a plan as text": the text that a plan is written as.
 unfoldable pub planText : Plan → List ℕ
 planText P = textBytes (setsOf P) (treeOf P)
 

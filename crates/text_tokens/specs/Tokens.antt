@@ -154,7 +154,7 @@ unfoldable pub numberOf : ℕ → List ℕ → ℕ
 numberOf v [] = v
 numberOf v (b ∷ s) = pick (isDigit b) (numberOf (10 * v + (b - 48)) s) v
 
--- "Numbers are written in decimal" (01, section Known plans): the digits of a number that has at most k of them.
+-- "Numbers are written in decimal" (01, before its sections): the digits of a number that has at most k of them.
 unfoldable pub digitsOf : ℕ → ℕ → List ℕ
 digitsOf zero n = []
 digitsOf (suc k) n = pick (ltb n 10) [] (digitsOf k (n / 10)) ++ ((48 + n % 10) ∷ [])
