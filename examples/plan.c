@@ -1,5 +1,5 @@
 /* Reads plan A of paper 01, writes its table as text, loads it, prints its numbers and the cells of one node, mends the plan by one
- * move, and lists the moves that keep it so.
+ * move, takes a wrong one back, and lists the moves that keep the plan true.
  *
  * Built and run by .ci/run, which holds what it prints to examples/plan.stdout. */
 #include <stdio.h>
@@ -43,17 +43,30 @@ int main(void)
 
     /* Dropping port 1 from T makes the plan true: tried first, then made. A second time it is illegal. */
     vk_move_record drop = {.kind = VK_DROP, .s = 1, .p = 1};
+    vk_move_record journal[2];
+    size_t count = 0;
     uint32_t scratch[34];
     print("trial", vk_trial(table, sizeof table, masks, 3, cells, 34, scratch, 34, drop), &masks[1]);
-    print("move", vk_move(table, sizeof table, masks, 3, cells, 34, drop), &masks[1]);
-    print("move again", vk_move(table, sizeof table, masks, 3, cells, 34, drop), &masks[1]);
+    print("move", vk_move(table, sizeof table, masks, 3, cells, 34, journal, 2, &count, drop), &masks[1]);
+    print("move again", vk_move(table, sizeof table, masks, 3, cells, 34, journal, 2, &count, drop), &masks[1]);
 
-    /* The root is 0, so that no move is better; with port 1 back in T two drops are, from S and from T: S comes first. */
-    vk_improve_answer none = vk_improve(table, sizeof table, masks, 3, cells, 34, scratch, 34, 15);
+    /* Port 0 is pulled from T by mistake: the plan is no longer true. The journal has both moves and no room for a third; undo takes
+     * the newest back. */
+    vk_move_record wrong = {.kind = VK_DROP, .s = 1, .p = 0}, third = {.kind = VK_DROP, .s = 1, .p = 2};
+    print("wrong pull", vk_move(table, sizeof table, masks, 3, cells, 34, journal, 2, &count, wrong), &masks[1]);
+    printf("root %u, %zu records, the newest: kind %u, set %u, port %u\n", cells[0], count, journal[count - 1].kind,
+           journal[count - 1].s, journal[count - 1].p);
+    print("third move", vk_move(table, sizeof table, masks, 3, cells, 34, journal, 2, &count, third), &masks[1]);
+    print("undo", vk_undo(table, sizeof table, masks, 3, cells, 34, journal, 2, &count), &masks[1]);
+    printf("root %u, %zu records\n", cells[0], count);
+
+    /* The root is 0, so that no move is better. With the first move taken back too, port 1 is in T again, and two drops are better,
+     * from S and from T: S comes first. */
+    vk_improve_answer none = vk_improve(table, sizeof table, masks, 3, cells, 34, scratch, 34, journal, 2, &count, 15);
     printf("improve: number %u, found %u, before %u, after %u\n", none.number, none.found, none.before, none.after);
-    vk_move_record add = {.kind = VK_ADD, .s = 1, .p = 1};
-    print("move back", vk_move(table, sizeof table, masks, 3, cells, 34, add), &masks[1]);
-    vk_improve_answer best = vk_improve(table, sizeof table, masks, 3, cells, 34, scratch, 34, 2);
+    print("undo", vk_undo(table, sizeof table, masks, 3, cells, 34, journal, 2, &count), &masks[1]);
+    print("undo again", vk_undo(table, sizeof table, masks, 3, cells, 34, journal, 2, &count), &masks[1]);
+    vk_improve_answer best = vk_improve(table, sizeof table, masks, 3, cells, 34, scratch, 34, journal, 2, &count, 2);
     printf("improve by drops: number %u, found %u, kind %u, set %u, port %u, before %u, after %u\n", best.number, best.found,
            best.move.kind, best.move.s, best.move.p, best.before, best.after);
 

@@ -1,5 +1,5 @@
-/* Vuyekhang: a planning engine for the ports of a cabinet, proved in Rattle. Version 0.4: read, write, load, a node's cells, move,
- * trial, improve and the list of best moves.
+/* Vuyekhang: a planning engine for the ports of a cabinet, proved in Rattle. Version 0.5: read, write, load, a node's cells, move,
+ * trial, improve, undo and the list of best moves.
  *
  * Link target/staticlib/libvuyekhang.a, which `rt staticlib vuyekhang` writes (x86-64, Linux). Each function is proved to meet its
  * contract in crates/vuyekhang/src/lib.rt for every value of its arguments; none keeps anything between two calls. A caller
@@ -12,16 +12,17 @@
  * Grounds: 1 text over 4,096 bytes; 2 a byte of no token, space or line end; 3 outside the grammar; 4 more than 64 of `(`, `~` and
  * quantifiers around one token; 5 set undeclared, declared twice or a seventeenth, variable unbound or bound again within its
  * reach; 6 constant above 64; 7 a fourth enclosing quantifier; 8 core over 512 nodes; 9 more than 1,048,576 cells; 10 u outside
- * 1 to 64; 11 plan table breaks a rule or is cut short; 12 cell, scratch, mask or output table too short; 13 a mask with a port of
- * u or more; 14 unknown kind, set, port or kinds sum, or an unused field not 0; 15 illegal move; 16 the list of moves too short;
- * 17 the written text would meet 1 or 4. */
+ * 1 to 64; 11 plan table breaks a rule or is cut short; 12 cell, scratch, mask or output table too short, or a record count past
+ * the journal's length or past 1,024; 13 a mask with a port of u or more; 14 unknown kind, set, port or kinds sum, or an unused
+ * field not 0; 15 illegal move; 16 the list of moves too short; 17 the written text would meet 1 or 4; 18 the journal is full;
+ * 19 undo on an empty journal. */
 #ifndef VUYEKHANG_H
 #define VUYEKHANG_H
 
 #include <stddef.h>
 #include <stdint.h>
 
-#define VK_VERSION "0.4"
+#define VK_VERSION "0.5"
 
 #ifdef __cplusplus
 extern "C" {
@@ -35,6 +36,9 @@ extern "C" {
 
 /* No plan ever has more legal moves than this, so that a list of so many records never meets 16. */
 #define VK_MOST_MOVES 21504
+
+/* A journal is full at this many records, however long it is. */
+#define VK_MOST_RECORDS 1024
 
 /* Number, node count, cell total. */
 typedef struct {
@@ -93,14 +97,23 @@ typedef struct {
     uint32_t number, before, after, changed;
 } vk_move_answer;
 
-/* Makes a move: writes its masks and the touched cells in place. Tries 11, then 12 (fewer masks than sets, or fewer cells than the
- * plan's total), then 13, 14 and 15. The cells are taken as they are: after a vk_load and nothing but these calls each is its
- * penalty. */
+/* Makes a move: writes its masks and the touched cells in place, and the move into the journal. The first *journal_count records are
+ * the moves that were made and not taken back, the newest last: the caller begins with 0 and lends both on to every call. The move
+ * is written at the old count, the count is then one more, and every other record stays. Tries 11, then 12 (fewer masks than sets,
+ * fewer cells than the plan's total, or a count past journal_len, in records, or past 1,024), then 13, 14, 15, then 18 (the count is
+ * journal_len or 1,024). The cells are taken as they are: after a vk_load and nothing but these calls each is its penalty. */
 vk_move_answer vk_move(const uint8_t *table, size_t table_len, uint64_t *masks, size_t masks_len, uint32_t *cells,
-                       size_t cells_len, vk_move_record move);
+                       size_t cells_len, vk_move_record *journal, size_t journal_len, size_t *journal_count, vk_move_record move);
 
-/* What vk_move would answer, with masks and cells kept. Scratch has as many cells as the plan or more (else 12); what an accepted
- * call leaves in so many of them is not said. */
+/* Takes the newest move of the journal back: makes its opposite (drop for add, add for drop; a transfer from t to s; a swap with p
+ * and q exchanged), answers as vk_move would for that, and lowers the count by one. No record is written. Tries 11 to 13 as vk_move
+ * does, then 19 (the count is 0), then 14 (of the record) and 15 (of its opposite). After a vk_load and nothing but these calls,
+ * masks and cells are those before the move. */
+vk_move_answer vk_undo(const uint8_t *table, size_t table_len, uint64_t *masks, size_t masks_len, uint32_t *cells,
+                       size_t cells_len, const vk_move_record *journal, size_t journal_len, size_t *journal_count);
+
+/* What vk_move would answer with room in its journal, with masks and cells kept. Scratch has as many cells as the plan or more (else
+ * 12); what an accepted call leaves in so many of them is not said. */
 vk_move_answer vk_trial(const uint8_t *table, size_t table_len, const uint64_t *masks, size_t masks_len, const uint32_t *cells,
                         size_t cells_len, uint32_t *scratch, size_t scratch_len, vk_move_record move);
 
@@ -113,14 +126,16 @@ typedef struct {
 } vk_improve_answer;
 
 /* Makes the first of the legal moves of some kinds that leave the least root, if that is smaller than now. Kinds is a sum of 1 add,
- * 2 drop, 4 transfer, 8 swap. Tries 11 to 13 as vk_trial does, then 14 (kinds 0 or above 15). Scratch as for vk_trial. */
+ * 2 drop, 4 transfer, 8 swap. The move goes into the journal as vk_move's does. Tries 11 to 13 as vk_move and vk_trial do, then 14
+ * (kinds 0 or above 15), then 18, but only where it would make a move. Scratch as for vk_trial. */
 vk_improve_answer vk_improve(const uint8_t *table, size_t table_len, uint64_t *masks, size_t masks_len, uint32_t *cells,
-                             size_t cells_len, uint32_t *scratch, size_t scratch_len, uint32_t kinds);
+                             size_t cells_len, uint32_t *scratch, size_t scratch_len, vk_move_record *journal, size_t journal_len,
+                             size_t *journal_count, uint32_t kinds);
 
 /* Lists the legal moves of some kinds that leave the least root, as vk_trial would answer it, each once and in order, also where
- * that root is not smaller than now; 0 of them where none is legal. Tries 11 to 14 as vk_improve does, then 16 (list_len, in
- * records, is below the count). Masks and cells are kept, and so are the list's records past the count. Scratch as for vk_trial. It takes some
- * 100 KB of stack. */
+ * that root is not smaller than now; 0 of them where none is legal. Tries 11 to 13 as vk_trial does, then 14 (kinds), then 16
+ * (list_len, in records, is below the count). Masks and cells are kept, and so are the list's records past the count. Scratch as for
+ * vk_trial. It takes some 100 KB of stack. */
 vk_count_answer vk_best_moves(const uint8_t *table, size_t table_len, const uint64_t *masks, size_t masks_len,
                               const uint32_t *cells, size_t cells_len, uint32_t *scratch, size_t scratch_len, uint32_t kinds,
                               vk_move_record *list, size_t list_len);

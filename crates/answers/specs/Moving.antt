@@ -1,11 +1,11 @@
--- What vk_move, vk_trial, vk_improve and vk_best_moves give: the fields of the C structs by the answer definitions of the calls, and the tables
--- afterwards.
+-- What vk_move, vk_trial, vk_improve, vk_best_moves and vk_undo give: the fields of the C structs by the answer definitions of the calls, and
+-- the tables and the journal afterwards.
 use mathlib.Core.Path.{_≡_}
 use mathlib.Core.List.{List, _++_, map}
 use Prim.Native.Nat.{ℕ}
 use lib.ListN.{length, drop}
 use Rattle.table_format.specs.Decode.{Decoded}
-use Rattle.contracts.specs.State.{State}
+use Rattle.contracts.specs.Journal.{Journaled}
 use Rattle.contracts.specs.MoveCall.{MoveValues}
 use Rattle.contracts.specs.TrialCall.{ScratchAfter}
 use Rattle.contracts.specs.ImproveCall.{ImproveValues}
@@ -23,10 +23,10 @@ pub record MoveFields (v : MoveValues) (r : MoveAnswer) : Type 0 where
   pub after-is : r .after ≡ v .after
   pub changed-is : r .changed ≡ v .changed
 
--- The struct, every mask and every cell afterwards.
-pub record MoveGives (given : MoveValues × State) (r : MoveAnswer) (s′ : State) : Type 0 where
+-- The struct, every mask, cell and record and the record count afterwards, of a move and of an undo.
+pub record MoveGives (given : MoveValues × Journaled) (r : MoveAnswer) (x′ : Journaled) : Type 0 where
   pub fields : MoveFields (given .0) r
-  pub tables-are : s′ ≡ given .1
+  pub lent-are : x′ ≡ given .1
 
 -- The struct, and scratch afterwards: on refusal as it was, and never written past the plan's own cells.
 pub record TrialGives (d : Decoded) (given : MoveValues) (r : MoveAnswer) (scratch scratch′ : List ℕ) : Type 0 where
@@ -42,10 +42,10 @@ pub record ImproveFields (v : ImproveValues) (r : ImproveAnswer) : Type 0 where
   pub after-is : r .after ≡ v .after
   pub changed-is : r .changed ≡ v .changed
 
--- The struct, every mask, every cell and scratch afterwards.
-pub record ImproveGives (d : Decoded) (given : ImproveValues × State) (r : ImproveAnswer) (s′ : State) (scratch scratch′ : List ℕ) : Type 0 where
+-- The struct, every mask, cell and record, the record count and scratch afterwards.
+pub record ImproveGives (d : Decoded) (given : ImproveValues × Journaled) (r : ImproveAnswer) (x′ : Journaled) (scratch scratch′ : List ℕ) : Type 0 where
   pub fields : ImproveFields (given .0) r
-  pub tables-are : s′ ≡ given .1
+  pub lent-are : x′ ≡ given .1
   pub scratch-is : ScratchAfter d (r .number) scratch scratch′
 
 -- The struct, every record of the lent list and scratch afterwards.

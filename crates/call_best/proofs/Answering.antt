@@ -1,6 +1,6 @@
 -- The answers of the call that lists the best moves, by the grounds in the order in which the code tries them. Assumes nothing.
 use mathlib.Core.Path.{_≡_, refl, sym, ap, _∙_}
-use mathlib.Core.Bool.{Bool, true, false, cond}
+use mathlib.Core.Bool.{Bool, true, false, cond, not}
 use mathlib.Core.List.{List, [], _∷_, _++_, append-nil, map}
 use Prim.Native.Nat.{ℕ, zero, suc, min, _≤_, _<_}
 use native.Mathlib.Omega.{arith}
@@ -22,7 +22,7 @@ use Rattle.contracts.proofs.Calls.{call-refused, call-accepted}
 use Rattle.contracts.proofs.Candidates.{in-candidate}
 use Rattle.contracts.proofs.Best.{best-is}
 use Rattle.call_open.specs.inner.Opening.{openNumber}
-use Rattle.call_open.proofs.Opening.{two-tables, shut-first}
+use Rattle.call_open.proofs.Opening.{two-tables, Tries, tries-tables}
 use Rattle.call_open.proofs.OfKinds.{kinds-unknown, kinds-pass}
 use Rattle.logic.specs.inner.MoveFields.{Sized}
 use Rattle.move_order.specs.inner.Stepping.{place}
@@ -76,12 +76,15 @@ module _ (d : Decoded) (kinds : ℕ) (masks cells : List ℕ) (scratch : ℕ) (l
         list-is = sym (ap (λ (x : Listing). map moveRecord (x .1) ++ drop (length (x .1)) list) q);
       }
 
+  tried : Tries d masks (min (length cells) scratch) (λ Q k. (14, not (kindsKnown kinds)) ∷ (16, ltb (length list) (length (bestMoves Q kinds (ownTables Q before)))) ∷ [])
+      (bestGrounds d before (scratch ∷ []) kinds (length list))
+  unfolding bestGrounds
+  tried = tries-tables d before (min (length cells) scratch) (scratch ∷ []) _ (two-tables (length cells) scratch)
+
   -- 11 to 13
   pub list-shut : (n : ℕ) → (n ≡ 0 → ⊥) → n ≡ openNumber d masks (min (length cells) scratch) → ListPromise given (Refused n) list list
-  unfolding bestGrounds
   list-shut zero h q = absurd (h refl)
-  list-shut (suc g) h q =
-      refused (suc g) h (shut-first before (min (length cells) scratch) (scratch ∷ []) _ (two-tables (length cells) scratch) d g q)
+  list-shut (suc g) h q = refused (suc g) h (tried .shut g q)
 
   module _ (P : Plan) (e : d ≡ sound P) (opens : openNumber d masks (min (length cells) scratch) ≡ 0) where
     abbrev own : State
@@ -89,20 +92,13 @@ module _ (d : Decoded) (kinds : ℕ) (masks cells : List ℕ) (scratch : ℕ) (l
 
     -- 14
     pub list-unknown : kindsKnown kinds ≡ false → ListPromise given (Refused 14) list list
-    unfolding bestGrounds
-    list-unknown h =
-        refused 14 (λ z. omega arith)
-        (kinds-unknown before (min (length cells) scratch) (scratch ∷ []) (two-tables (length cells) scratch) kinds
-        (λ Q k. (16, ltb (length list) (length (bestMoves Q kinds (ownTables Q before)))) ∷ []) d P e opens h)
+    list-unknown h = refused 14 (λ z. omega arith) (kinds-unknown kinds tried P e opens h)
 
     module _ (known-kinds : kindsKnown kinds ≡ true) (c : Choice) (chooses : BestIs (bestMoves P kinds own) P own c) (count : ℕ) (counts : count ≡ c .count) where
       -- 16
       number : (b : Bool) → ltb (length list) (length (bestMoves P kinds own)) ≡ b → refusal (bestGrounds d before (scratch ∷ []) kinds (length list)) ≡ cond b 16 0
-      unfolding bestGrounds refusal
-      number b h =
-          kinds-pass before (min (length cells) scratch) (scratch ∷ []) (two-tables (length cells) scratch) kinds
-          (λ Q k. (16, ltb (length list) (length (bestMoves Q kinds (ownTables Q before)))) ∷ []) d P e opens known-kinds
-          ∙ ap (λ (x : Bool). cond x 16 0) h
+      unfolding refusal
+      number b h = kinds-pass kinds tried P e opens known-kinds ∙ ap (λ (x : Bool). cond x 16 0) h
 
       many : count ≡ length (bestMoves P kinds own)
       many = counts ∙ count-is P own c (bestMoves P kinds own) chooses

@@ -1,8 +1,10 @@
 // The call improve: the first of the best legal moves of some kinds, made if it leaves a smaller root than now. Paper 01, section One
-// move; paper 02, request 2026-01.
+// move; paper 02, requests 2026-01 and 2026-03.
 use answers::made;
 use call_open::open_tables;
 use contracts::Improved;
+use journal_rules::cells_lent;
+use journal_rules::is_full;
 use logic::lesser;
 use move_best::choose;
 use move_make::carry;
@@ -26,25 +28,29 @@ fn lowers(c: Choice, root: u32) -> bool
     false
 }
 
-// Improve: tries 11 to 14; chooses, and makes what lowers the root.
+// Improve, over a journal of some length: tries 11 to 14; chooses, and makes what lowers the root, for which it needs room in the journal.
+// It raises the record count; the record is the caller's to write, at the old count.
 pub fn improve(
     table: &[u8],
     masks: &mut [u64],
     cells: &mut [u32],
     scratch: &mut [u32],
+    room: usize,
+    count: &mut usize,
     kinds: u32,
 ) -> Improved
-    ensures answer { λ r. ⌜ ImprovePromise (improves (decode (now (table .entry))) kinds (tables (now (masks .entry)) (now (cells .entry))) (length (now (scratch .entry)))) r (tables (now (masks .exit)) (now (cells .exit))) ⌝ }
+    ensures answer { λ r. ⌜ ImprovePromise (improves (decode (now (table .entry))) kinds (tables (now (masks .entry)) (now (cells .entry))) (length (now (scratch .entry))) room (now (count .entry))) (now (count .entry)) r (tables (now (masks .exit)) (now (cells .exit))) (now (count .exit)) ⌝ }
     ensures lent { λ r. ⌜ ScratchAfter (decode (now (table .entry))) (improveValues r .number) (now (scratch .entry)) (now (scratch .exit)) ⌝ }
 {
     let mut firsts = [0u32; 512];
     let mut ends = [0u16; 512];
     let mut uses = [0u64; 512];
+    let at = *count;
     let shortest = lesser(cells.len(), scratch.len());
     let o = open_tables(
         table,
         &masks[..],
-        shortest,
+        cells_lent(room, at, shortest),
         &mut firsts,
         &mut ends,
         &mut uses,
@@ -72,6 +78,10 @@ pub fn improve(
     if !lowers(c, root) {
         return Improved::NoBetter { root: root };
     }
+    if is_full(room, at) {
+        return Improved::Refused(18);
+    }
+    *count = at + 1;
     made(
         c.m,
         carry(

@@ -1,32 +1,38 @@
 -- One call more at the end of a run. Assumes nothing.
 use mathlib.Core.Path.{_≡_, refl, sym, ap, ap₂, _∙_, subst}
 use mathlib.Core.Bool.{Bool, true, false}
-use mathlib.Core.List.{List, [], _∷_, _++_, append-assoc, append-nil, map}
-use Prim.Native.Nat.{ℕ, suc, _+_, _-_, _*_, _≤_, _<_, min}
+use mathlib.Core.List.{List, [], _∷_, _++_, append-assoc, append-nil}
+use Prim.Native.Nat.{ℕ, suc, _+_, _-_, _*_, _≤_, _<_}
 use native.Mathlib.Nat.{lt-of-not-le}
 use native.Mathlib.Decide.{decLe}
 use native.Mathlib.Omega.{arith}
-use lib.ListN.{length, take, drop, length-append, length-drop, take-append-drop, length-map}
-use lib.Seq.{take-all, length-take-le, drop-drop, drop-append-le}
+use lib.ListN.{length, getD, set, drop, length-append, length-drop}
+use lib.Seq.{take-all, drop-drop}
 use Rattle.logic.specs.declared.Move.{Move}
+use Rattle.logic.specs.Moves.{noMove}
 use Rattle.logic.proofs.Lent.{lent, back, lent-is, back-is}
-use Rattle.contracts.specs.State.{State}
-use Rattle.contracts.specs.BestCall.{moveRecord}
-use Rattle.contracts.specs.Lists.{Asked, Exchange, moveCall, trialCall, improveCall, bestCall, step, run}
 use Rattle.table_format.specs.Decode.{Decoded, decode}
-use Rattle.call_list.specs.Scratch.{ScratchRun, kept}
+use Rattle.contracts.specs.State.{State}
+use Rattle.contracts.specs.Journal.{Journaled}
+use Rattle.contracts.specs.Lists.{Asked, Exchange, moveCall, trialCall, improveCall, bestCall, undoCall, step, run}
+use Rattle.journal_rules.specs.inner.Counting.{placeOf}
+use Rattle.call_numbers.specs.Encoding.{Encodes, Unknown, SayAll, tenNumbers, movedNumbers, improvedNumbers, countedNumbers, answerNumbers, allNumbers, listOne, listAfter}
+use Rattle.call_one.specs.declared.One.{One}
+use Rattle.call_one.specs.Scratch.{ScratchRun, kept}
+use Rattle.call_one.specs.Lending.{Lent, lends}
+use Rattle.call_one.specs.inner.Steps.{OneWorked, NoneWorked, OneAfter, OneOver}
+use Rattle.call_one.proofs.OneCall.{held}
+use Rattle.call_list.specs.Working.{Worked, Stopped, atEnd, notWhole, unknownTag}
+use Rattle.call_list.specs.inner.Next.{NextFits}
 use Rattle.call_list.proofs.Scratch.{scratch-snoc, scratch-length}
-use Rattle.call_list.specs.Encoding.{Encodes, Unknown, SayAll, tenNumbers, movedNumbers, improvedNumbers, countedNumbers, answerNumbers, allNumbers, listOne, listAfter}
-use Rattle.call_list.specs.Working.{Lent, lends, Worked, Stopped, atEnd, notWhole, unknownTag}
-use Rattle.call_list.specs.inner.Steps.{OneWorked, NoneWorked, OneAfter, NextFits}
 
 -- a run and a step after it
-run-snoc : (d : Decoded) (s : State) (cs : List Asked) (c : Asked) → (let r = run d s cs in let x = step d (r .1) c in
+run-snoc : (d : Decoded) (s : Journaled) (cs : List Asked) (c : Asked) → (let r = run d s cs in let x = step d (r .1) c in
     run d s (cs ++ c ∷ []) ≡ (r .0 ++ x .0 ∷ [], x .1))
 unfolding run
 run-snoc d s [] c = refl
 run-snoc d s (first ∷ cs) c =
-    ap (λ (q : List Exchange × State). (step d s first .0 ∷ q .0, q .1)) (run-snoc d (step d s first .1) cs c)
+    ap (λ (q : List Exchange × Journaled). (step d s first .0 ∷ q .0, q .1)) (run-snoc d (step d s first .1) cs c)
 
 -- a call said behind others
 say-snoc : (n k : ℕ) (numbers : List ℕ) (cs : List Asked) (c : Asked) → SayAll n k numbers cs → Encodes n k (drop (7 * length cs) numbers) c
@@ -51,6 +57,7 @@ length-numbers (moveCall m r) = refl
 length-numbers (trialCall m scratch r) = refl
 length-numbers (improveCall kinds scratch r) = refl
 length-numbers (bestCall kinds scratch room r) = refl
+length-numbers (undoCall r) = refl
 
 length-all : (xs : List Exchange) → length (allNumbers xs) ≡ 10 * length xs
 unfolding allNumbers
@@ -66,7 +73,7 @@ all-snoc (first ∷ xs) x =
     ∙ sym (append-assoc (answerNumbers first) (allNumbers xs) (answerNumbers x))
 
 -- as many answers as calls
-run-length : (d : Decoded) (s : State) (cs : List Asked) → length (run d s cs .0) ≡ length cs
+run-length : (d : Decoded) (s : Journaled) (cs : List Asked) → length (run d s cs .0) ≡ length cs
 unfolding run
 run-length d s [] = refl
 run-length d s (c ∷ cs) = ap suc (run-length d (step d s c .1) cs)
@@ -74,16 +81,6 @@ run-length d s (c ∷ cs) = ap suc (run-length d (step d s c .1) cs)
 -- a part lent up to the end
 lent-all : (at : ℕ) (xs : List ℕ) → lent at xs ≡ drop at xs
 lent-all at xs = take-all (length xs - at) (drop at xs) (omega (arith, length-drop at xs))
-
--- a list of which the first records are lent, and given back with some of them written
-pub list-back : (ms : List Move) (l part : List (List ℕ)) (r : ℕ) → r ≤ length l → length part ≡ length (take r l)
-    → part ≡ map moveRecord ms ++ drop (length ms) (take r l) → part ++ drop r l ≡ map moveRecord ms ++ drop (length ms) l
-list-back ms l part r h e q =
-    let few : length ms ≤ length (take r l) =
-    omega (arith, ap length q, length-append (map moveRecord ms) (drop (length ms) (take r l)), length-drop (length ms) (take r l), length-map ms moveRecord, e) in
-    ap (λ (ks : List (List ℕ)). ks ++ drop r l) q
-    ∙ append-assoc (map moveRecord ms) (drop (length ms) (take r l)) (drop r l)
-    ∙ ap (λ (ks : List (List ℕ)). map moveRecord ms ++ ks) (sym (drop-append-le (length ms) (take r l) (drop r l) few) ∙ ap (drop (length ms)) (take-append-drop r l))
 
 -- before the first call
 pub none-yet : (bytes calls : List ℕ) (b : Lent) → Worked bytes calls b 0 b
@@ -141,10 +138,10 @@ module _ (bytes calls : List ℕ) (b : Lent) (count : ℕ) (a : Lent) (w : Worke
         let next : 10 * count + 10 ≡ 10 * (count + 1) = omega arith in
         let old = run (decode bytes) (b .tables) (w .asked) in
         let y = step (decode bytes) (a .tables) (o .asked) in
-        let z : step (decode bytes) (old .1) (o .asked) ≡ y = ap (λ (t : State). step (decode bytes) t (o .asked)) (sym (w .tables-are)) in
+        let z : step (decode bytes) (old .1) (o .asked) ≡ y = ap (λ (t : Journaled). step (decode bytes) t (o .asked)) (sym (w .tables-are)) in
         let r : run (decode bytes) (b .tables) (w .asked ++ o .asked ∷ []) ≡ (old .0 ++ y .0 ∷ [], y .1) =
-        run-snoc (decode bytes) (b .tables) (w .asked) (o .asked) ∙ ap (λ (q : Exchange × State). (old .0 ++ q .0 ∷ [], q .1)) z in
-        let xs = ap (λ (q : List Exchange × State). q .0) r in
+        run-snoc (decode bytes) (b .tables) (w .asked) (o .asked) ∙ ap (λ (q : Exchange × Journaled). (old .0 ++ q .0 ∷ [], q .1)) z in
+        let xs = ap (λ (q : List Exchange × Journaled). q .0) r in
         record {
           asked = w .asked ++ o .asked ∷ [];
           whole = omega arith;
@@ -155,7 +152,7 @@ module _ (bytes calls : List ℕ) (b : Lent) (count : ℕ) (a : Lent) (w : Worke
               (lent-all (7 * count) calls ∙ ap (λ (j : ℕ). drop (7 * j) calls) (sym (w .worked)))
               (subst (λ (n : ℕ). Encodes n (length (b .list)) (lent (7 * count) calls) (o .asked)) as-long
               (subst (λ (n : ℕ). Encodes (length (a .scratch)) n (lent (7 * count) calls) (o .asked)) long (o .says))));
-          tables-are = o .tables-are ∙ sym (ap (λ (q : List Exchange × State). q .1) r);
+          tables-are = o .tables-are ∙ sym (ap (λ (q : List Exchange × Journaled). q .1) r);
           scratch-run =
               subst (λ (es : List Exchange). ScratchRun (decode bytes) (b .scratch) es (x .scratch)) (sym xs)
               (scratch-snoc (decode bytes) (b .scratch) (a .scratch) (x .scratch) (old .0) (y .0) (w .scratch-run) (o .scratch-step));
@@ -190,15 +187,36 @@ module _ (bytes calls : List ℕ) (b : Lent) (count : ℕ) (a : Lent) (w : Worke
       pub stopped-there : 7 * count + 7 ≤ length calls → 10 * count + 10 ≤ length (b .answers) → Stopped calls (length (b .answers)) count
       stopped-there whole room = unknownTag whole room (subst Unknown (lent-all (7 * count) calls) (o .unknown))
 
--- by the answer of the leaf
-module _ (r : Bool) (bytes call : List ℕ) (b a : Lent) where
-  pub after-true : r ≡ true → OneAfter r bytes call b a → OneWorked bytes call b a
-  unfolding OneAfter
-  after-true e h = subst (λ (x : Bool). OneAfter x bytes call b a) e h
+-- one call over the journal that is lent, of which it saw the length and the newest record
+module _ (bytes call : List ℕ) (r : One) (room : ℕ) (newest : Move) (n : ℕ) (s : State) (scratch : List ℕ) (list : List (List ℕ)) (answer : List ℕ)
+    (n′ : ℕ) (s′ : State) (scratch′ : List ℕ) (list′ : List (List ℕ)) (answer′ : List ℕ) (records : List Move) (place : ℕ)
+    (o : OneOver r bytes call room newest n (λ xs. lends (held s xs n) scratch list answer) n′ (λ xs. lends (held s′ xs n′) scratch′ list′ answer′))
+    (room-is : length records ≡ room) (newest-is : newest ≡ getD records place noMove) (place-is : place ≡ n - 1) where
+  abbrev before : Lent
+  before = lends (held s records n) scratch list answer
 
-  pub after-false : r ≡ false → OneAfter r bytes call b a → NoneWorked call b a
+  abbrev after : List Move → Lent
+  after xs = lends (held s′ xs n′) scratch′ list′ answer′
+
+  there : OneAfter (r .known) bytes call before (after (set records (placeOf n n′ room) (r .recorded)))
+  unfolding OneOver
+  there = o records record { room-is = room-is; newest-is = sym (newest-is ∙ ap (λ (k : ℕ). getD records k noMove) place-is) }
+
+  -- its record was put where it belongs
+  pub worked-at : (to : ℕ) (records′ : List Move) → r .known ≡ true → to ≡ placeOf n n′ room → records′ ≡ set records to (r .recorded)
+      → OneWorked bytes call before (after records′)
   unfolding OneAfter
-  after-false e h = subst (λ (x : Bool). OneAfter x bytes call b a) e h
+  worked-at to records′ e t q =
+      subst (λ (xs : List Move). OneWorked bytes call before (after xs)) (sym (q ∙ ap (λ (k : ℕ). set records k (r .recorded)) t))
+      (subst (λ (b : Bool). OneAfter b bytes call before (after (set records (placeOf n n′ room) (r .recorded)))) e there)
+
+  -- its tag was unknown, and no record is put
+  pub none-at : r .known ≡ false → NoneWorked call before (after records)
+  unfolding OneAfter
+  none-at e =
+      let h : NoneWorked call before (after (set records (placeOf n n′ room) (r .recorded))) =
+      subst (λ (b : Bool). OneAfter b bytes call before (after (set records (placeOf n n′ room) (r .recorded)))) e there in
+      record { unknown = h .unknown; kept = ap after (sym (ap (λ (l : Lent). l .tables .journal .records) (h .kept))) ∙ h .kept }
 
 pub fits-true : (r : Bool) (calls answers : List ℕ) (count : ℕ) → r ≡ true → NextFits r calls answers count
     → (7 * count + 7 ≤ length calls) × (10 * count + 10 ≤ length answers)
@@ -217,19 +235,16 @@ too-few calls room count h l = go (decLe (length calls) (7 * count))
     go (yes k) = atEnd (omega arith)
     go (no f) = notWhole (lt-of-not-le f) (omega arith)
 
--- the cells of scratch, or the records of the list, that a call gets
-pub part-lent : {A : Type 0} (xs : List A) (asked x n : ℕ) → x ≡ asked → n ≡ min x (length xs) → length (take (n - 0) xs) ≡ min asked (length xs)
-part-lent xs asked x n e h = length-take-le (n - 0) xs (omega arith) ∙ omega arith
-
--- What holds before each call: the calls so far were worked, and masks, cells and the list are as long as at the outset.
+-- What holds before each call: the calls so far were worked, and masks, cells, the journal and the list are as long as at the outset.
 pub record Going (bytes calls : List ℕ) (b : Lent) (count : ℕ) (a : Lent) : Type 0 where
   pub so-far : Worked bytes calls b count a
-  pub masks-length : length (a .tables .masks) ≡ length (b .tables .masks)
-  pub cells-length : length (a .tables .cells) ≡ length (b .tables .cells)
+  pub masks-length : length (a .tables .tables .masks) ≡ length (b .tables .tables .masks)
+  pub cells-length : length (a .tables .tables .cells) ≡ length (b .tables .tables .cells)
+  pub journal-length : length (a .tables .journal .records) ≡ length (b .tables .journal .records)
   pub list-length : length (a .list) ≡ length (b .list)
 
 pub outset : (bytes calls : List ℕ) (b : Lent) → Going bytes calls b 0 b
-outset bytes calls b = record { so-far = none-yet bytes calls b; masks-length = refl; cells-length = refl; list-length = refl }
+outset bytes calls b = record { so-far = none-yet bytes calls b; masks-length = refl; cells-length = refl; journal-length = refl; list-length = refl }
 
 module _ (bytes calls : List ℕ) (b : Lent) (count : ℕ) (a : Lent) (g : Going bytes calls b count a) where
   pub same-answers : length (a .answers) ≡ length (b .answers)
@@ -250,28 +265,25 @@ module _ (bytes calls : List ℕ) (b : Lent) (count : ℕ) (a : Lent) (g : Going
     rw (lent-all (10 * count) (a .answers)) (rw (length-drop (10 * count) (a .answers)) (omega arith)),
   )
 
-  module _ (x : Lent) (r : Bool) (o : OneAfter r bytes (lent (7 * count) calls) (lentOn count a) x)
-      (fits : (7 * count + 7 ≤ length calls) × (10 * count + 10 ≤ length (a .answers))) where
-    pub goes-on : r ≡ true → length (x .tables .masks) ≡ length (a .tables .masks) → length (x .tables .cells) ≡ length (a .tables .cells)
-        → length (x .list) ≡ length (a .list) → Going bytes calls b (count + 1) (backOn count a x)
-    goes-on e lm lc ll = record {
-      so-far =
-          one-more bytes calls b count a (g .so-far) x (g .list-length) (after-true r bytes (lent (7 * count) calls) (lentOn count a) x e o)
-          (fits .0) (omega (arith, fits .1, same-answers));
+  module _ (x : Lent) (fits : (7 * count + 7 ≤ length calls) × (10 * count + 10 ≤ length (a .answers))) where
+    pub goes-on : OneWorked bytes (lent (7 * count) calls) (lentOn count a) x
+        → length (x .tables .tables .masks) ≡ length (a .tables .tables .masks) → length (x .tables .tables .cells) ≡ length (a .tables .tables .cells)
+        → length (x .tables .journal .records) ≡ length (a .tables .journal .records) → length (x .list) ≡ length (a .list)
+        → Going bytes calls b (count + 1) (backOn count a x)
+    goes-on o lm lc lj ll = record {
+      so-far = one-more bytes calls b count a (g .so-far) x (g .list-length) o (fits .0) (omega (arith, fits .1, same-answers));
       masks-length = lm ∙ g .masks-length;
       cells-length = lc ∙ g .cells-length;
+      journal-length = lj ∙ g .journal-length;
       list-length = ll ∙ g .list-length;
     }
 
-    module _ (e : r ≡ false) where
-      nothing-done : NoneWorked (lent (7 * count) calls) (lentOn count a) x
-      nothing-done = after-false r bytes (lent (7 * count) calls) (lentOn count a) x e o
-
+    module _ (o : NoneWorked (lent (7 * count) calls) (lentOn count a) x) where
       pub worked-there : Worked bytes calls b count (backOn count a x)
-      worked-there = none-more bytes calls b count a (g .so-far) x nothing-done
+      worked-there = none-more bytes calls b count a (g .so-far) x o
 
       pub unknown-there : Stopped calls (length (b .answers)) count
-      unknown-there = stopped-there bytes calls b count a (g .so-far) x nothing-done (fits .0) (omega (arith, fits .1, same-answers))
+      unknown-there = stopped-there bytes calls b count a (g .so-far) x o (fits .0) (omega (arith, fits .1, same-answers))
 
       pub answers-there : length (backOn count a x .answers) ≡ length (b .answers)
       answers-there = answers-length bytes calls b count (backOn count a x) worked-there

@@ -1,5 +1,4 @@
 -- Laws.
 pub mod Extending
-pub mod OneCall
 pub mod Scratch
-pub mod Telling
+pub mod Plans

@@ -1,52 +1,19 @@
 -- Laws of the scratch table through a list of calls. Assumes nothing.
-use mathlib.Core.Path.{_≡_, refl, sym, ap, ap₂, _∙_, subst}
+use mathlib.Core.Path.{_≡_, refl, sym, ap, _∙_}
 use mathlib.Core.List.{List, [], _∷_, _++_}
 use Prim.Native.Nat.{ℕ, zero, suc, _+_}
 use native.Mathlib.Omega.{arith}
 use lib.ListN.{length, take, drop, length-append, take-append-drop}
-use lib.Seq.{take-append-seam, drop-append-seam, take-at, drop-at}
-use Rattle.logic.specs.declared.Move.{Move}
 use Rattle.table_format.specs.Decode.{Decoded}
-use Rattle.contracts.specs.TrialCall.{scratchOwn, ScratchAfter}
-use Rattle.contracts.specs.Lists.{Exchange, moveCall}
-use Rattle.contracts.specs.MoveCall.{MoveValues}
-use Rattle.call_list.specs.Scratch.{lentTo, answerNumber, ScratchOne, ScratchRun, kept, passed}
+use Rattle.contracts.specs.TrialCall.{scratchOwn}
+use Rattle.contracts.specs.Lists.{Exchange}
+use Rattle.call_one.specs.Scratch.{lentTo, ScratchOne, ScratchRun, kept, passed}
 
 -- a call more at the end
 pub scratch-snoc : (d : Decoded) (s s′ s″ : List ℕ) (xs : List Exchange) (x : Exchange)
     → ScratchRun d s xs s′ → ScratchOne d x s′ s″ → ScratchRun d s (xs ++ x ∷ []) s″
 scratch-snoc d s s′ s″ xs x kept o = passed o kept
 scratch-snoc d s s′ s″ xs x (passed {s′ = t} {xs = rest} y r) o = passed y (scratch-snoc d t s′ s″ rest x r o)
-
--- a move is lent none and writes none
-pub none-lent : (d : Decoded) (m : Move) (r : MoveValues) (s : List ℕ) → ScratchOne d (moveCall m r) s s
-unfolding lentTo
-none-lent d m r s = record {
-  front = refl;
-  written = record { same-length = refl; past = refl; refused = λ _. refl };
-  behind = refl;
-}
-
--- a call that is lent the first l cells, and gives them back
-module _ (d : Decoded) (s part : List ℕ) (l : ℕ) (x : Exchange) (e : lentTo x ≡ take l s)
-    (h : ScratchAfter d (answerNumber x) (take l s) part) where
-  whole : take l s ++ drop l s ≡ s
-  whole = take-append-drop l s
-
-  same : length part ≡ length (lentTo x)
-  same = h .same-length ∙ ap length (sym e)
-
-  pub front-lent : ScratchOne d x s (part ++ drop l s)
-  front-lent = record {
-    front =
-        ap₂ take (ap length e) (sym whole) ∙ take-append-seam (take l s) (drop l s) ∙ sym e;
-    written =
-        subst (λ (ys : List ℕ). ScratchAfter d (answerNumber x) (lentTo x) ys) (sym (take-at part (drop l s) (length (lentTo x)) same))
-        (subst (λ (ys : List ℕ). ScratchAfter d (answerNumber x) ys part) (sym e) h);
-    behind =
-        drop-at part (drop l s) (length (lentTo x)) same
-        ∙ sym (ap₂ drop (ap length e) (sym whole) ∙ drop-append-seam (take l s) (drop l s));
-  }
 
 -- what is equal from a place on is so with the same behind it
 same-drop : (j : ℕ) (a b c : List ℕ) → length a ≡ length b → drop j a ≡ drop j b → drop j (a ++ c) ≡ drop j (b ++ c)

@@ -1,4 +1,2 @@
-pub mod Encoding
-pub mod Scratch
 pub mod Working
 pub mod inner

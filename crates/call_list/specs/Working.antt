@@ -4,21 +4,10 @@ use mathlib.Core.List.{List, _++_}
 use Prim.Native.Nat.{ℕ, _+_, _*_, _≤_, _<_}
 use lib.ListN.{length, drop}
 use Rattle.table_format.specs.Decode.{decode}
-use Rattle.contracts.specs.State.{State}
 use Rattle.contracts.specs.Lists.{Asked, run}
-use Rattle.call_list.specs.Scratch.{ScratchRun}
-use Rattle.call_list.specs.Encoding.{Unknown, SayAll, allNumbers, listAfter}
-
--- What is lent to a list of calls: the tables that its calls share, scratch, a list for the best moves, and the room for the answers.
-pub record Lent : Type 0 where
-  pub tables : State
-  pub scratch : List ℕ
-  pub list : List (List ℕ)
-  pub answers : List ℕ
-
--- The same, one after the other.
-abbrev pub lends : State → List ℕ → List (List ℕ) → List ℕ → Lent
-lends s scratch list answers = record { tables = s; scratch = scratch; list = list; answers = answers }
+use Rattle.call_numbers.specs.Encoding.{Unknown, SayAll, allNumbers, listAfter}
+use Rattle.call_one.specs.Scratch.{ScratchRun}
+use Rattle.call_one.specs.Lending.{Lent}
 
 -- "Its contract gives, for every list, a run in the sense of the theorem whose calls are the list's and whose answers are the
 -- table's": the first `count` calls, their answers, and what stood behind those as it was. Scratch and the list of records go from call

@@ -1,2 +1,2 @@
 -- What only proofs and inner contracts use.
-pub mod Steps
+pub mod Next

@@ -1,56 +1,31 @@
-// The calls trial and move. Paper 01, section One move.
+// The call move. Paper 01, section One move; paper 02, request 2026-03.
 use answers::accepted;
 use call_open::open_tables;
 use contracts::Moved;
-use logic::MASK_ROOM;
+use journal_rules::cells_lent;
+use journal_rules::count_made;
+use journal_rules::is_full;
 use logic::Move;
-use logic::lesser;
-use logic::own_masks;
 use move_legal::move_number;
 use move_make::carry;
-use move_try::try_move;
-ghost use lib.ListN.{length};
 ghost use Rattle.table_format.specs.Decode.{decode};
 ghost use Rattle.contracts.specs.State.{tables};
-ghost use Rattle.contracts.specs.MoveCall.{moveValues, MovedAs, moves, MovePromise};
-ghost use Rattle.contracts.specs.TrialCall.{trials, ScratchAfter};
+ghost use Rattle.contracts.specs.MoveCall.{moves, MovePromise};
+ghost use Rattle.call_move.specs.inner.Making.{made, MadeAs};
 
-// Trial: tries 11 to 15; answers what the move would, and writes nothing.
-pub fn trial(table: &[u8], masks: &[u64], cells: &[u32], scratch: &mut [u32], m: Move) -> Moved
-    ensures answer { λ r. ⌜ MovedAs (trials (decode (now (table .entry))) m (tables (now (masks .entry)) (now (cells .entry))) (length (now (scratch .entry)))) r ⌝ }
-    ensures lent { λ r. ⌜ ScratchAfter (decode (now (table .entry))) (moveValues r .number) (now (scratch .entry)) (now (scratch .exit)) ⌝ }
-{
-    let mut firsts = [0u32; 512];
-    let mut ends = [0u16; 512];
-    let mut uses = [0u64; 512];
-    let shortest = lesser(cells.len(), scratch.len());
-    let o = open_tables(table, masks, shortest, &mut firsts, &mut ends, &mut uses);
-    if o.number != 0 {
-        return Moved::Refused(o.number);
-    }
-    let number = move_number(m, o.ports, o.sets, masks);
-    if number != 0 {
-        return Moved::Refused(number);
-    }
-    let mut work = [0u64; MASK_ROOM];
-    let own = own_masks(o.sets);
-    accepted(try_move(
-        table,
-        &firsts,
-        &ends,
-        &uses,
-        masks,
-        cells,
-        o.ports,
-        o.sets,
-        m,
-        &mut work[0..own],
-    ))
-}
-
-// A move: tries 11 to 15; writes its masks and the touched cells in place.
-pub fn make_move(table: &[u8], masks: &mut [u64], cells: &mut [u32], m: Move) -> Moved
-    ensures { λ r. ⌜ MovePromise (moves (decode (now (table .entry))) m (tables (now (masks .entry)) (now (cells .entry)))) r (tables (now (masks .exit)) (now (cells .exit))) ⌝ }
+// A move that a call makes over a journal of some length and record count: tries 11 to 13, 19 where the call needs a record and there
+// is none, 14 and 15, and 18 where it needs room and there is none; writes the move's masks and the touched cells in place.
+pub fn move_with(
+    table: &[u8],
+    masks: &mut [u64],
+    cells: &mut [u32],
+    room: usize,
+    count: usize,
+    empty: bool,
+    full: bool,
+    m: Move,
+) -> Moved
+    ensures { λ r. ⌜ MadeAs (made (decode (now (table .entry))) m (tables (now (masks .entry)) (now (cells .entry))) room count empty full) r (tables (now (masks .exit)) (now (cells .exit))) ⌝ }
 {
     let mut firsts = [0u32; 512];
     let mut ends = [0u16; 512];
@@ -58,7 +33,7 @@ pub fn make_move(table: &[u8], masks: &mut [u64], cells: &mut [u32], m: Move) ->
     let o = open_tables(
         table,
         &masks[..],
-        cells.len(),
+        cells_lent(room, count, cells.len()),
         &mut firsts,
         &mut ends,
         &mut uses,
@@ -66,9 +41,15 @@ pub fn make_move(table: &[u8], masks: &mut [u64], cells: &mut [u32], m: Move) ->
     if o.number != 0 {
         return Moved::Refused(o.number);
     }
+    if empty {
+        return Moved::Refused(19);
+    }
     let ground = move_number(m, o.ports, o.sets, &masks[..]);
     if ground != 0 {
         return Moved::Refused(ground);
+    }
+    if full {
+        return Moved::Refused(18);
     }
     accepted(carry(
         table,
@@ -81,4 +62,22 @@ pub fn make_move(table: &[u8], masks: &mut [u64], cells: &mut [u32], m: Move) ->
         o.sets,
         m,
     ))
+}
+
+// A move, over a journal of some length: tries 11 to 15 and 18, and raises the record count. The record is the caller's to write, at the
+// old count.
+pub fn make_move(
+    table: &[u8],
+    masks: &mut [u64],
+    cells: &mut [u32],
+    room: usize,
+    count: &mut usize,
+    m: Move,
+) -> Moved
+    ensures { λ r. ⌜ MovePromise (moves (decode (now (table .entry))) m (tables (now (masks .entry)) (now (cells .entry))) room (now (count .entry))) (now (count .entry)) r (tables (now (masks .exit)) (now (cells .exit))) (now (count .exit)) ⌝ }
+{
+    let at = *count;
+    let a = move_with(table, masks, cells, room, at, false, is_full(room, at), m);
+    *count = count_made(a, at);
+    a
 }

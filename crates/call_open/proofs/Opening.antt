@@ -18,8 +18,9 @@ use Rattle.table_format.proofs.Encoding.{decode-sound, one-plan}
 use Rattle.table_format.proofs.Ready.{ready}
 use Rattle.cells_walk.specs.inner.Root.{PlanIndex}
 use Rattle.contracts.specs.State.{State, tables}
-use Rattle.contracts.specs.Call.{planGrounds, tableGrounds, callGrounds}
-use Rattle.contracts.proofs.Calls.{LentEnough}
+use Rattle.contracts.specs.Journal.{countPast}
+use Rattle.contracts.specs.Call.{planGrounds, tableGrounds, tablesThen, callGrounds, journalGrounds}
+use Rattle.contracts.proofs.Calls.{LentEnough, count-past, count-within}
 use Rattle.call_open.specs.declared.Opened.{Opened}
 use Rattle.call_open.specs.inner.Opening.{cellsNumber, openNumber, OpensCells, OpenPlan, Opens}
 
@@ -56,6 +57,14 @@ module _ (bytes : List ℕ) (shortest : ℕ) (r : Opened) (x y z : List ℕ) whe
       };
     }
 
+-- the number of 11 to 13, by what each of them looks at
+number-of : (bytes masks : List ℕ) (shortest : ℕ) (P : Plan) → decode bytes ≡ sound P → (a b w : Bool) → ltb (length masks) (ownMasks P) ≡ a → ltb shortest (ownCells P) ≡ b
+    → allWithin (P .ports) (take (ownMasks P) masks) ≡ w → openNumber (decode bytes) masks shortest ≡ cond (a || (b || false)) 12 (cond (not w) 13 0)
+unfolding openNumber planGrounds tableGrounds refusal someOf
+number-of bytes masks shortest P d a b w h k l =
+    ap (λ (v : Decoded). openNumber v masks shortest) d
+    ∙ (λ i. cond (h i || (k i || false)) 12 (cond (not (l i)) 13 0))
+
 module _ (bytes masks : List ℕ) (shortest : ℕ) (r : Opened) (x y z : List ℕ) where
   closes : (g : ℕ) → r .number ≡ suc g → suc g ≡ openNumber (decode bytes) masks shortest → Opens bytes masks shortest r x y z
   closes g h q = record {
@@ -64,13 +73,6 @@ module _ (bytes masks : List ℕ) (shortest : ℕ) (r : Opened) (x y z : List �
     nodes-are = λ e. absurd (omega (arith, h, e));
     cells-are = λ e. absurd (omega (arith, h, e));
   }
-
-  number-of : (P : Plan) → decode bytes ≡ sound P → (a b w : Bool) → ltb (length masks) (ownMasks P) ≡ a → ltb shortest (ownCells P) ≡ b
-      → allWithin (P .ports) (take (ownMasks P) masks) ≡ w → openNumber (decode bytes) masks shortest ≡ cond (a || (b || false)) 12 (cond (not w) 13 0)
-  unfolding openNumber planGrounds tableGrounds refusal someOf
-  number-of P d a b w h k l =
-      ap (λ (v : Decoded). openNumber v masks shortest) d
-      ∙ (λ i. cond (h i || (k i || false)) 12 (cond (not (l i)) 13 0))
 
   -- 11 and 12 of the cell tables stand first
   pub opens-not : (r .number ≡ 0 → ⊥) → r .number ≡ cellsNumber (decode bytes) shortest → Opens bytes masks shortest r x y z
@@ -92,16 +94,16 @@ module _ (bytes masks : List ℕ) (shortest : ℕ) (r : Opened) (x y z : List �
 
   module _ (P : Plan) (d : decode bytes ≡ sound P) where
     pub opens-few-masks : r .number ≡ 12 → length masks < ownMasks P → Opens bytes masks shortest r x y z
-    opens-few-masks h l = closes 11 h (sym (number-of P d true _ _ (lt-ltb _ _ l) refl refl))
+    opens-few-masks h l = closes 11 h (sym (number-of bytes masks shortest P d true _ _ (lt-ltb _ _ l) refl refl))
 
     module _ (m : ownMasks P ≤ length masks) (l : ownCells P ≤ shortest) where
       pub opens-not-within : r .number ≡ 13 → allWithin (P .ports) (take (ownMasks P) masks) ≡ false → Opens bytes masks shortest r x y z
-      opens-not-within h w = closes 12 h (sym (number-of P d false false false (le-ltb _ _ m) (le-ltb _ _ l) w))
+      opens-not-within h w = closes 12 h (sym (number-of bytes masks shortest P d false false false (le-ltb _ _ m) (le-ltb _ _ l) w))
 
       pub opens-all : r .number ≡ 0 → r .ports ≡ P .ports → r .sets ≡ P .sets → r .nodes ≡ nodeCount (P .formula) → r .cells ≡ ownCells P → PlanIndex P x y z
           → allWithin (P .ports) (take (ownMasks P) masks) ≡ true → Opens bytes masks shortest r x y z
       opens-all h u n k c i w = record {
-        number-is = h ∙ sym (number-of P d false false true (le-ltb _ _ m) (le-ltb _ _ l) w);
+        number-is = h ∙ sym (number-of bytes masks shortest P d false false true (le-ltb _ _ m) (le-ltb _ _ l) w);
         opens = λ _. record {
           plan = P;
           decodes = d;
@@ -163,6 +165,14 @@ two-tables x y t = go (decLe t x) (decLe t y)
     go (yes a) (no b) = rw (le-ltb x t a, lt-ltb y t (omega arith), lt-ltb (min x y) t (omega arith))
     go (no a) b = rw (lt-ltb x t (omega arith), lt-ltb (min x y) t (omega arith))
 
+-- where no cells are lent, 12 applies to every plan
+pub few-none : (bytes masks : List ℕ) (P : Plan) → decode bytes ≡ sound P → openNumber (decode bytes) masks 0 ≡ 12
+few-none bytes masks P d = number-of bytes masks 0 P d _ true _ refl (lt-ltb 0 (ownCells P) (root-cell bytes P d)) refl ∙ either (ltb (length masks) (ownMasks P)) _
+  where
+    either : (a : Bool) (n : ℕ) → cond (a || (true || false)) 12 n ≡ 12
+    either true n = refl
+    either false n = refl
+
 -- A call tries 11 to 13 first: its number is that of the opening, or that of its further grounds.
 module _ (s : State) (shortest : ℕ) (lengths : List ℕ) (more : Plan → Sets → List Ground) (short : Shortest shortest (length (s .cells) ∷ lengths)) where
   first-three : (a b : Bool) (g : ℕ) → suc g ≡ cond a 12 (cond b 13 0) → (n : ℕ) → cond a 12 (cond b 13 n) ≡ suc g
@@ -178,14 +188,14 @@ module _ (s : State) (shortest : ℕ) (lengths : List ℕ) (more : Plan → Sets
   numbers : (P : Plan) → refusal (callGrounds (sound P) s lengths more)
       ≡ cond (ltb (length (s .masks)) (ownMasks P) || (ltb shortest (ownCells P) || false)) 12
       (cond (not (allWithin (P .ports) (take (ownMasks P) (s .masks)))) 13 (refusal (more P (inMasks (take (ownMasks P) (s .masks))))))
-  unfolding callGrounds planGrounds tableGrounds refusal Shortest
+  unfolding callGrounds tablesThen planGrounds tableGrounds refusal Shortest
   numbers P =
       ap (λ (b : Bool). cond (ltb (length (s .masks)) (ownMasks P) || b) 12
       (cond (not (allWithin (P .ports) (take (ownMasks P) (s .masks)))) 13 (refusal (more P (inMasks (take (ownMasks P) (s .masks)))))))
       (sym (short (ownCells P)))
 
   pub shut-first : (d : Decoded) (g : ℕ) → suc g ≡ openNumber d (s .masks) shortest → refusal (callGrounds d s lengths more) ≡ suc g
-  unfolding openNumber callGrounds planGrounds tableGrounds refusal someOf
+  unfolding openNumber callGrounds tablesThen planGrounds tableGrounds refusal someOf
   shut-first broken g h = sym h
   shut-first (sound P) g h =
       numbers P ∙ first-three (ltb (length (s .masks)) (ownMasks P) || (ltb shortest (ownCells P) || false)) (not (allWithin (P .ports) (take (ownMasks P) (s .masks)))) g h (refusal (more P (inMasks (take (ownMasks P) (s .masks)))))
@@ -194,3 +204,45 @@ module _ (s : State) (shortest : ℕ) (lengths : List ℕ) (more : Plan → Sets
       → refusal (callGrounds (sound P) s lengths more) ≡ refusal (more P (inMasks (take (ownMasks P) (s .masks))))
   unfolding openNumber planGrounds tableGrounds refusal someOf
   open-then P h = numbers P ∙ later (ltb (length (s .masks)) (ownMasks P) || (ltb shortest (ownCells P) || false)) (not (allWithin (P .ports) (take (ownMasks P) (s .masks)))) (refusal (more P (inMasks (take (ownMasks P) (s .masks))))) h
+
+-- What the code of a call is told of its grounds: their number is that of the opening, or else that of the further grounds.
+pub record Tries (d : Decoded) (masks : List ℕ) (shortest : ℕ) (more : Plan → Sets → List Ground) (gs : List Ground) : Type 0 where
+  pub shut : (g : ℕ) → suc g ≡ openNumber d masks shortest → refusal gs ≡ suc g
+  pub passed : (P : Plan) → d ≡ sound P → openNumber d masks shortest ≡ 0 → refusal gs ≡ refusal (more P (inMasks (take (ownMasks P) masks)))
+
+-- the first of 11 to 13 that applies
+pub shut : {d : Decoded} {masks : List ℕ} {shortest : ℕ} {more : Plan → Sets → List Ground} {gs : List Ground} → Tries d masks shortest more gs
+    → (n : ℕ) → (n ≡ 0 → ⊥) → n ≡ openNumber d masks shortest → refusal gs ≡ n
+shut t zero h q = absurd (h refl)
+shut t (suc g) h q = t .shut g q
+
+-- over the tables alone
+pub tries-tables : (d : Decoded) (s : State) (shortest : ℕ) (lengths : List ℕ) (more : Plan → Sets → List Ground) → Shortest shortest (length (s .cells) ∷ lengths)
+    → Tries d (s .masks) shortest more (callGrounds d s lengths more)
+tries-tables d s shortest lengths more short = record {
+  shut = shut-first s shortest lengths more short d;
+  passed = λ P e o. ap (λ (x : Decoded). refusal (callGrounds x s lengths more)) e
+      ∙ open-then s shortest lengths more short P (ap (λ (x : Decoded). openNumber x (s .masks) shortest) (sym e) ∙ o);
+}
+
+-- Over tables with a journal: where its record count is past, 12 applies, as it does if no cells are lent, of which no plan has so few.
+pub tries-journal : (bytes : List ℕ) (s : State) (shortest : ℕ) (lengths : List ℕ) (more : Plan → Sets → List Ground) (room count : ℕ)
+    → Shortest shortest (length (s .cells) ∷ lengths)
+    → Tries (decode bytes) (s .masks) (cond (countPast room count) 0 shortest) more (journalGrounds (decode bytes) s room count lengths more)
+tries-journal bytes s shortest lengths more room count short = go (countPast room count) refl
+  where
+    none : (d : Decoded) → decode bytes ≡ d → countPast room count ≡ true → openNumber (decode bytes) (s .masks) 0 ≡ refusal (journalGrounds (decode bytes) s room count lengths more)
+    none broken e h = unfold openNumber journalGrounds planGrounds refusal in
+        ap (λ (x : Decoded). openNumber x (s .masks) 0) e ∙ sym (ap (λ (x : Decoded). refusal (journalGrounds x s room count lengths more)) e)
+    none (sound P) e h =
+        few-none bytes (s .masks) P e ∙ sym (ap (λ (x : Decoded). refusal (journalGrounds x s room count lengths more)) e ∙ count-past P s room count lengths more h)
+
+    go : (b : Bool) → countPast room count ≡ b → Tries (decode bytes) (s .masks) (cond b 0 shortest) more (journalGrounds (decode bytes) s room count lengths more)
+    go true h = record {
+      shut = λ g q. sym (none (decode bytes) refl h) ∙ sym q;
+      passed = λ P e o. absurd (omega (arith, few-none bytes (s .masks) P e, o));
+    }
+    go false h =
+        let t = tries-tables (decode bytes) s shortest lengths more short in
+        let w = count-within (decode bytes) s room count lengths more h in
+        record { shut = λ g q. w ∙ t .shut g q; passed = λ P e o. w ∙ t .passed P e o }

@@ -1,6 +1,6 @@
 -- Laws of any call over a plan's tables: what it leaves past the plan's own parts, and that it reads nothing there. Assumes nothing.
 use mathlib.Core.Path.{_≡_, refl, sym, ap, _∙_}
-use mathlib.Core.Bool.{true, not, _||_}
+use mathlib.Core.Bool.{true, false, cond, not, _||_}
 use mathlib.Core.List.{List, _∷_, _++_, append-nil}
 use Prim.Native.Nat.{ℕ, zero, suc, _≤_}
 use native.Mathlib.Decide.{decLe}
@@ -15,16 +15,17 @@ use Rattle.logic.specs.Cells.{ownCells}
 use Rattle.logic.specs.Moves.{Ground, refusal}
 use Rattle.logic.specs.Change.{someOf}
 use Rattle.logic.proofs.Lists.{or-left, or-right}
-use Rattle.table_format.specs.Decode.{Decoded, sound}
+use Rattle.table_format.specs.Decode.{Decoded, broken, sound}
 use Rattle.contracts.specs.State.{State, tables, ownTables, withRest}
-use Rattle.contracts.specs.Call.{planGrounds, tableGrounds, callGrounds, callOr, call}
+use Rattle.contracts.specs.Journal.{countPast}
+use Rattle.contracts.specs.Call.{planGrounds, tableGrounds, tablesThen, callGrounds, journalGrounds, callOr, call}
 use Rattle.contracts.specs.OwnParts.{SameTables}
 use Rattle.contracts.proofs.Grounds.{passes}
 
 -- 12 is tried before 13: where the mask table is too short, 12 is answered, whatever ports the masks have.
 pub short-first : (P : Plan) (s : State) (lengths : List ℕ) (more : Plan → Sets → List Ground)
     → ltb (length (s .masks)) (ownMasks P) ≡ true → refusal (callGrounds (sound P) s lengths more) ≡ 12
-unfolding callGrounds planGrounds tableGrounds refusal
+unfolding callGrounds tablesThen planGrounds tableGrounds refusal
 short-first P s lengths more h = rw (h)
 
 -- What no ground of 11 to 13 leaves of a plan's tables: they are long enough, and no own mask has a port of u or more.
@@ -35,7 +36,7 @@ pub record LentEnough (P : Plan) (s : State) : Type 0 where
 
 pub lent-enough : (P : Plan) (s : State) (lengths : List ℕ) (more : Plan → Sets → List Ground)
     → refusal (callGrounds (sound P) s lengths more) ≡ 0 → LentEnough P s
-unfolding callGrounds planGrounds tableGrounds refusal someOf
+unfolding callGrounds tablesThen planGrounds tableGrounds refusal someOf
 lent-enough P s lengths more e =
     let few = ltb (length (s .masks)) (ownMasks P) in
     let short = ltb (length (s .cells)) (ownCells P) in
@@ -51,9 +52,34 @@ lent-enough P s lengths more e =
 pub tables-pass : (P : Plan) (s : State) (lengths : List ℕ) (more : Plan → Sets → List Ground) → LentEnough P s
     → refusal (callGrounds (sound P) s lengths more)
     ≡ refusal ((12, someOf (λ l. ltb l (ownCells P)) lengths) ∷ more P (inMasks (take (ownMasks P) (s .masks))))
-unfolding callGrounds planGrounds tableGrounds refusal someOf
+unfolding callGrounds tablesThen planGrounds tableGrounds refusal someOf
 tables-pass P s lengths more l =
     rw (le-ltb (length (s .masks)) (ownMasks P) (l .masks-enough), le-ltb (length (s .cells)) (ownCells P) (l .cells-enough), l .within)
+
+-- 12 of a record count that is past; of any other, the grounds are those of a call without a journal.
+pub count-past : (P : Plan) (s : State) (room count : ℕ) (lengths : List ℕ) (more : Plan → Sets → List Ground) → countPast room count ≡ true
+    → refusal (journalGrounds (sound P) s room count lengths more) ≡ 12
+unfolding journalGrounds planGrounds refusal
+count-past P s room count lengths more h = rw (h)
+
+pub count-within : (d : Decoded) (s : State) (room count : ℕ) (lengths : List ℕ) (more : Plan → Sets → List Ground) → countPast room count ≡ false
+    → refusal (journalGrounds d s room count lengths more) ≡ refusal (callGrounds d s lengths more)
+unfolding journalGrounds callGrounds planGrounds refusal
+count-within broken s room count lengths more h = refl
+count-within (sound P) s room count lengths more h = rw (h)
+
+-- A call with a journal that no ground stops is stopped by none of its tables; and to two calls with the same count and room the same
+-- grounds apply if those of their tables do.
+pub journal-tables : (P : Plan) (s : State) (room count : ℕ) (lengths : List ℕ) (more : Plan → Sets → List Ground)
+    → refusal (journalGrounds (sound P) s room count lengths more) ≡ 0 → refusal (callGrounds (sound P) s lengths more) ≡ 0
+unfolding journalGrounds callGrounds planGrounds refusal
+journal-tables P s room count lengths more e = passes (countPast room count) 11 _ e .1
+
+pub same-counted : (P : Plan) (s s′ : State) (room count : ℕ) (lengths lengths′ : List ℕ) (more more′ : Plan → Sets → List Ground)
+    → refusal (callGrounds (sound P) s lengths more) ≡ refusal (callGrounds (sound P) s′ lengths′ more′)
+    → refusal (journalGrounds (sound P) s room count lengths more) ≡ refusal (journalGrounds (sound P) s′ room count lengths′ more′)
+unfolding journalGrounds callGrounds planGrounds refusal
+same-counted P s s′ room count lengths lengths′ more more′ e = ap (cond (countPast room count) 12) e
 
 -- A table of which the first part, so long as it was, is written anew: that part, what is past it, and the length.
 front : (n : ℕ) (ys l : List ℕ) → length ys ≡ length (take n l) → take n (ys ++ drop n l) ≡ ys
@@ -122,7 +148,7 @@ same-own P s s′ t = λ i. record { masks = t .same-masks .entries i; cells = t
 pub same-grounds : (P : Plan) (s s′ : State) (lengths lengths′ : List ℕ) (more : Plan → Sets → List Ground) → SameTables P s s′
     → someOf (λ l. ltb l (ownCells P)) lengths ≡ someOf (λ l. ltb l (ownCells P)) lengths′
     → refusal (callGrounds (sound P) s lengths more) ≡ refusal (callGrounds (sound P) s′ lengths′ more)
-unfolding callGrounds planGrounds tableGrounds someOf refusal
+unfolding callGrounds tablesThen planGrounds tableGrounds someOf refusal
 same-grounds P s s′ lengths lengths′ more t e = λ i.
     refusal ((12, t .same-masks .enough i || (t .same-cells .enough i || e i)) ∷ (13, not (allWithin (P .ports) (t .same-masks .entries i)))
     ∷ more P (inMasks (t .same-masks .entries i)))

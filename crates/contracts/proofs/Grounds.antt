@@ -1,6 +1,6 @@
 -- Grounds in their order: the first that applies, and what holds where none does. Assumes nothing.
 use mathlib.Core.Path.{_≡_, refl}
-use mathlib.Core.Bool.{Bool, true, false, cond, _&&_}
+use mathlib.Core.Bool.{Bool, true, false, cond, not, _&&_}
 use mathlib.Core.List.{List, [], _∷_, _++_}
 use Prim.Native.Nat.{ℕ, suc, _≤_, _<_}
 use native.Mathlib.Decide.{decLe}
@@ -8,11 +8,13 @@ use native.Mathlib.Omega.{arith}
 use lib.Dec.{leb, ltb}
 use lib.ListN.{length, take}
 use lib.Seq.{length-take-le, take-all}
-use borrow.Author.Tests.{le-leb, lt-leb, ltb-false}
+use borrow.Author.Tests.{le-leb, lt-leb, ltb-false, not-false}
 use Rattle.logic.proofs.Lists.{and-true, or-left, or-right}
-use Rattle.logic.specs.Formula.{nodeCount}
+use Rattle.logic.specs.declared.Move.{Move}
+use Rattle.logic.specs.Formula.{Plan, nodeCount}
+use Rattle.logic.specs.Configuration.{Sets}
 use Rattle.logic.specs.Cells.{cellCount}
-use Rattle.logic.specs.Moves.{Ground, refusal}
+use Rattle.logic.specs.Moves.{Ground, refusal, moveGrounds, known, legal}
 use Rattle.text_tree.specs.Tree.{Tree, Declared, lettersOf}
 use Rattle.text_core.specs.Names.{declaredTwice, misdeclared, ground5, ground6, ground7}
 use Rattle.text_core.specs.Core.{coreOf}
@@ -45,6 +47,13 @@ refusal-first (x ∷ xs) ys g e = go (x .1) (refusal-first xs ys g) e
 pub passes : (b : Bool) (n m : ℕ) → cond b (suc n) m ≡ 0 → (b ≡ false) × (m ≡ 0)
 passes true n m e = absurd (omega arith)
 passes false n m e = (refl, e)
+
+-- a move that meets neither 14 nor 15 is legal
+pub grounds-legal : (P : Plan) (k : Sets) (m : Move) → refusal (moveGrounds P k m) ≡ 0 → legal P k m ≡ true
+unfolding refusal moveGrounds
+grounds-legal P k m h =
+    let r = passes (not (known P m)) 13 (cond (not (legal P k m)) 15 0) h in
+    not-false _ (passes (not (legal P k m)) 14 0 (r .1) .0)
 
 -- none of grounds 5 to 9 applies
 pub record CorePasses (u : ℕ) (sets : List Declared) (a : Tree) : Type 0 where

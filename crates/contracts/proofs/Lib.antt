@@ -1,5 +1,6 @@
 -- Laws of the calls' definitions.
 pub mod KnownMoves
+pub mod KnownJournal
 pub mod Best
 pub mod Calls
 pub mod Candidates
@@ -7,7 +8,9 @@ pub mod Grounds
 pub mod Reading
 pub mod Told
 pub mod LoadAnswers
+pub mod Journals
 pub mod Lists
+pub mod Opposites
 pub mod OwnParts
 pub mod NodeAnswers
 pub mod NodeParts

@@ -12,8 +12,9 @@ use lib.Seq.{length-take-le}
 use Rattle.logic.specs.Formula.{Plan}
 use Rattle.logic.specs.Configuration.{Sets, inMask, inMasks, ownMasks}
 use Rattle.contracts.specs.State.{State}
+use Rattle.contracts.specs.Journal.{Journaled}
 use Rattle.contracts.specs.Book.{Book}
-use Rattle.contracts.specs.Lists.{AsBook}
+use Rattle.contracts.specs.Lists.{bookCells, AsBook}
 
 digit-same : (a b : ℕ) → a < 2 → b < 2 → eqb a 1 ≡ eqb b 1 → a ≡ b
 digit-same zero zero h l e = refl
@@ -60,20 +61,29 @@ masks-same (m ∷ ms) [] l e = absurd (omega arith)
 masks-same (m ∷ ms) (m′ ∷ ms′) l e = ap₂ _∷_ (mask-same m m′ (e 0)) (masks-same ms ms′ (omega arith) (λ S. e (suc S)))
 
 -- The book's sets and the tails say what every mask and every cell is.
-pub kept-same : (P : Plan) (b : Book) (tail-masks tail-cells : List ℕ) (s s′ : State)
-    → AsBook P b tail-masks tail-cells s → AsBook P b tail-masks tail-cells s′ → s ≡ s′
-kept-same P b tail-masks tail-cells s s′ h h′ = λ i. record { masks = m i; cells = (h .cells-are ∙ sym (h′ .cells-are)) i }
+pub kept-same : (P : Plan) (b b′ : Book) (tail-masks tail-cells : List ℕ) (x x′ : Journaled)
+    → AsBook P b tail-masks tail-cells x → AsBook P b′ tail-masks tail-cells x′ → b .sets ≡ b′ .sets → x .tables ≡ x′ .tables
+kept-same P b b′ tail-masks tail-cells x x′ h h′ e = λ i. record { masks = m i; cells = c i }
   where
     n : ℕ
     n = ownMasks P
+
+    s : State
+    s = x .tables
+
+    s′ : State
+    s′ = x′ .tables
 
     own : take n (s .masks) ≡ take n (s′ .masks)
     own =
         masks-same (take n (s .masks)) (take n (s′ .masks))
         (length-take-le n (s .masks) (h .enough-masks) ∙ sym (length-take-le n (s′ .masks) (h′ .enough-masks)))
-        (λ S p. ap (λ (j : Sets). j S p) (h .masks-are ∙ sym (h′ .masks-are)))
+        (λ S p. ap (λ (j : Sets). j S p) (h .masks-are ∙ e ∙ sym (h′ .masks-are)))
 
     m : s .masks ≡ s′ .masks
     m =
         sym (take-append-drop n (s .masks)) ∙ ap₂ _++_ own (h .masks-tail ∙ sym (h′ .masks-tail))
         ∙ take-append-drop n (s′ .masks)
+
+    c : s .cells ≡ s′ .cells
+    c = h .cells-are ∙ ap (λ (k : Sets). bookCells P k ++ tail-cells) e ∙ sym (h′ .cells-are)

@@ -12,6 +12,7 @@ use Rattle.logic.specs.Moves.{Ground, refusal}
 use Rattle.logic.specs.Change.{someOf}
 use Rattle.table_format.specs.Decode.{Decoded, broken, sound}
 use Rattle.contracts.specs.State.{State, ownTables, withRest}
+use Rattle.contracts.specs.Journal.{countPast}
 
 -- "11 plan table breaks a rule above or is cut short", then what a call asks of the plan.
 unfoldable pub planGrounds : Decoded → (Plan → List Ground) → List Ground
@@ -24,13 +25,21 @@ unfoldable pub tableGrounds : Plan → List ℕ → ℕ → List ℕ → List Gr
 tableGrounds P own masks-length lengths =
     (12, ltb masks-length (ownMasks P) || someOf (λ l. ltb l (ownCells P)) lengths) ∷ (13, not (allWithin (P .ports) own)) ∷ []
 
--- "The other calls try 11 to 15": 11 to 13, over the tables and the lengths of further cell tables, as scratch; then what a call asks
--- of the plan and of the sets that its own masks spell.
-unfoldable pub callGrounds : Decoded → State → List ℕ → (Plan → Sets → List Ground) → List Ground
-callGrounds d s lengths more =
-    planGrounds d (λ P.
+-- 12 and 13 over the tables and the lengths of further cell tables, as scratch; then what a call asks of the plan and of the sets that
+-- its own masks spell.
+unfoldable pub tablesThen : State → List ℕ → (Plan → Sets → List Ground) → Plan → List Ground
+tablesThen s lengths more P =
     let own = take (ownMasks P) (s .masks) in
-    tableGrounds P own (length (s .masks)) (length (s .cells) ∷ lengths) ++ more P (inMasks own))
+    tableGrounds P own (length (s .masks)) (length (s .cells) ∷ lengths) ++ more P (inMasks own)
+
+-- "The other calls try 11 to 15": 11 to 13, then what the call asks.
+unfoldable pub callGrounds : Decoded → State → List ℕ → (Plan → Sets → List Ground) → List Ground
+callGrounds d s lengths more = planGrounds d (tablesThen s lengths more)
+
+-- The same of a call with a journal of some length and record count: "a record count past the journal's length or past 1,024 is 12"
+-- (paper 02, request 2026-03).
+unfoldable pub journalGrounds : Decoded → State → ℕ → ℕ → List ℕ → (Plan → Sets → List Ground) → List Ground
+journalGrounds d s room count lengths more = planGrounds d (λ P. (12, countPast room count) ∷ tablesThen s lengths more P)
 
 module _ {A : Type 0} (refused : ℕ → A) where
   -- The answer and the tables afterwards, where the first ground that applies is given, 0 for none: "A refused call returns the first

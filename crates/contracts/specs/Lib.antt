@@ -4,6 +4,7 @@ pub mod Book
 pub mod Call
 pub mod Counting
 pub mod ImproveCall
+pub mod Journal
 pub mod Least
 pub mod Lists
 pub mod Load
@@ -14,4 +15,5 @@ pub mod OwnParts
 pub mod Read
 pub mod State
 pub mod TrialCall
+pub mod UndoCall
 pub mod WriteCall

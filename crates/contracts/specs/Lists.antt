@@ -1,7 +1,8 @@
--- Lists of calls, and demand 3 as one claim over every list. Paper 01, section Lists of calls.
+-- Lists of calls, and demand 3 as one claim over every list. Paper 01, section Lists of calls; paper 02, request 2026-03: "Lists of calls
+-- now begin with an empty journal, passed on as the tables are, and include undo".
 use mathlib.Core.Path.{_≡_}
 use mathlib.Core.Logic.{_⊎_}
-use mathlib.Core.Bool.{not}
+use mathlib.Core.Bool.{Bool, not}
 use mathlib.Core.List.{List, [], _∷_, _++_}
 use Prim.Native.Nat.{ℕ, zero, suc, _≤_, _<_}
 use lib.Dec.{ltb}
@@ -14,14 +15,16 @@ use Rattle.logic.specs.Moves.{Ground, refusal, moveGrounds, movePairs, kindsKno
 use Rattle.logic.specs.Change.{pairsChange, differing, touchedCount}
 use Rattle.table_format.specs.Decode.{Decoded}
 use Rattle.contracts.specs.State.{State}
-use Rattle.contracts.specs.MoveCall.{MoveValues, moveRefused, moves}
+use Rattle.contracts.specs.Journal.{Journal, Journaled, roomOf, newest, opposite}
+use Rattle.contracts.specs.MoveCall.{MoveValues, moveRefused, movesJournaled}
 use Rattle.contracts.specs.TrialCall.{trials}
 use Rattle.contracts.specs.MoveOrder.{candidates, Candidate, bestOf}
-use Rattle.contracts.specs.ImproveCall.{ImproveValues, improveRefused, noBetter, improves}
+use Rattle.contracts.specs.ImproveCall.{ImproveValues, improveRefused, noBetter, firstLowers, chosenGrounds, improvesJournaled}
+use Rattle.contracts.specs.UndoCall.{undoesJournaled}
 use Rattle.contracts.specs.Counting.{countAccepted}
 use Rattle.contracts.specs.BestCall.{Listing, listRefused, lists}
 use Rattle.contracts.specs.Least.{NoneBelow}
-use Rattle.contracts.specs.Book.{Book, Fed, fedMove, fedTrial, fedImprove, fedBest, bookMade, bookStep}
+use Rattle.contracts.specs.Book.{Book, Fed, fedMove, fedTrial, fedImprove, fedBest, fedUndo, bookMade, bookGrounds, bookTaken, bookStep}
 
 -- A call of a list: its kind, its arguments, the scratch that it is lent, and how many records its list has. "Scratch may be another
 -- table at every call, hold anything or be too short."
@@ -30,6 +33,7 @@ pub data Asked : Type 0 where
   askTrial : Move → List ℕ → Asked
   askImprove : ℕ → List ℕ → Asked
   askBest : ℕ → List ℕ → ℕ → Asked
+  askUndo : Asked
 
 -- A call with what it answered.
 pub data Exchange : Type 0 where
@@ -37,26 +41,34 @@ pub data Exchange : Type 0 where
   trialCall : Move → List ℕ → MoveValues → Exchange
   improveCall : ℕ → List ℕ → ImproveValues → Exchange
   bestCall : ℕ → List ℕ → ℕ → Listing → Exchange
+  undoCall : MoveValues → Exchange
 
--- One call over a plan table and the tables as the last call left them, by the very definitions that the calls' contracts cite: what it
--- answers, and the tables afterwards.
-unfoldable pub step : Decoded → State → Asked → Exchange × State
-step d s (askMove m) =
-    let r = moves d m s in
+-- One call over a plan table, the tables and the journal as the last call left them, by the very definitions that the calls' contracts
+-- cite: what it answers, and the tables and the journal afterwards.
+unfoldable pub step : Decoded → Journaled → Asked → Exchange × Journaled
+step d x (askMove m) =
+    let r = movesJournaled d m x in
     (moveCall m (r .0), r .1)
-step d s (askTrial m scratch) = (trialCall m scratch (trials d m s (length scratch)), s)
-step d s (askImprove kinds scratch) =
-    let r = improves d kinds s (length scratch) in
+step d x (askTrial m scratch) = (trialCall m scratch (trials d m (x .tables) (length scratch)), x)
+step d x (askImprove kinds scratch) =
+    let r = improvesJournaled d kinds x (length scratch) in
     (improveCall kinds scratch (r .0), r .1)
-step d s (askBest kinds scratch room) = (bestCall kinds scratch room (lists d kinds s (length scratch) room), s)
+step d x (askBest kinds scratch room) = (bestCall kinds scratch room (lists d kinds (x .tables) (length scratch) room), x)
+step d x askUndo =
+    let r = undoesJournaled d x in
+    (undoCall (r .0), r .1)
 
--- Call after call: every list of calls has one list of answers, and leaves one pair of tables.
-unfoldable pub run : Decoded → State → List Asked → List Exchange × State
-run d s [] = ([], s)
-run d s (c ∷ cs) =
-    let r = step d s c in
+-- Call after call: every list of calls has one list of answers, and leaves one pair of tables and one journal.
+unfoldable pub run : Decoded → Journaled → List Asked → List Exchange × Journaled
+run d x [] = ([], x)
+run d x (c ∷ cs) =
+    let r = step d x c in
     let rest = run d (r .1) cs in
     (r .0 ∷ rest .0, rest .1)
+
+-- "Lists of calls now begin with an empty journal": tables with lent records of which none is a move that was made.
+unfoldable pub begun : State → List Move → Journaled
+begun s records = record { tables = s; journal = record { records = records; count = 0 } }
 
 -- What the book is fed of a call and its answer: improve's answer alone.
 unfoldable pub feed : Exchange → Fed
@@ -64,6 +76,7 @@ feed (moveCall m r) = fedMove m
 feed (trialCall m scratch r) = fedTrial m
 feed (improveCall kinds scratch r) = fedImprove kinds r
 feed (bestCall kinds scratch room r) = fedBest kinds
+feed (undoCall r) = fedUndo
 
 -- The book after a list.
 unfoldable pub bookAfter : Plan → Book → List Exchange → Book
@@ -99,6 +112,10 @@ scratchGround P scratch = (12, ltb (length scratch) (ownCells P))
 unfoldable pub bookBest : Plan → Sets → ℕ → List Move
 bookBest P k kinds = bestOf (λ m. bookRoot P (bookMade P m k)) (candidates P kinds k)
 
+-- Whether a legal move of the kinds lowers the root by Definition 5 under the book's sets.
+unfoldable pub bookLowers : Plan → Sets → ℕ → Bool
+bookLowers P k kinds = firstLowers (λ m. bookRoot P (bookMade P m k)) (bookRoot P k) (bookBest P k kinds)
+
 -- A list's first move.
 unfoldable pub FirstOf : List Move → Move → Type 0
 FirstOf [] m = ⊥
@@ -132,21 +149,30 @@ ListedRight (suc g) P k kinds r = r ≡ listRefused (suc g)
 
 -- An answer is right under the book before its call.
 unfoldable pub Right : Plan → Book → Exchange → Type 0
-Right P b (moveCall m r) = MovedRight (refusal (moveGrounds P (b .sets) m)) P (b .sets) m r
+Right P b (moveCall m r) = MovedRight (refusal (bookGrounds P b m)) P (b .sets) m r
 Right P b (trialCall m scratch r) = MovedRight (refusal (scratchGround P scratch ∷ moveGrounds P (b .sets) m)) P (b .sets) m r
 Right P b (improveCall kinds scratch r) =
-    ImprovedRight (refusal (scratchGround P scratch ∷ (14, not (kindsKnown kinds)) ∷ [])) P (b .sets) kinds r
+    ImprovedRight (refusal (scratchGround P scratch ∷ chosenGrounds kinds (bookLowers P (b .sets) kinds) (roomOf (b .journal)) (b .journal .count))) P (b .sets) kinds r
 Right P b (bestCall kinds scratch room r) =
     ListedRight (refusal (scratchGround P scratch ∷ (14, not (kindsKnown kinds)) ∷ (16, ltb room (length (bookBest P (b .sets) kinds))) ∷ [])) P (b .sets) kinds r
+Right P b (undoCall r) = MovedRight (refusal (bookTaken P b)) P (b .sets) (opposite (newest (b .journal))) r
 
 -- Each answer of a list is right under the book before its call.
 unfoldable pub AllRight : Plan → Book → List Exchange → Type 0
 AllRight P b [] = Unit {0}
 AllRight P b (x ∷ xs) = Right P b x × AllRight P (bookStep P b (feed x)) xs
 
--- "The masks of demand 3 are the book's sets", the tail as it was; every cell is the penalty under them, the tail as it was.
-pub record AsBook (P : Plan) (b : Book) (tail-masks tail-cells : List ℕ) (s : State) : Type 0 where
-  pub enough-masks : ownMasks P ≤ length (s .masks)
-  pub masks-are : inMasks (take (ownMasks P) (s .masks)) ≡ b .sets
-  pub masks-tail : drop (ownMasks P) (s .masks) ≡ tail-masks
-  pub cells-are : s .cells ≡ bookCells P (b .sets) ++ tail-cells
+-- The lent journal is the book's: its length, the record count, and the records below it.
+pub record SameJournal (j book : Journal) : Type 0 where
+  pub same-room : roomOf j ≡ roomOf book
+  pub same-count : j .count ≡ book .count
+  pub same-records : take (j .count) (j .records) ≡ take (book .count) (book .records)
+
+-- "The masks of demand 3 are the book's sets", the tail as it was; every cell is the penalty under them, the tail as it was; the journal
+-- is the book's.
+pub record AsBook (P : Plan) (b : Book) (tail-masks tail-cells : List ℕ) (x : Journaled) : Type 0 where
+  pub enough-masks : ownMasks P ≤ length (x .tables .masks)
+  pub masks-are : inMasks (take (ownMasks P) (x .tables .masks)) ≡ b .sets
+  pub masks-tail : drop (ownMasks P) (x .tables .masks) ≡ tail-masks
+  pub cells-are : x .tables .cells ≡ bookCells P (b .sets) ++ tail-cells
+  pub journal-is : SameJournal (x .journal) (b .journal)

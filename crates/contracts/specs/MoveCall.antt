@@ -1,17 +1,20 @@
--- A move as a function of the tables: paper 01, sections One move and Grounds for refusal.
+-- A move as a function of the tables and their journal: paper 01, sections One move and Grounds for refusal; paper 02, request 2026-03.
 use mathlib.Core.Path.{_≡_}
 use mathlib.Core.Logic.{_≢_}
-use mathlib.Core.List.{List, []}
+use mathlib.Core.Bool.{Bool}
+use mathlib.Core.List.{List, [], _∷_, _++_}
 use Prim.Native.Nat.{ℕ}
+use lib.Dec.{eqb}
 use lib.ListN.{getD}
 use Rattle.logic.specs.declared.Move.{Move}
 use Rattle.logic.specs.Formula.{Plan}
-use Rattle.logic.specs.Configuration.{inMasks, spelled}
+use Rattle.logic.specs.Configuration.{Sets, inMasks, spelled}
 use Rattle.logic.specs.Moves.{Ground, moveGrounds, moveMasks, movePairs}
 use Rattle.logic.specs.Change.{pairsChange, newCells, differing}
 use Rattle.table_format.specs.Decode.{Decoded}
 use Rattle.contracts.specs.State.{State}
-use Rattle.contracts.specs.Call.{callGrounds, call}
+use Rattle.contracts.specs.Journal.{full, roomOf, countAfter, journalAfter, Journaled}
+use Rattle.contracts.specs.Call.{journalGrounds, call}
 use Rattle.contracts.specs.declared.Moved.{Moved}
 use Rattle.contracts.specs.declared.Moved.the-variants.{Accepted, Refused}
 
@@ -45,9 +48,13 @@ pub record MovedAs (given : MoveValues) (r : Moved) : Type 0 where
   pub values-are : moveValues r ≡ given
   pub told : MoveTold r
 
--- "The other calls try 11 to 15": a move, and a trial, which is lent scratch.
-unfoldable pub moveCallGrounds : Decoded → State → List ℕ → Move → List Ground
-moveCallGrounds d s lengths m = callGrounds d s lengths (λ P k. moveGrounds P k m)
+-- 14 and 15, then "18, journal full [..], for a move that would else be accepted [..], last".
+unfoldable pub madeGrounds : Plan → Sets → ℕ → ℕ → Move → List Ground
+madeGrounds P k room count m = moveGrounds P k m ++ (18, full room count) ∷ []
+
+-- "The other calls try 11 to 15": a move, over a journal of some length and record count.
+unfoldable pub moveCallGrounds : Decoded → State → ℕ → ℕ → Move → List Ground
+moveCallGrounds d s room count m = journalGrounds d s room count [] (λ P k. madeGrounds P k room count m)
 
 -- "An accepted move writes its masks and touched cells": the plan's own cells afterwards, from its own masks and cells before.
 unfoldable pub cellsAfter : Plan → Move → List ℕ → List ℕ → List ℕ
@@ -65,11 +72,23 @@ tablesAfter P m own = record { masks = moveMasks P m (own .masks); cells = cells
 unfoldable pub movesOwn : Move → Plan → State → MoveValues × State
 movesOwn m P own = (moveAnswer P m (own .masks) (own .cells), tablesAfter P m own)
 
--- The move as a function of the tables: the answer, every mask and every cell afterwards.
-unfoldable pub moves : Decoded → Move → State → MoveValues × State
-moves d m s = call moveRefused (moveCallGrounds d s [] m) d (movesOwn m) s
+-- The move as a function of the tables and of the journal's length and record count: the answer, every mask and every cell afterwards.
+unfoldable pub moves : Decoded → Move → State → ℕ → ℕ → MoveValues × State
+moves d m s room count = call moveRefused (moveCallGrounds d s room count m) d (movesOwn m) s
 
--- What `make_move` promises: its answer by 01's number and values, and every mask and every cell afterwards.
-pub record MovePromise (given : MoveValues × State) (r : Moved) (s′ : State) : Type 0 where
+-- Whether a move was made: its answer is no refusal.
+unfoldable pub moveMade : MoveValues → Bool
+moveMade v = eqb (v .number) 0
+
+-- The move as a function of the tables with their journal: the answer, every mask, cell and record and the record count afterwards.
+unfoldable pub movesJournaled : Decoded → Move → Journaled → MoveValues × Journaled
+movesJournaled d m x =
+    let r = moves d m (x .tables) (roomOf (x .journal)) (x .journal .count) in
+    (r .0, record { tables = r .1; journal = journalAfter (moveMade (r .0)) m (x .journal) })
+
+-- What `make_move` promises, which is lent the journal's length and record count: its answer by 01's number and values, and every mask,
+-- every cell and the record count afterwards.
+pub record MovePromise (given : MoveValues × State) (count : ℕ) (r : Moved) (s′ : State) (count′ : ℕ) : Type 0 where
   pub answers : MovedAs (given .0) r
   pub tables-are : s′ ≡ given .1
+  pub count-is : count′ ≡ countAfter (moveMade (given .0)) count

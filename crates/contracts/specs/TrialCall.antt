@@ -7,18 +7,23 @@ use lib.ListN.{length, drop}
 use Rattle.logic.specs.declared.Move.{Move}
 use Rattle.logic.specs.Formula.{Plan}
 use Rattle.logic.specs.Cells.{ownCells}
+use Rattle.logic.specs.Moves.{Ground, moveGrounds}
 use Rattle.table_format.specs.Decode.{Decoded, broken, sound}
 use Rattle.contracts.specs.State.{State}
-use Rattle.contracts.specs.Call.{call}
-use Rattle.contracts.specs.MoveCall.{MoveValues, moveRefused, moveCallGrounds, moveAnswer}
+use Rattle.contracts.specs.Call.{callGrounds, call}
+use Rattle.contracts.specs.MoveCall.{MoveValues, moveRefused, moveAnswer}
 
 -- An accepted trial over the plan's own tables: a move's answer, and the tables stay.
 unfoldable pub trialsOwn : Move → Plan → State → MoveValues × State
 trialsOwn m P own = (moveAnswer P m (own .masks) (own .cells), own)
 
+-- "The other calls try 11 to 15": a trial, which is lent scratch and no journal.
+unfoldable pub trialGrounds : Decoded → State → ℕ → Move → List Ground
+trialGrounds d s scratch-length m = callGrounds d s (scratch-length ∷ []) (λ P k. moveGrounds P k m)
+
 -- The answer over the tables and the length of scratch.
 unfoldable pub trials : Decoded → Move → State → ℕ → MoveValues
-trials d m s scratch-length = call moveRefused (moveCallGrounds d s (scratch-length ∷ []) m) d (trialsOwn m) s .0
+trials d m s scratch-length = call moveRefused (trialGrounds d s scratch-length m) d (trialsOwn m) s .0
 
 -- How many cells of scratch an accepted call may write.
 unfoldable pub scratchOwn : Decoded → ℕ

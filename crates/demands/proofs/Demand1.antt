@@ -12,21 +12,23 @@ use Rattle.logic.specs.declared.Move.{Move}
 use Rattle.table_format.specs.Decode.{Decoded, broken, sound, decode, ownBytes}
 use Rattle.table_format.proofs.Own.{own-agree}
 use Rattle.logic.specs.Moves.{refusal}
-use Rattle.contracts.specs.Call.{planGrounds, callGrounds, callOr, call}
+use Rattle.contracts.specs.Call.{planGrounds, callGrounds, journalGrounds, callOr, call}
 use Rattle.contracts.specs.Load.{loadGrounds, loads}
-use Rattle.call_list.specs.Working.{Lent, Worked}
+use Rattle.call_one.specs.Lending.{Lent}
+use Rattle.call_list.specs.Working.{Worked}
 use Rattle.contracts.specs.NodeCells.{nodeCells}
 use Rattle.call_list.proofs.Scratch.{scratch-length, scratch-past}
 use Rattle.contracts.proofs.NodeAnswers.{node-own}
 use Rattle.contracts.specs.State.{State, ownTables}
 use Rattle.contracts.specs.MoveCall.{moveCallGrounds, moves}
-use Rattle.contracts.specs.TrialCall.{scratchOwn, trials}
+use Rattle.contracts.specs.TrialCall.{scratchOwn, trialGrounds, trials}
 use Rattle.contracts.specs.ImproveCall.{improveGrounds, improves}
+use Rattle.contracts.specs.UndoCall.{undoGrounds, undoes}
 use Rattle.contracts.specs.BestCall.{bestGrounds, lists}
 use Rattle.contracts.specs.WriteCall.{writes}
 use Rattle.contracts.specs.Lists.{run}
 use Rattle.contracts.specs.OwnParts.{SameFirst, SameTables, SameLent}
-use Rattle.contracts.proofs.OwnParts.{load-sound, move-sound, trial-sound, improve-sound, lists-sound}
+use Rattle.contracts.proofs.OwnParts.{load-sound, move-sound, undo-sound, trial-sound, improve-sound, lists-sound}
 
 -- Two calls of one kind whose tables agree on the plan's own bytes, masks and cells, and on being long enough for them: if they answer
 -- alike over one broken table and over one plan, they have the same answer and leave the same own masks and cells.
@@ -71,18 +73,27 @@ node-own-parts l l′ xs xs′ node b same = go (decode l) refl ∙ ap (λ (d : 
     go broken e = refl
     go (sound P) e = node-own P xs xs′ node (same P e .entries) (same P e .enough)
 
--- The same of moves.
-pub move-own-parts : (l l′ : List ℕ) (s s′ : State) (m : Move) → SameFirst (ownBytes l) l l′ → ((P : Plan) → decode l ≡ sound P → SameTables P s s′)
-    → (moves (decode l) m s .0 ≡ moves (decode l′) m s′ .0)
-    × ((P : Plan) → decode l ≡ sound P → ownTables P (moves (decode l) m s .1) ≡ ownTables P (moves (decode l′) m s′ .1))
-unfolding moves moveCallGrounds callGrounds planGrounds refusal call callOr
-move-own-parts l l′ s s′ m b same = own-parts (λ d t. moves d m t) l l′ s s′ b same refl (λ P t. move-sound P s s′ t m)
+-- The same of moves, over journals of the same length and record count.
+pub move-own-parts : (l l′ : List ℕ) (s s′ : State) (m : Move) (room count : ℕ) → SameFirst (ownBytes l) l l′ → ((P : Plan) → decode l ≡ sound P → SameTables P s s′)
+    → (moves (decode l) m s room count .0 ≡ moves (decode l′) m s′ room count .0)
+    × ((P : Plan) → decode l ≡ sound P → ownTables P (moves (decode l) m s room count .1) ≡ ownTables P (moves (decode l′) m s′ room count .1))
+unfolding moves moveCallGrounds journalGrounds planGrounds refusal call callOr
+move-own-parts l l′ s s′ m room count b same =
+    own-parts (λ d t. moves d m t room count) l l′ s s′ b same refl (λ P t. move-sound P s s′ t m room count)
+
+-- The same of undo, over journals of the same length, record count and newest record.
+pub undo-own-parts : (l l′ : List ℕ) (s s′ : State) (m : Move) (room count : ℕ) → SameFirst (ownBytes l) l l′ → ((P : Plan) → decode l ≡ sound P → SameTables P s s′)
+    → (undoes (decode l) m s room count .0 ≡ undoes (decode l′) m s′ room count .0)
+    × ((P : Plan) → decode l ≡ sound P → ownTables P (undoes (decode l) m s room count .1) ≡ ownTables P (undoes (decode l′) m s′ room count .1))
+unfolding undoes undoGrounds journalGrounds planGrounds refusal call callOr
+undo-own-parts l l′ s s′ m room count b same =
+    own-parts (λ d t. undoes d m t room count) l l′ s s′ b same refl (λ P t. undo-sound P s s′ t m room count)
 
 -- The same of trials, whatever scratch holds.
 pub trial-own-parts : (l l′ : List ℕ) (s s′ : State) (scratch scratch′ : List ℕ) (m : Move) → SameFirst (ownBytes l) l l′
     → ((P : Plan) → decode l ≡ sound P → SameLent P s s′ scratch scratch′)
     → trials (decode l) m s (length scratch) ≡ trials (decode l′) m s′ (length scratch′)
-unfolding trials moveCallGrounds callGrounds planGrounds refusal call callOr
+unfolding trials trialGrounds callGrounds planGrounds refusal call callOr
 trial-own-parts l l′ s s′ scratch scratch′ m b same =
     go (decode l) refl ∙ ap (λ (d : Decoded). trials d m s′ (length scratch′)) (own-agree l l′ (b .entries) (b .enough))
   where
@@ -90,26 +101,26 @@ trial-own-parts l l′ s s′ scratch scratch′ m b same =
     go broken e = refl
     go (sound P) e = trial-sound P s s′ (same P e .same) m scratch scratch′ (same P e .enough)
 
--- The same of improve.
-pub improve-own-parts : (l l′ : List ℕ) (s s′ : State) (scratch scratch′ : List ℕ) (kinds : ℕ) → SameFirst (ownBytes l) l l′
+-- The same of improve, over journals of the same length and record count.
+pub improve-own-parts : (l l′ : List ℕ) (s s′ : State) (scratch scratch′ : List ℕ) (kinds room count : ℕ) → SameFirst (ownBytes l) l l′
     → ((P : Plan) → decode l ≡ sound P → SameLent P s s′ scratch scratch′)
-    → (improves (decode l) kinds s (length scratch) .0 ≡ improves (decode l′) kinds s′ (length scratch′) .0)
+    → (improves (decode l) kinds s (length scratch) room count .0 ≡ improves (decode l′) kinds s′ (length scratch′) room count .0)
     × ((P : Plan) → decode l ≡ sound P
-    → ownTables P (improves (decode l) kinds s (length scratch) .1) ≡ ownTables P (improves (decode l′) kinds s′ (length scratch′) .1))
-unfolding improves improveGrounds callGrounds planGrounds refusal call callOr
-improve-own-parts l l′ s s′ scratch scratch′ kinds b same = (
-  go (decode l) refl ∙ ap (λ (d : Decoded). improves d kinds s′ (length scratch′) .0) agree,
-  λ P e. ap (λ (d : Decoded). ownTables P (improves d kinds s (length scratch) .1)) e
-      ∙ improve-sound P s s′ (same P e .same) kinds scratch scratch′ (same P e .enough) .1
-      ∙ ap (λ (d : Decoded). ownTables P (improves d kinds s′ (length scratch′) .1)) (sym e ∙ agree),
+    → ownTables P (improves (decode l) kinds s (length scratch) room count .1) ≡ ownTables P (improves (decode l′) kinds s′ (length scratch′) room count .1))
+unfolding improves improveGrounds journalGrounds planGrounds refusal call callOr
+improve-own-parts l l′ s s′ scratch scratch′ kinds room count b same = (
+  go (decode l) refl ∙ ap (λ (d : Decoded). improves d kinds s′ (length scratch′) room count .0) agree,
+  λ P e. ap (λ (d : Decoded). ownTables P (improves d kinds s (length scratch) room count .1)) e
+      ∙ improve-sound P s s′ (same P e .same) kinds scratch scratch′ room count (same P e .enough) .1
+      ∙ ap (λ (d : Decoded). ownTables P (improves d kinds s′ (length scratch′) room count .1)) (sym e ∙ agree),
 )
   where
     agree : decode l ≡ decode l′
     agree = own-agree l l′ (b .entries) (b .enough)
 
-    go : (d : Decoded) → decode l ≡ d → improves d kinds s (length scratch) .0 ≡ improves d kinds s′ (length scratch′) .0
+    go : (d : Decoded) → decode l ≡ d → improves d kinds s (length scratch) room count .0 ≡ improves d kinds s′ (length scratch′) room count .0
     go broken e = refl
-    go (sound P) e = improve-sound P s s′ (same P e .same) kinds scratch scratch′ (same P e .enough) .0
+    go (sound P) e = improve-sound P s s′ (same P e .same) kinds scratch scratch′ room count (same P e .enough) .0
 
 -- The same of the best moves, whatever the lent list holds.
 pub lists-own-parts : (l l′ : List ℕ) (s s′ : State) (scratch scratch′ : List ℕ) (kinds room : ℕ) → SameFirst (ownBytes l) l l′

@@ -28,7 +28,7 @@ use Rattle.table_format.proofs.Encoding.{decode-sound}
 use Rattle.table_format.proofs.Facts.{plan-facts}
 use Rattle.contracts.specs.State.{State, tables}
 use Rattle.contracts.specs.Load.{LoadValues, loadGrounds, loads}
-use Rattle.contracts.specs.Call.{planGrounds, tableGrounds, callGrounds}
+use Rattle.contracts.specs.Call.{planGrounds, tableGrounds, tablesThen, callGrounds}
 use Rattle.contracts.proofs.LoadAnswers.{load-number, load-is, load-zero}
 use Rattle.contracts.proofs.Lists.{load-free}
 use Rattle.demands.specs.ReadThenLoad.{answer, loaded}
@@ -53,7 +53,7 @@ refused-outside = read-outside
 
 -- load's answer over a plan: its number and its total
 not-11 : (P : Plan) (s : State) → refusal (loadGrounds (sound P) s) ≡ 11 → ⊥
-unfolding loadGrounds callGrounds planGrounds tableGrounds refusal someOf
+unfolding loadGrounds callGrounds planGrounds tablesThen tableGrounds refusal someOf
 not-11 P s e =
     go (ltb (length (s .masks)) (ownMasks P) || (ltb (length (s .cells)) (ownCells P) || false)) (not (allWithin (P .ports) (take (ownMasks P) (s .masks)))) e
   where

@@ -8,3 +8,4 @@ pub mod KnownLine
 pub mod PrintedLine
 pub mod ReadBack
 pub mod KnownWritten
+pub mod TakenBack

@@ -1,4 +1,5 @@
 pub mod KnownTexts
 pub mod ReadBack
 pub mod ReadThenLoad
+pub mod TakenBack
 pub mod TextToPlan

@@ -12,7 +12,7 @@ use Rattle.logic.specs.Configuration.{inMasks}
 use Rattle.contracts.specs.State.{State}
 use Rattle.contracts.specs.MoveOrder.{candidates, Candidate}
 use Rattle.contracts.specs.MoveCall.{movesOwn}
-use Rattle.contracts.specs.ImproveCall.{improveMade, noBetter, rootNow, rootAfter, bestMoves, improvesBy}
+use Rattle.contracts.specs.ImproveCall.{improveMade, noBetter, rootNow, rootAfter, bestMoves, firstLowers, wouldMake, improvesBy}
 use Rattle.contracts.proofs.Candidates.{in-candidate}
 use Rattle.contracts.proofs.Best.{best-is}
 use Rattle.move_rank.specs.declared.Choice.{Choice}
@@ -26,6 +26,15 @@ module _ (P : Plan) (own : State) (c : Choice) (root : ℕ) (root-is : root ≡ 
   some-there : (m : Move) (ms : List Move) → BestIs (m ∷ ms) P own c → lowersBy c root ≡ ltb (rootAfter P m (own .masks) (own .cells)) (rootNow (own .cells))
   unfolding lowersBy BestIs
   some-there m ms b = rw (ne-eqb (c .count) 0 (λ z. omega (arith, b .0, z)), b .2 .after-is, root-is)
+
+  -- improve would make a move exactly where the choice lowers the root
+  pub would-make : (kinds : ℕ) → BestIs (bestMoves P kinds own) P own c → wouldMake P kinds own ≡ lowersBy c root
+  unfolding wouldMake
+  would-make kinds = go (bestMoves P kinds own)
+    where
+      go : (ms : List Move) → BestIs ms P own c → firstLowers (λ m. rootAfter P m (own .masks) (own .cells)) (rootNow (own .cells)) ms ≡ lowersBy c root
+      go [] b = unfold firstLowers BestIs in sym (none-there b)
+      go (m ∷ ms) b = unfold firstLowers in sym (some-there m ms b)
 
   -- a choice that does not lower the root, or none at all
   pub improve-stays : (ms : List Move) → BestIs ms P own c → lowersBy c root ≡ false → improvesBy ms P own ≡ (noBetter root, own)

@@ -22,14 +22,16 @@ use Rattle.table_format.proofs.Facts.{plan-facts}
 use Rattle.cells_touch.specs.declared.Changed.{Changed}
 use Rattle.cells_touch.specs.inner.Hits.{Describes, Tells}
 use Rattle.cells_sum.specs.declared.After.{After}
-use Rattle.cells_walk.specs.inner.Visit.{MasksSettled}
+use Rattle.cells_walk.specs.inner.Visit.{MasksSettled, CellsFit, TablesLong}
 use Rattle.cells_walk.specs.inner.Root.{RootReady, RootGives}
 use Rattle.call_open.specs.inner.Opening.{OpenPlan}
+use Rattle.call_open.proofs.Opening.{open-longer}
 use Rattle.logic.specs.inner.MoveFields.{tEnd, Fields}
 use Rattle.move_legal.specs.inner.Legal.{LegalOver, MoveReady, MoveNumber}
 use Rattle.logic.proofs.MoveFields.{known-fields}
 use Rattle.contracts.specs.MoveCall.{moveAccepted, cellsAfter, moveAnswer}
 use Rattle.contracts.specs.ImproveCall.{rootNow, rootAfter}
+use Rattle.contracts.proofs.Grounds.{grounds-legal}
 use Rattle.contracts.proofs.Within.{move-within, move-length}
 use Rattle.move_try.specs.inner.Trying.{LegalMove, NumbersAre, GivesNumbers}
 
@@ -70,6 +72,17 @@ module _ {ports sets : ℕ} {bytes masks : List ℕ} {shortest : ℕ} {firsts en
   pub number-is : (m : Move) (n : ℕ) → MoveNumber ports sets m masks n → n ≡ refusal (moveGrounds P (inMasks own) m)
   unfolding MoveNumber
   number-is m n number = number P (sym (opened .ports-are)) (sym (opened .sets-are)) ∙ ap (λ (xs : List ℕ). refusal (moveGrounds P (inMasks xs) m)) own-is
+
+-- neither 14 nor 15 applies to the move of open tables
+pub legal-move : {ports sets : ℕ} {bytes masks cells : List ℕ} {shortest : ℕ} {firsts ends uses : List ℕ} {m : Move} {n : ℕ}
+    (o : OpenPlan ports sets bytes masks shortest firsts ends uses) → shortest ≤ length cells → TablesLong firsts ends uses → CellsFit cells
+    → MoveNumber ports sets m masks n → n ≡ 0 → LegalMove ports sets bytes firsts ends uses masks cells m
+legal-move {cells = cells} {m = m} {n = n} o l long fit number z =
+    let p = open-longer _ _ _ _ _ (length cells) _ _ _ o l in
+    record {
+      tables-open = record { opened = p; long = long; cells-fit = fit };
+      is-legal = grounds-legal (p .plan) _ m (sym (number-is p m n number) ∙ z);
+    }
 
 -- a legal move over open tables
 module _ {ports sets : ℕ} {bytes firsts ends uses masks cells : List ℕ} {m : Move} (move : LegalMove ports sets bytes firsts ends uses masks cells m) where

@@ -16,7 +16,7 @@ use Rattle.table_format.specs.Decode.{Decoded, sound, decode}
 use Rattle.contracts.specs.Read.{ReadValues, tableLength, readGrounds, readOr, reads}
 use Rattle.contracts.specs.Admitted.{Admitted, admittedPlan}
 use Rattle.contracts.specs.State.{tables, ownTables}
-use Rattle.contracts.specs.Call.{planGrounds, tableGrounds, callGrounds, callOr, call}
+use Rattle.contracts.specs.Call.{planGrounds, tableGrounds, tablesThen, callGrounds, callOr, call}
 use Rattle.contracts.specs.Load.{LoadValues, loadRefused, loadGrounds, loadedMasks, loadsOwn, loads}
 use Rattle.contracts.proofs.Reading.{accepted-admitted, admitted-read, read-decodes}
 use Rattle.logic.specs.Moves.{refusal}
@@ -68,7 +68,7 @@ same-answer u s B B′ e = go (refusal (readGrounds u s (length B))) (parsed s) 
 
 -- load's answer depends on the length of the cells alone
 same-loaded : (P : Plan) (ms cells cells′ : List ℕ) → length cells ≡ length cells′ → loads (sound P) (tables ms cells) .0 ≡ loads (sound P) (tables ms cells′) .0
-unfolding loads loadGrounds callGrounds call callOr loadsOwn loadedMasks ownTables
+unfolding loads loadGrounds callGrounds tablesThen call callOr loadsOwn loadedMasks ownTables
 same-loaded P ms cells cells′ e = go (ground (length cells)) ∙ ap (λ (n : ℕ). callOr loadRefused (ground n) (sound P) loadsOwn (tables ms cells′) .0) e
   where
     ground : ℕ → ℕ

@@ -1,2 +1,3 @@
 -- Laws.
 pub mod Handing
+pub mod Plans

@@ -1,6 +1,7 @@
 // The C boundary: every call of the engine as an exported function over slices and numbers. include/vuyekhang.h declares them
 // for C. None has a `requires`, so no caller can break one; each contract gives every field by the answer definitions of the
-// call that it hands on to, and every table that it may write.
+// call that it hands on to, and every table that it may write. The calls themselves see of a journal its length, its record count and
+// its newest record; the records are read and written here.
 use answers::CountAnswer;
 use answers::ImproveAnswer;
 use answers::LoadAnswer;
@@ -15,11 +16,17 @@ use call_best::best_moves;
 use call_improve::improve;
 use call_load::load;
 use call_move::make_move;
-use call_move::trial;
 use call_node::node_bounds;
 use call_read::read;
+use call_trial::trial;
+use call_undo::undo;
 use call_write::write;
 use contracts::Part;
+use journal::put_record;
+use journal::record_at;
+use journal_rules::chosen_of;
+use journal_rules::newest_place;
+use journal_rules::record_place;
 use logic::Move;
 ghost use lib.ListN.{length};
 ghost use Rattle.table_format.specs.Decode.{decode};
@@ -27,10 +34,12 @@ ghost use Rattle.contracts.specs.Read.{reads};
 ghost use Rattle.contracts.specs.WriteCall.{writes};
 ghost use Rattle.contracts.specs.Load.{loads};
 ghost use Rattle.contracts.specs.State.{tables};
-ghost use Rattle.contracts.specs.MoveCall.{moves};
+ghost use Rattle.contracts.specs.Journal.{journaled};
+ghost use Rattle.contracts.specs.MoveCall.{movesJournaled};
 ghost use Rattle.contracts.specs.TrialCall.{trials};
-ghost use Rattle.contracts.specs.ImproveCall.{improves};
+ghost use Rattle.contracts.specs.ImproveCall.{improvesJournaled};
 ghost use Rattle.contracts.specs.BestCall.{lists};
+ghost use Rattle.contracts.specs.UndoCall.{undoesJournaled};
 ghost use Rattle.contracts.specs.NodeCells.{PartGives};
 ghost use Rattle.answers.specs.Boundary.{ReadGives, LoadGives, WriteGives};
 ghost use Rattle.answers.specs.Moving.{MoveGives, TrialGives, ImproveGives, ListGives};
@@ -70,12 +79,21 @@ pub extern "C" fn vk_node_cells(table: &[u8], cells: &[u32], node: usize) -> Par
     node_bounds(table, cells.len(), node)
 }
 
-// Makes a move: writes its masks and the touched cells in place.
+// Makes a move: writes its masks and the touched cells in place, and its record into the journal.
 #[no_mangle]
-pub extern "C" fn vk_move(table: &[u8], masks: &mut [u64], cells: &mut [u32], m: Move) -> MoveAnswer
-    ensures { λ r. ⌜ MoveGives (moves (decode (now (table .entry))) m (tables (now (masks .entry)) (now (cells .entry)))) r (tables (now (masks .exit)) (now (cells .exit))) ⌝ }
+pub extern "C" fn vk_move(
+    table: &[u8],
+    masks: &mut [u64],
+    cells: &mut [u32],
+    journal: &mut [Move],
+    count: &mut usize,
+    m: Move,
+) -> MoveAnswer
+    ensures { λ r. ⌜ MoveGives (movesJournaled (decode (now (table .entry))) m (journaled (now (masks .entry)) (now (cells .entry)) (now (journal .entry)) (now (count .entry)))) r (journaled (now (masks .exit)) (now (cells .exit)) (now (journal .exit)) (now (count .exit))) ⌝ }
 {
-    let a = make_move(table, masks, cells, m);
+    let at = *count;
+    let a = make_move(table, masks, cells, journal.len(), count, m);
+    put_record(journal, record_place(at, *count, journal.len()), m);
     move_fields(a)
 }
 
@@ -94,19 +112,40 @@ pub extern "C" fn vk_trial(
     move_fields(a)
 }
 
-// Makes the first of the best moves of some kinds, if it leaves a smaller root than now.
+// Makes the first of the best moves of some kinds, if it leaves a smaller root than now, and writes its record into the journal.
 #[no_mangle]
 pub extern "C" fn vk_improve(
     table: &[u8],
     masks: &mut [u64],
     cells: &mut [u32],
     scratch: &mut [u32],
+    journal: &mut [Move],
+    count: &mut usize,
     kinds: u32,
 ) -> ImproveAnswer
-    ensures { λ r. ⌜ ImproveGives (decode (now (table .entry))) (improves (decode (now (table .entry))) kinds (tables (now (masks .entry)) (now (cells .entry))) (length (now (scratch .entry)))) r (tables (now (masks .exit)) (now (cells .exit))) (now (scratch .entry)) (now (scratch .exit)) ⌝ }
+    ensures { λ r. ⌜ ImproveGives (decode (now (table .entry))) (improvesJournaled (decode (now (table .entry))) kinds (journaled (now (masks .entry)) (now (cells .entry)) (now (journal .entry)) (now (count .entry))) (length (now (scratch .entry)))) r (journaled (now (masks .exit)) (now (cells .exit)) (now (journal .exit)) (now (count .exit))) (now (scratch .entry)) (now (scratch .exit)) ⌝ }
 {
-    let a = improve(table, masks, cells, scratch, kinds);
+    let at = *count;
+    let a = improve(table, masks, cells, scratch, journal.len(), count, kinds);
+    let place = record_place(at, *count, journal.len());
+    put_record(journal, place, chosen_of(a));
     improve_fields(a)
+}
+
+// Takes the newest move of the journal back.
+#[no_mangle]
+pub extern "C" fn vk_undo(
+    table: &[u8],
+    masks: &mut [u64],
+    cells: &mut [u32],
+    journal: &[Move],
+    count: &mut usize,
+) -> MoveAnswer
+    ensures { λ r. ⌜ MoveGives (undoesJournaled (decode (now (table .entry))) (journaled (now (masks .entry)) (now (cells .entry)) (now (journal .entry)) (now (count .entry)))) r (journaled (now (masks .exit)) (now (cells .exit)) (now (journal .entry)) (now (count .exit))) ⌝ }
+{
+    let newest = record_at(journal, newest_place(*count));
+    let a = undo(table, masks, cells, journal.len(), count, newest);
+    move_fields(a)
 }
 
 // Lists the best moves of some kinds in their order. An array of five numbers is laid out as vk_move_record is.

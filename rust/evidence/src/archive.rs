@@ -3,7 +3,7 @@
 use vuyekhang::raw::{self, CountAnswer, ImproveAnswer, LoadAnswer, MoveAnswer, ReadAnswer};
 use vuyekhang::{Kinds, Moved, Refusal};
 
-use crate::calls::{Calls, Improved, Loaded, Move, Numbers, Read};
+use crate::calls::{Calls, Improved, Journal, Loaded, Move, Numbers, Read};
 use crate::lent::{only_read, written};
 
 pub fn read(u: u64, text: &[u8], table: &mut [u8]) -> Result<Read, u32> {
@@ -21,16 +21,34 @@ pub fn load(table: &[u8], masks: &[u64], cells: &mut [u32]) -> Result<Loaded, u3
     answer.map(|a| Loaded { root: a.root, cells: a.cells }).map_err(|refusal| refusal.number())
 }
 
-pub fn make_move(table: &[u8], masks: &mut [u64], cells: &mut [u32], m: &Move) -> Result<Numbers, u32> {
-    numbers(vuyekhang::make_move(table, masks, cells, record(m)))
+/// The records of a lent journal, as the binding has them.
+type Records = [vuyekhang::Move];
+
+pub fn make_move(
+    table: &[u8],
+    masks: &mut [u64],
+    cells: &mut [u32],
+    journal: &mut Records,
+    count: &mut usize,
+    m: &Move,
+) -> Result<Numbers, u32> {
+    numbers(vuyekhang::make_move(table, masks, cells, journal, count, record(m)))
 }
 
 pub fn trial(table: &[u8], masks: &[u64], cells: &[u32], scratch: &mut [u32], m: &Move) -> Result<Numbers, u32> {
     numbers(vuyekhang::trial(table, masks, cells, scratch, record(m)))
 }
 
-pub fn improve(table: &[u8], masks: &mut [u64], cells: &mut [u32], scratch: &mut [u32], kinds: u32) -> Result<Improved, u32> {
-    match vuyekhang::improve(table, masks, cells, scratch, Kinds(kinds)) {
+pub fn improve(
+    table: &[u8],
+    masks: &mut [u64],
+    cells: &mut [u32],
+    scratch: &mut [u32],
+    journal: &mut Records,
+    count: &mut usize,
+    kinds: u32,
+) -> Result<Improved, u32> {
+    match vuyekhang::improve(table, masks, cells, scratch, journal, count, Kinds(kinds)) {
         Ok(vuyekhang::Improved::Made { chosen, moved }) => numbers(Ok(moved)).map(|n| Improved::Made(move_of(&chosen), n)),
         Ok(vuyekhang::Improved::NoBetter { root }) => Ok(Improved::NoBetter(root)),
         Err(refusal) => Err(refusal.number()),
@@ -93,31 +111,77 @@ const BYTE: u8 = 0xA5;
 const MASK: u64 = u64::MAX;
 const CELL: u32 = 0xDEAD_BEEF;
 const RECORD: vuyekhang::Move = vuyekhang::Move { kind: CELL, s: CELL, t: CELL, p: CELL, q: CELL };
+const COUNT: usize = usize::MAX;
+
+/// The tables of a call that writes masks and cells.
+fn lend<A>(table: &[u8], masks: &mut [u64], cells: &mut [u32], call: impl FnOnce(&[u8], &mut [u64], &mut [u32]) -> A) -> A {
+    only_read(table, BYTE, |t| written(masks, MASK, |ms| written(cells, CELL, |cs| call(t, ms, cs))))
+}
+
+/// The journal of a call that writes it, the count too between guard words.
+fn lend_journal<A>(journal: &mut Journal, call: impl FnOnce(&mut Records, &mut usize) -> A) -> A {
+    let mut own = records(&journal.records);
+    let answer = lend_count(&mut journal.count, |count| written(&mut own, RECORD, |j| call(j, count)));
+    journal.records.iter_mut().zip(&own).for_each(|(m, own)| *m = move_of(own));
+    answer
+}
+
+fn lend_count<A>(count: &mut usize, call: impl FnOnce(&mut usize) -> A) -> A {
+    written(std::slice::from_mut(count), COUNT, |count| call(&mut count[0]))
+}
+
+fn records(all: &[Move]) -> Vec<vuyekhang::Move> {
+    all.iter().map(record).collect()
+}
 
 /// The archive in a list of calls. Each table is lent as a copy between guard words: a word written outside of it, or to a table
-/// that the call only reads, ends the run. So does a raw answer with a field that it should not have.
+/// that the call only reads, ends the run. So does a raw answer with a field that it should not have; raw functions are called
+/// last, since no guard words stand around their copies.
 pub struct Archive;
 
 impl Calls for Archive {
-    fn make_move(&self, table: &[u8], masks: &mut [u64], cells: &mut [u32], m: &Move) -> Result<Numbers, u32> {
-        let fields = raw::make_move(table, &mut masks.to_vec(), &mut cells.to_vec(), record(m));
-        let answer = only_read(table, BYTE, |t| written(masks, MASK, |ms| written(cells, CELL, |cs| make_move(t, ms, cs, m))));
+    fn make_move(&self, table: &[u8], masks: &mut [u64], cells: &mut [u32], journal: &mut Journal, m: &Move) -> Result<Numbers, u32> {
+        let (mut ms, mut cs, mut j, mut count) = (masks.to_vec(), cells.to_vec(), records(&journal.records), journal.count);
+        let answer = lend_journal(journal, |j, count| lend(table, masks, cells, |t, ms, cs| make_move(t, ms, cs, j, count, m)));
+        let fields = raw::make_move(table, &mut ms, &mut cs, &mut j, &mut count, record(m));
         assert_eq!(fields, move_fields(answer), "the fields of {m:?}");
         answer
     }
 
+    fn undo(&self, table: &[u8], masks: &mut [u64], cells: &mut [u32], journal: &mut Journal) -> Result<Numbers, u32> {
+        let (mut ms, mut cs, own, mut raw_count) = (masks.to_vec(), cells.to_vec(), records(&journal.records), journal.count);
+        let mut over = |j: &Records, count: &mut usize| lend(table, masks, cells, |t, ms, cs| vuyekhang::undo(t, ms, cs, j, count));
+        let answer = numbers(lend_count(&mut journal.count, |count| only_read(&own, RECORD, |j| over(j, count))));
+        let fields = raw::undo(table, &mut ms, &mut cs, &own, &mut raw_count);
+        assert_eq!(fields, move_fields(answer), "the fields of undo");
+        answer
+    }
+
     fn trial(&self, table: &[u8], masks: &[u64], cells: &[u32], scratch: &mut [u32], m: &Move) -> Result<Numbers, u32> {
-        let fields = raw::trial(table, masks, cells, &mut scratch.to_vec(), record(m));
+        let mut raw_scratch = scratch.to_vec();
         let mut over = |t: &[u8], ms: &[u64], cs: &[u32]| written(scratch, CELL, |sc| trial(t, ms, cs, sc, m));
         let answer = only_read(table, BYTE, |t| only_read(masks, MASK, |ms| only_read(cells, CELL, |cs| over(t, ms, cs))));
+        let fields = raw::trial(table, masks, cells, &mut raw_scratch, record(m));
         assert_eq!(fields, move_fields(answer), "the fields of a trial of {m:?}");
         answer
     }
 
-    fn improve(&self, table: &[u8], masks: &mut [u64], cells: &mut [u32], scratch: &mut [u32], kinds: u32) -> Result<Improved, u32> {
-        let fields = raw::improve(table, &mut masks.to_vec(), &mut cells.to_vec(), &mut scratch.to_vec(), kinds);
-        let mut over = |t: &[u8], ms: &mut [u64], cs: &mut [u32]| written(scratch, CELL, |sc| improve(t, ms, cs, sc, kinds));
-        let answer = only_read(table, BYTE, |t| written(masks, MASK, |ms| written(cells, CELL, |cs| over(t, ms, cs))));
+    fn improve(
+        &self,
+        table: &[u8],
+        masks: &mut [u64],
+        cells: &mut [u32],
+        scratch: &mut [u32],
+        journal: &mut Journal,
+        kinds: u32,
+    ) -> Result<Improved, u32> {
+        let (mut ms, mut cs, mut sc) = (masks.to_vec(), cells.to_vec(), scratch.to_vec());
+        let (mut j, mut count) = (records(&journal.records), journal.count);
+        let over = |j: &mut Records, count: &mut usize| {
+            written(scratch, CELL, |sc| lend(table, masks, cells, |t, ms, cs| improve(t, ms, cs, sc, j, count, kinds)))
+        };
+        let answer = lend_journal(journal, over);
+        let fields = raw::improve(table, &mut ms, &mut cs, &mut sc, &mut j, &mut count, kinds);
         assert_eq!(fields, improve_fields(answer), "the fields of an improve of kinds {kinds}");
         answer
     }
@@ -131,18 +195,17 @@ impl Calls for Archive {
         kinds: u32,
         list: &mut [Move],
     ) -> Result<usize, u32> {
-        let mut records: Vec<vuyekhang::Move> = list.iter().map(record).collect();
-        let (mut raw_scratch, mut raw_list) = (scratch.to_vec(), records.clone());
+        let mut own = records(list);
+        let (mut raw_scratch, mut raw_list) = (scratch.to_vec(), own.clone());
         let mut over = |t: &[u8], ms: &[u64], cs: &[u32]| {
             let call = |sc: &mut [u32], l: &mut [vuyekhang::Move]| vuyekhang::best_moves(t, ms, cs, sc, Kinds(kinds), l);
-            written(scratch, CELL, |sc| written(&mut records, RECORD, |l| call(sc, l)))
+            written(scratch, CELL, |sc| written(&mut own, RECORD, |l| call(sc, l)))
         };
         let answer = only_read(table, BYTE, |t| only_read(masks, MASK, |ms| only_read(cells, CELL, |cs| over(t, ms, cs))));
         let answer = answer.map_err(|refusal| refusal.number());
-        // Only now, since no guard words stand around these copies.
         let fields = raw::best_moves(table, masks, cells, &mut raw_scratch, kinds, &mut raw_list);
         assert_eq!(fields, count_fields(answer), "the fields of the best moves of kinds {kinds}");
-        list.iter_mut().zip(&records).for_each(|(m, own)| *m = move_of(own));
+        list.iter_mut().zip(&own).for_each(|(m, own)| *m = move_of(own));
         answer
     }
 }

@@ -1,6 +1,7 @@
 //! The list of best moves (request 2026-01), compared with the second evaluator at every length of the lent list that matters.
 use crate::calls::{Calls, Move};
 use crate::counts::Counts;
+use crate::journals::any_record;
 use crate::lent::{lengths, same, same_table, Compared};
 use crate::random::Random;
 use crate::second::moves::{best_moves, listed, Tried};
@@ -45,12 +46,6 @@ fn one_length(
     compare_scratch(g, expected.is_ok(), &scratch).map_err(told)?;
     counts.met(format!("best moves{}: {}", g.over, expected.map_or_else(|n| format!("refused {n}"), |_| "listed".to_string())));
     Ok(())
-}
-
-/// Any numbers, so that a record that is written, or not, is seen.
-fn any_record(r: &mut Random) -> Move {
-    let mut word = || r.word() as u32;
-    Move { kind: word(), s: word(), t: word(), p: word(), q: word() }
 }
 
 /// The best moves in their order, then what stood there before; on a refusal all of that.

@@ -10,6 +10,13 @@ pub struct Move {
     pub q: u32,
 }
 
+/// A lent journal: its records, and how many of them are moves that were made and not taken back, the newest last.
+#[derive(Debug, Clone, PartialEq, Eq, Default)]
+pub struct Journal {
+    pub records: Vec<Move>,
+    pub count: usize,
+}
+
 /// Node count and cell total of a text that is read.
 #[derive(Debug, Clone, Copy, PartialEq, Eq)]
 pub struct Read {
@@ -41,9 +48,18 @@ pub enum Improved {
 
 /// The calls over tables that a list is made of.
 pub trait Calls {
-    fn make_move(&self, table: &[u8], masks: &mut [u64], cells: &mut [u32], m: &Move) -> Result<Numbers, u32>;
+    fn make_move(&self, table: &[u8], masks: &mut [u64], cells: &mut [u32], journal: &mut Journal, m: &Move) -> Result<Numbers, u32>;
+    fn undo(&self, table: &[u8], masks: &mut [u64], cells: &mut [u32], journal: &mut Journal) -> Result<Numbers, u32>;
     fn trial(&self, table: &[u8], masks: &[u64], cells: &[u32], scratch: &mut [u32], m: &Move) -> Result<Numbers, u32>;
-    fn improve(&self, table: &[u8], masks: &mut [u64], cells: &mut [u32], scratch: &mut [u32], kinds: u32) -> Result<Improved, u32>;
+    fn improve(
+        &self,
+        table: &[u8],
+        masks: &mut [u64],
+        cells: &mut [u32],
+        scratch: &mut [u32],
+        journal: &mut Journal,
+        kinds: u32,
+    ) -> Result<Improved, u32>;
     /// Answers how many moves it has listed.
     fn best_moves(
         &self,

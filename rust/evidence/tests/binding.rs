@@ -1,7 +1,7 @@
 //! The binding's own part: each ground by its name, moves and kinds with any fields, and answers that no version gives today.
 use vuyekhang::raw::{CountAnswer, ImproveAnswer, LoadAnswer, MoveAnswer, ReadAnswer};
-use vuyekhang::{best_moves, improve, load, make_move, read, trial, write};
-use vuyekhang::{Improved, Kinds, Loaded, Move, Moved, Read, Refusal, MOST_TABLE, MOST_TEXT, READ_STACK};
+use vuyekhang::{best_moves, improve, load, make_move, read, trial, undo, write};
+use vuyekhang::{Improved, Kinds, Loaded, Move, Moved, Read, Refusal, MOST_RECORDS, MOST_TABLE, MOST_TEXT, READ_STACK};
 
 const PLAN_A: &[u8] = b"[STI] @x (x:I <-> x:S & x:T) & #I <= 1";
 const CELLS: usize = 34;
@@ -68,7 +68,8 @@ fn a_plan_without_a_text() {
 fn grounds_of_the_operator() {
     let (table, mut masks, mut cells, mut scratch) = (plan_a(), [3, 7, 1], [0; CELLS], [0; CELLS]);
     assert_eq!(load(&table, &masks, &mut cells), Ok(Loaded { root: 1, cells: CELLS }));
-    let mut made = |m: Move| make_move(&table, &mut masks, &mut cells, m);
+    let (mut journal, mut count) = ([Move::default(); 2], 0);
+    let mut made = |m: Move| make_move(&table, &mut masks, &mut cells, &mut journal, &mut count, m);
     for unknown in
         [Move::default(), Move { kind: 5, ..Move::add(0, 2) }, Move { q: 1, ..Move::add(0, 2) }, Move::add(3, 2), Move::add(0, 3)]
     {
@@ -78,12 +79,37 @@ fn grounds_of_the_operator() {
         assert_eq!(made(illegal), Err(Refusal::IllegalMove), "{illegal:?}");
     }
     for kinds in [Kinds(0), Kinds(16), Kinds(u32::MAX)] {
-        assert_eq!(improve(&table, &mut masks, &mut cells, &mut scratch, kinds), Err(Refusal::UnknownMove));
+        let answer = improve(&table, &mut masks, &mut cells, &mut scratch, &mut journal, &mut count, kinds);
+        assert_eq!(answer, Err(Refusal::UnknownMove));
         assert_eq!(best_moves(&table, &masks, &cells, &mut scratch, kinds, &mut []), Err(Refusal::UnknownMove));
     }
     assert_eq!(best_moves(&table, &masks, &cells, &mut scratch, Kinds::DROP, &mut []), Err(Refusal::ListTooShort));
     let operator = [Refusal::UnknownMove, Refusal::IllegalMove, Refusal::ListTooShort];
     assert_eq!(operator.map(|refusal| refusal.number()), [14, 15, 16]);
+}
+
+/// A journal of one record, full and empty by turns.
+#[test]
+fn grounds_of_the_journal() {
+    let (table, mut masks, mut cells, mut scratch) = (plan_a(), [3, 7, 1], [0; CELLS], [0; CELLS]);
+    load(&table, &masks, &mut cells).expect("plan A is sound");
+    let (mut journal, mut count) = ([Move::default()], 0);
+    assert_eq!(undo(&table, &mut masks, &mut cells, &journal, &mut count), Err(Refusal::JournalEmpty));
+    make_move(&table, &mut masks, &mut cells, &mut journal, &mut count, Move::add(2, 2)).expect("there is room");
+    assert_eq!(make_move(&table, &mut masks, &mut cells, &mut journal, &mut count, Move::drop(1, 1)), Err(Refusal::JournalFull));
+    let answer = improve(&table, &mut masks, &mut cells, &mut scratch, &mut journal, &mut count, Kinds::DROP);
+    assert_eq!(answer, Err(Refusal::JournalFull));
+    assert_eq!((masks, journal, count), ([3, 7, 5], [Move::add(2, 2)], 1));
+    for past in [2, MOST_RECORDS + 1, usize::MAX] {
+        count = past;
+        assert_eq!(make_move(&table, &mut masks, &mut cells, &mut journal, &mut count, Move::drop(1, 1)), Err(Refusal::TooShort));
+        assert_eq!(undo(&table, &mut masks, &mut cells, &journal, &mut count), Err(Refusal::TooShort));
+        assert_eq!(count, past);
+    }
+    count = 1;
+    assert!(undo(&table, &mut masks, &mut cells, &journal, &mut count).is_ok());
+    assert_eq!((masks, journal, count), ([3, 7, 1], [Move::add(2, 2)], 0));
+    assert_eq!([Refusal::JournalFull, Refusal::JournalEmpty].map(|refusal| refusal.number()), [18, 19]);
 }
 
 #[test]
@@ -98,10 +124,15 @@ fn a_move_of_each_kind() {
         let (mut masks, mut cells) = ([3, 7, 1], [0; CELLS]);
         load(&table, &masks, &mut cells).expect("plan A is sound");
         let tried = trial(&table, &masks, &cells, &mut scratch, m);
-        assert_eq!(make_move(&table, &mut masks, &mut cells, m), tried);
+        let (mut journal, mut count) = ([Move::default(); 1], 0);
+        assert_eq!(make_move(&table, &mut masks, &mut cells, &mut journal, &mut count, m), tried);
         let moved = tried.expect("the move is legal");
+        let made = cells;
         let loaded = load(&table, &masks, &mut cells).expect("plan A is sound");
-        assert_eq!((masks, moved.before, moved.after), (after, 1, loaded.root), "{m:?}");
+        assert_eq!((masks, moved.before, moved.after, made), (after, 1, loaded.root, cells), "{m:?}");
+        let undone = undo(&table, &mut masks, &mut cells, &journal, &mut count);
+        assert_eq!(undone, Ok(Moved { before: moved.after, after: 1, changed: moved.changed }));
+        assert_eq!((masks, journal, count), ([3, 7, 1], [m], 0));
     }
 }
 
@@ -111,7 +142,8 @@ fn sums_of_kinds() {
     let improved = |kinds: Kinds| {
         let (mut masks, mut cells, mut scratch) = ([3, 7, 1], [0; CELLS], [0; CELLS]);
         load(&table, &masks, &mut cells).expect("plan A is sound");
-        improve(&table, &mut masks, &mut cells, &mut scratch, kinds).expect("the kinds are known")
+        let (mut journal, mut count) = ([Move::default(); 1], 0);
+        improve(&table, &mut masks, &mut cells, &mut scratch, &mut journal, &mut count, kinds).expect("the kinds are known")
     };
     for kinds in [Kinds::DROP, Kinds::ADD | Kinds::DROP, Kinds::ALL] {
         let made = Improved::Made { chosen: Move::drop(0, 1), moved: Moved { before: 1, after: 0, changed: 8 } };
@@ -137,19 +169,19 @@ fn best_moves_in_order() {
 #[test]
 fn numbers_and_meanings() {
     let refusal = |number: u32| ReadAnswer { number, nodes: 0, cells: 0 }.typed().expect_err("a number other than 0");
-    let meanings: std::collections::BTreeSet<String> = (1..=17).map(|n| refusal(n).to_string()).collect();
-    assert_eq!(meanings.len(), 17);
+    let meanings: std::collections::BTreeSet<String> = (1..=19).map(|n| refusal(n).to_string()).collect();
+    assert_eq!(meanings.len(), 19);
     for number in (1..40).chain([u32::MAX]) {
         assert_eq!(refusal(number).number(), number);
         assert!(refusal(number).to_string().starts_with(&format!("refused ({number}): ")));
-        assert_eq!(matches!(refusal(number), Refusal::Other { .. }), number > 17);
+        assert_eq!(matches!(refusal(number), Refusal::Other { .. }), number > 19);
     }
-    assert_eq!(refusal(18).to_string(), "refused (18): a ground that this version does not name");
-    assert_eq!(LoadAnswer { number: 18, root: 0, cells: 0 }.typed(), Err(refusal(18)));
-    assert_eq!(MoveAnswer { number: 18, before: 0, after: 0, changed: 0 }.typed(), Err(refusal(18)));
+    assert_eq!(refusal(20).to_string(), "refused (20): a ground that this version does not name");
+    assert_eq!(LoadAnswer { number: 20, root: 0, cells: 0 }.typed(), Err(refusal(20)));
+    assert_eq!(MoveAnswer { number: 20, before: 0, after: 0, changed: 0 }.typed(), Err(refusal(20)));
     let chosen = Move::default();
-    assert_eq!(ImproveAnswer { number: 18, found: 0, chosen, before: 0, after: 0, changed: 0 }.typed(), Err(refusal(18)));
-    assert_eq!(CountAnswer { number: 18, count: 0 }.typed(), Err(refusal(18)));
+    assert_eq!(ImproveAnswer { number: 20, found: 0, chosen, before: 0, after: 0, changed: 0 }.typed(), Err(refusal(20)));
+    assert_eq!(CountAnswer { number: 20, count: 0 }.typed(), Err(refusal(20)));
     assert_eq!(CountAnswer { number: 0, count: 21_504 }.typed(), Ok(21_504));
 }
 

@@ -1,7 +1,8 @@
 //! The known plans of paper 01, through the second evaluator alone and through the archive.
 use evidence::archive::{load, read, Archive};
-use evidence::calls::{Calls, Improved, Loaded, Move, Numbers, Read};
-use evidence::second::moves::{best_moves, improved, legal_moves, make_move, pairs, touched};
+use evidence::calls::{Calls, Improved, Journal, Loaded, Move, Numbers, Read};
+use evidence::second::journal::make_move;
+use evidence::second::moves::{best_moves, improved, legal_moves, pairs, touched};
 use evidence::second::penalty::{cells, text_true, tuples};
 use evidence::second::table::{decode, encode};
 use evidence::second::text::{read as second_read, Accepted};
@@ -50,6 +51,11 @@ fn plan_a() {
     assert!(node_cells(&encode(&plan), &own, 14).is_empty());
 }
 
+/// An empty journal.
+fn room() -> Journal {
+    Journal { records: vec![STOOD; 4], count: 0 }
+}
+
 #[test]
 fn plan_b() {
     let plan = accepted(3, PLAN_A).plan;
@@ -59,9 +65,10 @@ fn plan_b() {
     let is_touched = |node: usize, t: &Vec<usize>| pairs(&drop).iter().any(|pair| touched(&plan, node, t, *pair));
     let count: usize = (0..14).map(|node| tuples(3, plan.depth(node)).iter().filter(|t| is_touched(node, t)).count()).sum();
     assert_eq!(count, 9);
-    let answer = make_move(&encode(&plan), &mut masks, &mut own, &drop);
+    let mut journal = room();
+    let answer = make_move(&encode(&plan), &mut masks, &mut own, &mut journal, &drop);
     assert_eq!(answer, Ok(Numbers { before: 1, after: 0, changed: 8 }));
-    assert_eq!(masks, [3, 5, 1]);
+    assert_eq!((masks, journal.count, journal.records), ([3, 5, 1], 1, vec![drop, STOOD, STOOD, STOOD]));
     assert_eq!(own, cells(&plan, &masks));
 }
 
@@ -76,11 +83,16 @@ fn plan_b_by_the_archive() {
     let numbers = Numbers { before: 1, after: 0, changed: 8 };
     assert_eq!(Archive.trial(&table, &masks, &own, &mut scratch, &drop), Ok(numbers));
     assert_eq!(Archive.trial(&table, &masks, &own, &mut scratch[1..], &drop), Err(12));
-    assert_eq!(Archive.make_move(&table, &mut masks, &mut own, &drop), Ok(numbers));
+    let mut journal = room();
+    assert_eq!(Archive.make_move(&table, &mut masks, &mut own, &mut journal, &drop), Ok(numbers));
     assert_eq!((masks, &own), ([3, 5, 1], &cells(&plan, &masks)));
-    assert_eq!(Archive.make_move(&table, &mut masks, &mut own, &drop), Err(15));
-    assert_eq!(Archive.improve(&table, &mut masks, &mut own, &mut scratch, 15), Ok(Improved::NoBetter(0)));
-    assert_eq!(Archive.improve(&table, &mut masks, &mut own, &mut scratch, 16), Err(14));
+    assert_eq!(Archive.make_move(&table, &mut masks, &mut own, &mut journal, &drop), Err(15));
+    assert_eq!(Archive.improve(&table, &mut masks, &mut own, &mut scratch, &mut journal, 15), Ok(Improved::NoBetter(0)));
+    assert_eq!(Archive.improve(&table, &mut masks, &mut own, &mut scratch, &mut journal, 16), Err(14));
+    let undone = Numbers { before: 0, after: 1, changed: 8 };
+    assert_eq!(Archive.undo(&table, &mut masks, &mut own, &mut journal), Ok(undone));
+    assert_eq!((masks, &own), ([3, 7, 1], &cells(&plan, &masks)));
+    assert_eq!(Archive.undo(&table, &mut masks, &mut own, &mut journal), Err(19));
 }
 
 fn add(s: u32, p: u32) -> Move {
@@ -121,7 +133,7 @@ fn best_of(u: u64, text: &str, masks: &[u64], kinds: u32, expected: &[Move], roo
     if count > 0 {
         assert_eq!(by_archive(count - 1), (Err(16), vec![STOOD; count - 1]));
     }
-    let answer = Archive.improve(&table, &mut masks.to_vec(), &mut own.clone(), &mut own.clone(), kinds);
+    let answer = Archive.improve(&table, &mut masks.to_vec(), &mut own.clone(), &mut own.clone(), &mut room(), kinds);
     assert_eq!(answer, Ok(improved(&best, own[0])));
 }
 
@@ -161,7 +173,7 @@ fn improve_makes_the_first() {
     let expected = Improved::Made(drop(0, 1), Numbers { before: 1, after: 0, changed: 8 });
     assert_eq!(improved(&best, own[0]), expected);
     assert_eq!(improved(&best, 0), Improved::NoBetter(0));
-    assert_eq!(Archive.improve(&table, &mut masks, &mut own.clone(), &mut own, 15), Ok(expected));
+    assert_eq!(Archive.improve(&table, &mut masks, &mut own.clone(), &mut own, &mut room(), 15), Ok(expected));
     assert_eq!(masks, [1, 7, 1]);
 }
 
@@ -207,9 +219,11 @@ fn wide_fields_are_not_cut() {
             Move { p: drop.p + more, ..drop },
             Move { q: more, ..drop },
         ] {
-            assert_eq!(Archive.make_move(&table, &mut masks, &mut own, &wide), Err(14));
+            assert_eq!(Archive.make_move(&table, &mut masks, &mut own, &mut room(), &wide), Err(14));
+            let mut foreign = Journal { records: vec![wide], count: 1 };
+            assert_eq!(Archive.undo(&table, &mut masks, &mut own, &mut foreign), Err(14));
         }
-        assert_eq!(Archive.improve(&table, &mut masks, &mut own.clone(), &mut own, more + 2), Err(14));
+        assert_eq!(Archive.improve(&table, &mut masks, &mut own.clone(), &mut own, &mut room(), more + 2), Err(14));
         assert_eq!(Archive.best_moves(&table, &masks, &own.clone(), &mut own, more + 2, &mut [STOOD; 9]), Err(14));
     }
 }

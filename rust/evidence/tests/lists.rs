@@ -1,6 +1,7 @@
 //! The driver of lists of calls: no difference where the second evaluator stands on both sides, and a difference for each mistake
-//! that paper 01 says must be shut out, and for what request 2026-01 of paper 02 no longer leaves free.
-use evidence::calls::{Calls, Improved, Move, Numbers};
+//! that paper 01 says must be shut out, and for what request 2026-01 of paper 02 no longer leaves free. Mistakes of the journal are in
+//! `list_journal.rs`.
+use evidence::calls::{Calls, Improved, Journal, Move, Numbers};
 use evidence::counts::Counts;
 use evidence::lists::{run, Second};
 use evidence::second::moves::{best_moves, improved};
@@ -30,9 +31,9 @@ struct Wrong {
 }
 
 impl Calls for Wrong {
-    fn make_move(&self, table: &[u8], masks: &mut [u64], cells: &mut [u32], m: &Move) -> Result<Numbers, u32> {
+    fn make_move(&self, table: &[u8], masks: &mut [u64], cells: &mut [u32], journal: &mut Journal, m: &Move) -> Result<Numbers, u32> {
         let before = cells.to_vec();
-        let mut answer = Second.make_move(table, masks, cells, m)?;
+        let mut answer = Second.make_move(table, masks, cells, journal, m)?;
         self.moves.set(self.moves.get() + 1);
         let undone = match self.mistake {
             Mistake::MendsRootOnly => 1..cells.len(),
@@ -45,6 +46,10 @@ impl Calls for Wrong {
         Ok(answer)
     }
 
+    fn undo(&self, table: &[u8], masks: &mut [u64], cells: &mut [u32], journal: &mut Journal) -> Result<Numbers, u32> {
+        Second.undo(table, masks, cells, journal)
+    }
+
     fn trial(&self, table: &[u8], masks: &[u64], cells: &[u32], scratch: &mut [u32], m: &Move) -> Result<Numbers, u32> {
         let answer = Second.trial(table, masks, cells, scratch, m);
         if self.mistake == Mistake::ScratchPastTheEnd {
@@ -53,15 +58,34 @@ impl Calls for Wrong {
         answer
     }
 
-    fn improve(&self, table: &[u8], masks: &mut [u64], cells: &mut [u32], scratch: &mut [u32], kinds: u32) -> Result<Improved, u32> {
-        if self.mistake == Mistake::NoBetterAtOnce {
-            Second.improve(table, &mut masks.to_vec(), &mut cells.to_vec(), scratch, kinds)?;
-            return Ok(Improved::NoBetter(cells[0]));
+    fn improve(
+        &self,
+        table: &[u8],
+        masks: &mut [u64],
+        cells: &mut [u32],
+        scratch: &mut [u32],
+        journal: &mut Journal,
+        kinds: u32,
+    ) -> Result<Improved, u32> {
+        let best = best_moves(table, masks, cells, scratch.len(), kinds);
+        let (mut ms, mut cs, root) = (masks.to_vec(), cells.to_vec(), cells.first().copied());
+        let mut answer = Second.improve(table, &mut ms, &mut cs, scratch, journal, kinds)?;
+        match (self.mistake, best, root) {
+            (Mistake::NoBetterAtOnce, _, Some(root)) => return Ok(Improved::NoBetter(root)),
+            // Improve as paper 01 alone would allow it.
+            (Mistake::LastOfTheBest, Ok(best), Some(root)) => {
+                answer = improved(&best[best.len().saturating_sub(1)..], root);
+                (ms, cs) = (masks.to_vec(), cells.to_vec());
+                if let Improved::Made(m, _) = &answer {
+                    journal.count -= 1;
+                    Second.make_move(table, &mut ms, &mut cs, journal, m)?;
+                }
+            }
+            _ => {}
         }
-        if self.mistake == Mistake::LastOfTheBest {
-            return last_of_the_best(table, masks, cells, scratch, kinds);
-        }
-        Second.improve(table, masks, cells, scratch, kinds)
+        masks.copy_from_slice(&ms);
+        cells.copy_from_slice(&cs);
+        Ok(answer)
     }
 
     fn best_moves(
@@ -89,16 +113,6 @@ impl Calls for Wrong {
         }
         Ok(count)
     }
-}
-
-/// Improve as paper 01 alone would allow it.
-fn last_of_the_best(table: &[u8], masks: &mut [u64], cells: &mut [u32], scratch: &mut [u32], kinds: u32) -> Result<Improved, u32> {
-    let best = best_moves(table, masks, cells, scratch.len(), kinds)?;
-    let answer = improved(&best[best.len().saturating_sub(1)..], cells[0]);
-    if let Improved::Made(m, _) = &answer {
-        Second.make_move(table, masks, cells, m)?;
-    }
-    Ok(answer)
 }
 
 fn reported(mistake: Mistake) -> bool {

@@ -1,7 +1,7 @@
 //! The plain engine answers as the archive does, and leaves the same masks and cells: over the measured plans and random ones.
 use evidence::archive::{load, load_fields, read, read_fields, Archive};
 use evidence::bench::plans::{opposite, plans};
-use evidence::calls::{Calls, Loaded, Move};
+use evidence::calls::{Calls, Journal, Loaded, Move};
 use evidence::random::{any_text, damage_table, masks as random_masks, text, Random};
 use evidence::{plain, with_stack};
 use vuyekhang::{raw, MOST_TABLE};
@@ -12,13 +12,16 @@ struct Both {
     masks: [Vec<u64>; 2],
     cells: [Vec<u32>; 2],
     scratch: Vec<u32>,
+    /// The archive's; the plain engine keeps none.
+    journal: Journal,
 }
 
 impl Both {
     /// Cells that hold anything, or loaded ones.
     fn new(table: Vec<u8>, masks: Vec<u64>, count: usize) -> Self {
         let cells = vec![0; count];
-        Both { table, masks: [masks.clone(), masks], cells: [cells.clone(), cells], scratch: vec![0; count] }
+        let journal = Journal { records: vec![Move::default(); 32], count: 0 };
+        Both { table, masks: [masks.clone(), masks], cells: [cells.clone(), cells], scratch: vec![0; count], journal }
     }
 
     fn same(&self) {
@@ -42,13 +45,13 @@ impl Both {
     }
 
     fn make(&mut self, m: Move) {
-        let answer = Archive.make_move(&self.table, &mut self.masks[0], &mut self.cells[0], &m);
+        let answer = Archive.make_move(&self.table, &mut self.masks[0], &mut self.cells[0], &mut self.journal, &m);
         assert_eq!(answer, plain::make_move(&self.table, &mut self.masks[1], &mut self.cells[1], &m), "move {m:?}");
         self.same();
     }
 
     fn improve(&mut self, kinds: u32) {
-        let answer = Archive.improve(&self.table, &mut self.masks[0], &mut self.cells[0], &mut self.scratch, kinds);
+        let answer = Archive.improve(&self.table, &mut self.masks[0], &mut self.cells[0], &mut self.scratch, &mut self.journal, kinds);
         let plain = plain::improve(&self.table, &mut self.masks[1], &mut self.cells[1], &self.scratch, kinds);
         assert_eq!(answer, plain, "improve {kinds}");
         self.same();

@@ -26,7 +26,7 @@ pub struct Loaded {
     pub cells: usize,
 }
 
-/// What an accepted [`make_move`](crate::make_move) or [`trial`](crate::trial) answers.
+/// What an accepted [`make_move`](crate::make_move), [`trial`](crate::trial) or [`undo`](crate::undo) answers.
 #[derive(Debug, Clone, Copy, PartialEq, Eq, Hash)]
 pub struct Moved {
     /// The root before the move.
@@ -47,7 +47,7 @@ pub enum Improved {
         /// What [`make_move`](crate::make_move) answers for it.
         moved: Moved,
     },
-    /// No legal move of the kinds leaves a smaller root than now; masks and cells are as they were.
+    /// No legal move of the kinds leaves a smaller root than now; masks, cells and journal are as they were.
     NoBetter {
         /// The root.
         root: u32,

@@ -3,13 +3,14 @@
 //! A plan is a formula over sets of ports. [`read`] writes its plan table from a text and [`write`] a text from its plan table.
 //! [`load`] fills a penalty for every node and every tuple of ports (a cell), and the root's penalty is 0 exactly when the formula
 //! is true. [`make_move`] changes the sets and the cells that this touches, [`trial`] says what a move would do, [`improve`] makes
-//! the best move and [`best_moves`] lists those that are equally good.
+//! the best move and [`best_moves`] lists those that are equally good. Moves that are made go into a journal, and [`undo`] takes
+//! the newest of them back.
 //!
 //! The caller owns every table and lends it for one call; the engine keeps nothing between two calls. A refused call writes
 //! nothing, and nothing past a plan's own bytes, masks or cells is read or written.
 //!
 //! ```
-//! use vuyekhang::{load, make_move, read, Move, MOST_TABLE};
+//! use vuyekhang::{load, make_move, read, undo, Move, MOST_RECORDS, MOST_TABLE};
 //!
 //! // I holds exactly the ports that are in both S and T, and at most one port.
 //! let text = b"[STI] @x (x:I <-> x:S & x:T) & #I <= 1";
@@ -23,9 +24,15 @@
 //! assert_eq!((loaded.root, loaded.cells), (1, 34));
 //!
 //! // Without port 1 in T the plan is true.
-//! let moved = make_move(&table, &mut masks, &mut cells, Move::drop(1, 1))?;
+//! let (mut journal, mut count) = ([Move::default(); MOST_RECORDS], 0);
+//! let moved = make_move(&table, &mut masks, &mut cells, &mut journal, &mut count, Move::drop(1, 1))?;
 //! assert_eq!((moved.before, moved.after, moved.changed), (1, 0, 8));
-//! assert_eq!(masks, [3, 5, 1]);
+//! assert_eq!((masks, &journal[..count]), ([3, 5, 1], &[Move::drop(1, 1)][..]));
+//!
+//! // Taken back.
+//! let undone = undo(&table, &mut masks, &mut cells, &journal, &mut count)?;
+//! assert_eq!((undone.before, undone.after, undone.changed), (0, 1, 8));
+//! assert_eq!((masks, count), ([3, 7, 1], 0));
 //! # Ok::<(), vuyekhang::Refusal>(())
 //! ```
 //!
@@ -56,6 +63,9 @@ pub const MOST_CELLS: usize = 1_048_576;
 
 /// No plan ever has more legal moves than this, so that a list of so many is long enough for any [`best_moves`].
 pub const MOST_MOVES: usize = 21_504;
+
+/// A journal is full at this many records, however long it is.
+pub const MOST_RECORDS: usize = 1_024;
 
 /// The stack of a thread on which [`read`] may be called with any text.
 pub const READ_STACK: usize = 8 << 20;
@@ -136,15 +146,53 @@ pub fn node_cells<'a>(table: &[u8], cells: &'a [u32], node: usize) -> &'a [u32] 
     &cells[part.first..part.first + part.count]
 }
 
-/// Makes a move: writes its masks and the touched cells in place.
+/// Makes a move: writes its masks and the touched cells in place, and the move into the journal.
 ///
-/// Tries 11, then 12 (fewer masks than sets, or fewer cells than the plan's total), then 13, 14 and 15. The cells are taken as
-/// they are: after a [`load`] and nothing but these calls each is its penalty.
-pub fn make_move(table: &[u8], masks: &mut [u64], cells: &mut [u32], m: Move) -> Result<Moved, Refusal> {
-    raw::make_move(table, masks, cells, m).typed()
+/// The first `count` records of the journal are the moves that were made and not taken back, the newest last: a caller begins
+/// with 0 and lends both on to every call. The move is written at the old count, the count is then one more, and every other record
+/// stays.
+///
+/// Tries 11, then 12 (fewer masks than sets, fewer cells than the plan's total, or a count past the journal's length or past
+/// [`MOST_RECORDS`]), then 13, 14, 15, then 18: the count is the journal's length or [`MOST_RECORDS`]. The cells are taken as they
+/// are: after a [`load`] and nothing but these calls each is its penalty.
+pub fn make_move(
+    table: &[u8],
+    masks: &mut [u64],
+    cells: &mut [u32],
+    journal: &mut [Move],
+    count: &mut usize,
+    m: Move,
+) -> Result<Moved, Refusal> {
+    raw::make_move(table, masks, cells, journal, count, m).typed()
 }
 
-/// What [`make_move`] would answer, with masks and cells kept.
+/// Takes the newest move of the journal back: makes its opposite, answers as [`make_move`] would for that, and lowers the count by
+/// one. No record is written.
+///
+/// The opposite of an add is a drop and that of a drop an add, that of a transfer goes from t to s, and that of a swap has p and q
+/// exchanged. After a [`load`] and nothing but these calls, masks and cells are those before the move.
+///
+/// Tries 11 to 13 as [`make_move`] does, then 19 (the count is 0), then 14 of the record and 15 of its opposite.
+///
+/// ```
+/// # use vuyekhang::{load, make_move, read, undo, Move, Refusal, MOST_TABLE};
+/// # let mut table = [0; MOST_TABLE];
+/// # let plan = read(3, b"[S] #S = 2", &mut table)?;
+/// # let (mut masks, mut cells) = ([0b011], vec![0; plan.cells]);
+/// # load(&table, &masks, &mut cells)?;
+/// let (mut journal, mut count) = ([Move::default(); 4], 0);
+/// make_move(&table, &mut masks, &mut cells, &mut journal, &mut count, Move::swap(0, 1, 2))?;
+/// assert_eq!((masks, count), ([0b101], 1));
+/// undo(&table, &mut masks, &mut cells, &journal, &mut count)?;
+/// assert_eq!((masks, count), ([0b011], 0));
+/// assert_eq!(undo(&table, &mut masks, &mut cells, &journal, &mut count), Err(Refusal::JournalEmpty));
+/// # Ok::<(), vuyekhang::Refusal>(())
+/// ```
+pub fn undo(table: &[u8], masks: &mut [u64], cells: &mut [u32], journal: &[Move], count: &mut usize) -> Result<Moved, Refusal> {
+    raw::undo(table, masks, cells, journal, count).typed()
+}
+
+/// What [`make_move`] would answer with room in its journal, with masks and cells kept.
 ///
 /// Scratch has as many cells as the plan or more (else 12); what an accepted call leaves in so many of them is not said.
 pub fn trial(table: &[u8], masks: &[u64], cells: &[u32], scratch: &mut [u32], m: Move) -> Result<Moved, Refusal> {
@@ -154,7 +202,8 @@ pub fn trial(table: &[u8], masks: &[u64], cells: &[u32], scratch: &mut [u32], m:
 /// Makes the first, in the order of [`Move`], of the legal moves of some kinds that leave the least root, if that is smaller than
 /// now.
 ///
-/// Tries 11 to 13 as [`trial`] does, then 14: kinds is 0 or above 15. Scratch as for [`trial`].
+/// The move goes into the journal as that of [`make_move`] does. Tries 11 to 13 as [`make_move`] and [`trial`] do, then 14 (kinds
+/// is 0 or above 15), then 18, but only where it would make a move. Scratch as for [`trial`].
 ///
 /// ```
 /// # use vuyekhang::{improve, load, read, Improved, Kinds, Move, Moved, MOST_TABLE};
@@ -162,24 +211,34 @@ pub fn trial(table: &[u8], masks: &[u64], cells: &[u32], scratch: &mut [u32], m:
 /// # let plan = read(3, b"[S] #S = 2 & @x (x/S | ?y (y:S & x != y))", &mut table)?;
 /// # let (mut masks, mut cells, mut scratch) = ([0b111], vec![0; plan.cells], vec![0; plan.cells]);
 /// # load(&table, &masks, &mut cells)?;
-/// let answer = improve(&table, &mut masks, &mut cells, &mut scratch, Kinds::ADD | Kinds::DROP)?;
+/// # let (mut journal, mut count) = ([Move::default(); 4], 0);
+/// let answer = improve(&table, &mut masks, &mut cells, &mut scratch, &mut journal, &mut count, Kinds::ADD | Kinds::DROP)?;
 /// match answer {
 ///     Improved::Made { chosen, moved } => println!("{chosen:?}: root {} to {}", moved.before, moved.after),
 ///     Improved::NoBetter { root } => println!("no better move, root {root}"),
 /// }
 /// # let expected = Move::drop(0, 0);
 /// # assert!(matches!(answer, Improved::Made { chosen, moved: Moved { before: 1, after: 0, .. } } if chosen == expected));
+/// # assert_eq!(journal[..count], [expected]);
 /// # Ok::<(), vuyekhang::Refusal>(())
 /// ```
-pub fn improve(table: &[u8], masks: &mut [u64], cells: &mut [u32], scratch: &mut [u32], kinds: Kinds) -> Result<Improved, Refusal> {
-    raw::improve(table, masks, cells, scratch, kinds.0).typed()
+pub fn improve(
+    table: &[u8],
+    masks: &mut [u64],
+    cells: &mut [u32],
+    scratch: &mut [u32],
+    journal: &mut [Move],
+    count: &mut usize,
+    kinds: Kinds,
+) -> Result<Improved, Refusal> {
+    raw::improve(table, masks, cells, scratch, journal, count, kinds.0).typed()
 }
 
 /// Lists the legal moves of some kinds that leave the least root, as [`trial`] would answer it, and answers how many there are.
 ///
 /// They begin the list, each once and in the order of [`Move`], also where that root is not smaller than now; 0 of them where no
-/// move is legal. Records past the count stay. Tries 11 to 14 as [`improve`] does, then 16: the list is shorter than the count, so
-/// that one of [`MOST_MOVES`] is always long enough. Scratch as for [`trial`].
+/// move is legal. Records past the count stay. Tries 11 to 13 as [`trial`] does, then 14 (kinds), then 16: the list is shorter than
+/// the count, so that one of [`MOST_MOVES`] is always long enough. Scratch as for [`trial`].
 ///
 /// ```
 /// # use vuyekhang::{best_moves, load, read, Kinds, Move, Refusal, MOST_TABLE};

@@ -95,7 +95,21 @@ extern "C" {
         masks_len: usize,
         cells: *mut u32,
         cells_len: usize,
+        journal: *mut Move,
+        journal_len: usize,
+        journal_count: *mut usize,
         m: Move,
+    ) -> MoveAnswer;
+    fn vk_undo(
+        table: *const u8,
+        table_len: usize,
+        masks: *mut u64,
+        masks_len: usize,
+        cells: *mut u32,
+        cells_len: usize,
+        journal: *const Move,
+        journal_len: usize,
+        journal_count: *mut usize,
     ) -> MoveAnswer;
     fn vk_trial(
         table: *const u8,
@@ -117,6 +131,9 @@ extern "C" {
         cells_len: usize,
         scratch: *mut u32,
         scratch_len: usize,
+        journal: *mut Move,
+        journal_len: usize,
+        journal_count: *mut usize,
         kinds: u32,
     ) -> ImproveAnswer;
     fn vk_best_moves(
@@ -159,11 +176,19 @@ pub fn node_cells(table: &[u8], cells: &[u32], node: usize) -> Part {
 }
 
 /// `vk_move`; see [`crate::make_move`].
-pub fn make_move(table: &[u8], masks: &mut [u64], cells: &mut [u32], m: Move) -> MoveAnswer {
-    let (t, ms, cs) = (table.as_ptr(), masks.as_mut_ptr(), cells.as_mut_ptr());
-    // SAFETY: each pointer comes from a slice of the length beside it, and `masks` and `cells`, which are written, are borrowed
-    // here alone.
-    unsafe { vk_move(t, table.len(), ms, masks.len(), cs, cells.len(), m) }
+pub fn make_move(table: &[u8], masks: &mut [u64], cells: &mut [u32], journal: &mut [Move], count: &mut usize, m: Move) -> MoveAnswer {
+    let (t, ms, cs, j) = (table.as_ptr(), masks.as_mut_ptr(), cells.as_mut_ptr(), journal.as_mut_ptr());
+    // SAFETY: each pointer comes from a slice of the length beside it, that of the count from a reference, and `masks`, `cells`,
+    // `journal` and `count`, which are written, are borrowed here alone.
+    unsafe { vk_move(t, table.len(), ms, masks.len(), cs, cells.len(), j, journal.len(), count, m) }
+}
+
+/// `vk_undo`; see [`crate::undo`].
+pub fn undo(table: &[u8], masks: &mut [u64], cells: &mut [u32], journal: &[Move], count: &mut usize) -> MoveAnswer {
+    let (t, ms, cs, j) = (table.as_ptr(), masks.as_mut_ptr(), cells.as_mut_ptr(), journal.as_ptr());
+    // SAFETY: each pointer comes from a slice of the length beside it, that of the count from a reference, and `masks`, `cells` and
+    // `count`, which are written, are borrowed here alone.
+    unsafe { vk_undo(t, table.len(), ms, masks.len(), cs, cells.len(), j, journal.len(), count) }
 }
 
 /// `vk_trial`; see [`crate::trial`].
@@ -174,11 +199,19 @@ pub fn trial(table: &[u8], masks: &[u64], cells: &[u32], scratch: &mut [u32], m:
 }
 
 /// `vk_improve`; see [`crate::improve`].
-pub fn improve(table: &[u8], masks: &mut [u64], cells: &mut [u32], scratch: &mut [u32], kinds: u32) -> ImproveAnswer {
-    let (t, ms, cs, sc) = (table.as_ptr(), masks.as_mut_ptr(), cells.as_mut_ptr(), scratch.as_mut_ptr());
-    // SAFETY: each pointer comes from a slice of the length beside it, and `masks`, `cells` and `scratch`, which are written, are
-    // borrowed here alone.
-    unsafe { vk_improve(t, table.len(), ms, masks.len(), cs, cells.len(), sc, scratch.len(), kinds) }
+pub fn improve(
+    table: &[u8],
+    masks: &mut [u64],
+    cells: &mut [u32],
+    scratch: &mut [u32],
+    journal: &mut [Move],
+    count: &mut usize,
+    kinds: u32,
+) -> ImproveAnswer {
+    let (t, ms, cs, sc, j) = (table.as_ptr(), masks.as_mut_ptr(), cells.as_mut_ptr(), scratch.as_mut_ptr(), journal.as_mut_ptr());
+    // SAFETY: each pointer comes from a slice of the length beside it, that of the count from a reference, and `masks`, `cells`,
+    // `scratch`, `journal` and `count`, which are written, are borrowed here alone.
+    unsafe { vk_improve(t, table.len(), ms, masks.len(), cs, cells.len(), sc, scratch.len(), j, journal.len(), count, kinds) }
 }
 
 /// `vk_best_moves`; see [`crate::best_moves`].

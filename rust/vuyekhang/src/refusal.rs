@@ -39,7 +39,7 @@ pub enum Refusal {
     WrongPortCount,
     /// 11: the plan table breaks a rule or is cut short.
     BrokenTable,
-    /// 12: a cell, scratch, mask or output table is too short.
+    /// 12: a cell, scratch, mask or output table is too short, or a record count is past the journal's length or past 1,024.
     TooShort,
     /// 13: a mask has a port of u or more.
     PortOutsidePlan,
@@ -51,6 +51,10 @@ pub enum Refusal {
     ListTooShort,
     /// 17: the plan's text would be over 4,096 bytes, or have more than 64 of `(` and quantifiers around one token.
     Unwritable,
+    /// 18: the journal is full: the record count is its length or 1,024.
+    JournalFull,
+    /// 19: there is no move to take back: the record count is 0.
+    JournalEmpty,
     /// A ground that this version does not name. Only the engine's own answers make one, so that it never stands for a ground
     /// that has a name.
     #[non_exhaustive]
@@ -61,7 +65,7 @@ pub enum Refusal {
 }
 
 /// Each ground with its meaning; ground n stands at n - 1.
-const GROUNDS: [(Refusal, &str); 17] = [
+const GROUNDS: [(Refusal, &str); 19] = [
     (Refusal::TextTooLong, "text over 4,096 bytes"),
     (Refusal::UnknownByte, "a byte of no token, space or line end"),
     (Refusal::OutsideGrammar, "text outside the grammar"),
@@ -73,12 +77,14 @@ const GROUNDS: [(Refusal, &str); 17] = [
     (Refusal::TooManyCells, "more than 1,048,576 cells"),
     (Refusal::WrongPortCount, "a number of ports outside 1 to 64"),
     (Refusal::BrokenTable, "plan table breaks a rule or is cut short"),
-    (Refusal::TooShort, "cell, scratch, mask or output table too short"),
+    (Refusal::TooShort, "cell, scratch, mask or output table too short, or record count past the journal"),
     (Refusal::PortOutsidePlan, "a mask with a port of u or more"),
     (Refusal::UnknownMove, "unknown kind, set, port or sum of kinds, or an unused field not 0"),
     (Refusal::IllegalMove, "move not legal"),
     (Refusal::ListTooShort, "list of moves too short"),
     (Refusal::Unwritable, "the plan's text would be over 4,096 bytes or have more than 64 of `(` and quantifiers around one token"),
+    (Refusal::JournalFull, "journal full"),
+    (Refusal::JournalEmpty, "no move in the journal to take back"),
 ];
 
 impl Refusal {
@@ -107,6 +113,8 @@ impl Refusal {
             Refusal::IllegalMove => 15,
             Refusal::ListTooShort => 16,
             Refusal::Unwritable => 17,
+            Refusal::JournalFull => 18,
+            Refusal::JournalEmpty => 19,
             Refusal::Other { number } => *number,
         }
     }

@@ -6,17 +6,23 @@ use Rattle.logic.specs.Change.{modulus}
 use Rattle.cells_walk.specs.inner.Visit.{CellsFit}
 use Rattle.contracts.specs.State.{tables, ownTables}
 use Rattle.contracts.proofs.Scratch.{scratch-kept}
+use Rattle.contracts.specs.Journal.{mostRecords}
+use Rattle.contracts.proofs.Journals.{not-full}
+use Rattle.journal_rules.proofs.Counting.{lent-most}
 use Rattle.call_open.proofs.Opening.{open-longer, root-cell}
 use Rattle.move_make.specs.inner.Carrying.{Carries}
 use Rattle.move_best.specs.inner.Choosing.{Chooses}
 use Rattle.move_best.proofs.Answering.{chosen-candidate}
-use Rattle.call_improve.proofs.Improving.{improve-shut, improve-unknown, improve-none, improve-made, root-now}
+use Rattle.call_improve.proofs.Improving.{improve-shut, improve-unknown, improve-none, improve-full, improve-made, root-now}
 use borrow.Author.Needs.{needs}
 use Rattle.call_improve.proofs.improve.Statement.{statement}
 use Rattle.call_improve.proofs.improve.Tie as tie
 
 lesser-requires : tie.Need-lesser-requires
 lesser-requires c κs = search needs
+
+cells-lent-requires : tie.Need-cells-lent-requires
+cells-lent-requires c κs = search needs
 
 slice-aggregate-open-tables : tie.Need-slice-aggregate-open-tables
 slice-aggregate-open-tables c = search needs
@@ -35,7 +41,7 @@ same-length c = search needs
 
 returns : tie.Need-returns
 returns c =
-    (improve-shut _ _ _ _ _ _ (c .if1 .taken) (rw (c .before .before .before .before .before .before .before .before .before .before .lesser .ensures) at (c .before .before .before .before .before .open-tables .ensures .number-is)), scratch-kept _ _ _)
+    (improve-shut _ _ _ _ _ _ _ _ (c .if1 .taken) (rw (c .before .before .before .before .before .before .before .before .before .before .before .lesser .ensures) at (rw (c .before .before .before .before .before .before .before .before .before .cells-lent .ensures) at (c .before .before .before .before .before .open-tables .ensures .number-is))), scratch-kept _ _ _)
 
 kinds-known-requires : tie.Need-kinds-known-requires
 kinds-known-requires c κs = search needs
@@ -46,7 +52,7 @@ same-length-2 c = search needs
 returns-2 : tie.Need-returns-2
 returns-2 c =
     let o = c .before .before .before .before .before .before .before .open-tables .ensures .opens (c .before .before .if1 .left) in
-    (improve-unknown _ _ _ _ _ (o .plan) (o .decodes) (sym (rw (c .before .before .before .before .before .before .before .before .before .before .before .before .lesser .ensures) at (c .before .before .before .before .before .before .before .open-tables .ensures .number-is)) ∙ c .before .before .if1 .left) (sym (c .before .kinds-known .ensures) ∙ not-true _ (c .if2 .taken)), scratch-kept _ _ _)
+    (improve-unknown _ _ _ _ _ _ _ (o .plan) (o .decodes) (sym (rw (c .before .before .before .before .before .before .before .before .before .before .before .before .before .lesser .ensures) at (rw (c .before .before .before .before .before .before .before .before .before .before .before .cells-lent .ensures) at (c .before .before .before .before .before .before .before .open-tables .ensures .number-is))) ∙ c .before .before .if1 .left) (sym (c .before .kinds-known .ensures) ∙ not-true _ (c .if2 .taken)), scratch-kept _ _ _)
 
 slice-aggregate-choose : tie.Need-slice-aggregate-choose
 slice-aggregate-choose c = search needs
@@ -63,16 +69,17 @@ slice-aggregate-choose-4 c = search needs
 choose-requires : tie.Need-choose-requires
 unfolding CellsFit modulus
 choose-requires c κs =
-    record {
-      opened = open-longer _ _ _ _ _ _ _ _ _ (c .before .before .before .before .before .before .before .before .before .before .before .before .before .open-tables .ensures .opens (c .before .before .before .before .before .before .before .before .if1 .left)) (omega (arith, c .before .before .before .before .before .before .before .before .before .before .before .before .before .before .before .before .before .before .lesser .ensures));
+    let l = lent-most _ _ _ _ (c .before .before .before .before .before .before .before .before .before .before .before .before .before .before .before .before .before .cells-lent .ensures) in record {
+      opened = open-longer _ _ _ _ _ _ _ _ _ (c .before .before .before .before .before .before .before .before .before .before .before .before .before .open-tables .ensures .opens (c .before .before .before .before .before .before .before .before .if1 .left)) (omega (arith, l, c .before .before .before .before .before .before .before .before .before .before .before .before .before .before .before .before .before .before .before .lesser .ensures));
       long = record { firsts-long = omega (arith, c .before .before .before .before .before .before .before .before .before .before .before .before .before .open-tables .kept .1 .1 .1 .0); ends-long = omega (arith, c .before .before .before .before .before .before .before .before .before .before .before .before .before .open-tables .kept .1 .1 .1 .1 .0); uses-long = omega (arith, c .before .before .before .before .before .before .before .before .before .before .before .before .before .open-tables .kept .1 .1 .1 .1 .1 .0) };
-      cells-fit = (λ j. omega (arith, c .before .before .before .before .before .before .before .before .before .before .before .before .before .before .before .before .before .before .before .before .slice-known2 .given j));
+      cells-fit = (λ j. omega (arith, c .before .before .before .before .before .before .before .before .before .before .before .before .before .before .before .before .before .before .before .before .before .before .slice-known2 .given j));
     }
 
 slice-read-root : tie.Need-slice-read-root
 slice-read-root c =
+    let l = lent-most _ _ _ _ (c .before .before .before .before .before .before .before .before .before .before .before .before .before .before .before .before .before .before .before .before .cells-lent .ensures) in
     let o = c .before .before .before .before .before .before .before .before .before .before .before .before .before .before .before .before .open-tables .ensures .opens (c .before .before .before .before .before .before .before .before .before .before .before .if1 .left) in
-    omega (arith, c .before .before .before .before .before .before .before .before .before .before .before .before .before .before .before .before .before .before .before .before .before .lesser .ensures, o .own-cells, root-cell _ (o .plan) (o .decodes))
+    omega (arith, l, c .before .before .before .before .before .before .before .before .before .before .before .before .before .before .before .before .before .before .before .before .before .before .lesser .ensures, o .own-cells, root-cell _ (o .plan) (o .decodes))
 
 lowers-requires : tie.Need-lowers-requires
 lowers-requires c κs = search needs
@@ -87,7 +94,27 @@ returns-3 : tie.Need-returns-3
 unfolding Chooses
 returns-3 c =
     let o = c .before .before .before .before .before .before .before .before .before .before .before .before .before .before .before .before .before .before .open-tables .ensures .opens (c .before .before .before .before .before .before .before .before .before .before .before .before .before .if1 .left) in
-    (improve-none _ _ _ _ _ (o .plan) (o .decodes) (sym (rw (c .before .before .before .before .before .before .before .before .before .before .before .before .before .before .before .before .before .before .before .before .before .before .before .lesser .ensures) at (c .before .before .before .before .before .before .before .before .before .before .before .before .before .before .before .before .before .before .open-tables .ensures .number-is)) ∙ c .before .before .before .before .before .before .before .before .before .before .before .before .before .if1 .left) (sym (c .before .before .before .before .before .before .before .before .before .before .before .before .kinds-known .ensures) ∙ not-false _ (c .before .before .before .before .before .before .before .before .before .before .before .if2 .left)) _ (c .before .before .before .before .choose .ensures (o .plan) (o .decodes) .0) _ (root-now _ (o .plan) (o .decodes) _ _) (sym (c .before .lowers .ensures) ∙ not-true _ (c .if3 .taken)), scratch-kept _ _ _)
+    (improve-none _ _ _ _ _ _ _ (o .plan) (o .decodes) (sym (rw (c .before .before .before .before .before .before .before .before .before .before .before .before .before .before .before .before .before .before .before .before .before .before .before .before .lesser .ensures) at (rw (c .before .before .before .before .before .before .before .before .before .before .before .before .before .before .before .before .before .before .before .before .before .before .cells-lent .ensures) at (c .before .before .before .before .before .before .before .before .before .before .before .before .before .before .before .before .before .before .open-tables .ensures .number-is))) ∙ c .before .before .before .before .before .before .before .before .before .before .before .before .before .if1 .left) (sym (c .before .before .before .before .before .before .before .before .before .before .before .before .kinds-known .ensures) ∙ not-false _ (c .before .before .before .before .before .before .before .before .before .before .before .if2 .left)) _ (c .before .before .before .before .choose .ensures (o .plan) (o .decodes) .0) _ (root-now _ (o .plan) (o .decodes) _ _) (sym (c .before .lowers .ensures) ∙ not-true _ (c .if3 .taken)), scratch-kept _ _ _)
+
+is-full-requires : tie.Need-is-full-requires
+is-full-requires c κs = search needs
+
+same-length-5 : tie.Need-same-length-5
+same-length-5 c = search needs
+
+same-length-6 : tie.Need-same-length-6
+same-length-6 c = search needs
+
+returns-4 : tie.Need-returns-4
+unfolding Chooses
+returns-4 c =
+    let o = c .before .before .before .before .before .before .before .before .before .before .before .before .before .before .before .before .before .before .before .before .open-tables .ensures .opens (c .before .before .before .before .before .before .before .before .before .before .before .before .before .before .before .if1 .left) in
+    (improve-full _ _ _ _ _ _ _ (o .plan) (o .decodes) (sym (rw (c .before .before .before .before .before .before .before .before .before .before .before .before .before .before .before .before .before .before .before .before .before .before .before .before .before .before .lesser .ensures) at (rw (c .before .before .before .before .before .before .before .before .before .before .before .before .before .before .before .before .before .before .before .before .before .before .before .before .cells-lent .ensures) at (c .before .before .before .before .before .before .before .before .before .before .before .before .before .before .before .before .before .before .before .before .open-tables .ensures .number-is))) ∙ c .before .before .before .before .before .before .before .before .before .before .before .before .before .before .before .if1 .left) (sym (c .before .before .before .before .before .before .before .before .before .before .before .before .before .before .kinds-known .ensures) ∙ not-false _ (c .before .before .before .before .before .before .before .before .before .before .before .before .before .if2 .left)) _ (c .before .before .before .before .before .before .choose .ensures (o .plan) (o .decodes) .0) _ (root-now _ (o .plan) (o .decodes) _ _) (sym (c .before .before .before .lowers .ensures) ∙ not-false _ (c .before .before .if3 .left)) (sym (c .before .is-full .ensures) ∙ c .if4 .taken), scratch-kept _ _ _)
+
+add-count : tie.Need-add-count
+unfolding mostRecords
+add-count c =
+    let h = not-full _ _ (sym (c .before .is-full .ensures) ∙ c .if4 .left) .1 in omega (arith, h)
 
 slice-aggregate-carry : tie.Need-slice-aggregate-carry
 slice-aggregate-carry c = search needs
@@ -101,36 +128,38 @@ slice-aggregate-carry-3 c = search needs
 carry-requires : tie.Need-carry-requires
 unfolding CellsFit modulus Chooses ownTables
 carry-requires c κs =
-    let o = open-longer _ _ _ _ _ (length (c .before .before .before .before .before .before .before .before .before .before .before .before .before .before .before .before .before .before .before .before .before .before .before .before .before .before .before .before .before .before .before .before .before .args .cells .now)) _ _ _ (c .before .before .before .before .before .before .before .before .before .before .before .before .before .before .before .before .before .before .before .before .before .before .before .open-tables .ensures .opens (c .before .before .before .before .before .before .before .before .before .before .before .before .before .before .before .before .before .before .if1 .left)) (omega (arith, c .before .before .before .before .before .before .before .before .before .before .before .before .before .before .before .before .before .before .before .before .before .before .before .before .before .before .before .before .lesser .ensures)) in
+    let l = lent-most _ _ _ _ (c .before .before .before .before .before .before .before .before .before .before .before .before .before .before .before .before .before .before .before .before .before .before .before .before .before .before .before .before .before .cells-lent .ensures) in
+    let o = open-longer _ _ _ _ _ (length (c .before .before .before .before .before .before .before .before .before .before .before .before .before .before .before .before .before .before .before .before .before .before .before .before .before .before .before .before .before .before .before .before .before .before .before .before .before .args .cells .now)) _ _ _ (c .before .before .before .before .before .before .before .before .before .before .before .before .before .before .before .before .before .before .before .before .before .before .before .before .before .open-tables .ensures .opens (c .before .before .before .before .before .before .before .before .before .before .before .before .before .before .before .before .before .before .before .before .if1 .left)) (omega (arith, l, c .before .before .before .before .before .before .before .before .before .before .before .before .before .before .before .before .before .before .before .before .before .before .before .before .before .before .before .before .before .before .before .lesser .ensures)) in
     record {
       tables-open = record {
         opened = o;
-        long = record { firsts-long = omega (arith, c .before .before .before .before .before .before .before .before .before .before .before .before .before .before .before .before .before .before .before .before .before .before .before .open-tables .kept .1 .1 .1 .0); ends-long = omega (arith, c .before .before .before .before .before .before .before .before .before .before .before .before .before .before .before .before .before .before .before .before .before .before .before .open-tables .kept .1 .1 .1 .1 .0); uses-long = omega (arith, c .before .before .before .before .before .before .before .before .before .before .before .before .before .before .before .before .before .before .before .before .before .before .before .open-tables .kept .1 .1 .1 .1 .1 .0) };
-        cells-fit = (λ j. omega (arith, c .before .before .before .before .before .before .before .before .before .before .before .before .before .before .before .before .before .before .before .before .before .before .before .before .before .before .before .before .before .before .slice-known2 .given j));
+        long = record { firsts-long = omega (arith, c .before .before .before .before .before .before .before .before .before .before .before .before .before .before .before .before .before .before .before .before .before .before .before .before .before .open-tables .kept .1 .1 .1 .0); ends-long = omega (arith, c .before .before .before .before .before .before .before .before .before .before .before .before .before .before .before .before .before .before .before .before .before .before .before .before .before .open-tables .kept .1 .1 .1 .1 .0); uses-long = omega (arith, c .before .before .before .before .before .before .before .before .before .before .before .before .before .before .before .before .before .before .before .before .before .before .before .before .before .open-tables .kept .1 .1 .1 .1 .1 .0) };
+        cells-fit = (λ j. omega (arith, c .before .before .before .before .before .before .before .before .before .before .before .before .before .before .before .before .before .before .before .before .before .before .before .before .before .before .before .before .before .before .before .before .before .before .slice-known2 .given j));
       };
-      is-legal = chosen-candidate (o .plan) (ownTables (o .plan) (tables (c .before .before .before .before .before .before .before .before .before .before .before .before .before .before .before .before .before .before .before .before .before .before .before .before .before .before .before .before .before .before .before .before .before .args .masks .now) (c .before .before .before .before .before .before .before .before .before .before .before .before .before .before .before .before .before .before .before .before .before .before .before .before .before .before .before .before .before .before .before .before .before .args .cells .now))) _ _ (root-now _ (o .plan) (o .decodes) (c .before .before .before .before .before .before .before .before .before .before .before .before .before .before .before .before .before .before .before .before .before .before .before .before .before .before .before .before .before .before .before .before .before .args .masks .now) _) _ (c .before .before .before .before .before .before .before .before .before .choose .ensures (o .plan) (o .decodes) .0) (sym (c .before .before .before .before .before .before .lowers .ensures) ∙ not-false _ (c .before .before .before .before .before .if3 .left)) .is-legal;
+      is-legal = chosen-candidate (o .plan) (ownTables (o .plan) (tables (c .before .before .before .before .before .before .before .before .before .before .before .before .before .before .before .before .before .before .before .before .before .before .before .before .before .before .before .before .before .before .before .before .before .before .before .before .before .args .masks .now) (c .before .before .before .before .before .before .before .before .before .before .before .before .before .before .before .before .before .before .before .before .before .before .before .before .before .before .before .before .before .before .before .before .before .before .before .before .before .args .cells .now))) _ _ (root-now _ (o .plan) (o .decodes) (c .before .before .before .before .before .before .before .before .before .before .before .before .before .before .before .before .before .before .before .before .before .before .before .before .before .before .before .before .before .before .before .before .before .before .before .before .before .args .masks .now) _) _ (c .before .before .before .before .before .before .before .before .before .before .before .choose .ensures (o .plan) (o .decodes) .0) (sym (c .before .before .before .before .before .before .before .before .lowers .ensures) ∙ not-false _ (c .before .before .before .before .before .before .before .if3 .left)) .is-legal;
     }
 
 made-requires : tie.Need-made-requires
 made-requires c κs = search needs
 
-same-length-5 : tie.Need-same-length-5
-same-length-5 c = search needs
+same-length-7 : tie.Need-same-length-7
+same-length-7 c = search needs
 
-same-length-6 : tie.Need-same-length-6
-same-length-6 c = search needs
+same-length-8 : tie.Need-same-length-8
+same-length-8 c = search needs
 
-returns-4 : tie.Need-returns-4
+returns-5 : tie.Need-returns-5
 unfolding Chooses Carries
-returns-4 c =
-    let o = c .before .before .before .before .before .before .before .before .before .before .before .before .before .before .before .before .before .before .before .before .before .before .before .before .before .before .before .before .before .open-tables .ensures .opens (c .before .before .before .before .before .before .before .before .before .before .before .before .before .before .before .before .before .before .before .before .before .before .before .before .if1 .left) in
-    rw (c .made .ensures) (improve-made _ _ _ _ _ (o .plan) (o .decodes) (sym (rw (c .before .before .before .before .before .before .before .before .before .before .before .before .before .before .before .before .before .before .before .before .before .before .before .before .before .before .before .before .before .before .before .before .before .before .lesser .ensures) at (c .before .before .before .before .before .before .before .before .before .before .before .before .before .before .before .before .before .before .before .before .before .before .before .before .before .before .before .before .before .open-tables .ensures .number-is)) ∙ c .before .before .before .before .before .before .before .before .before .before .before .before .before .before .before .before .before .before .before .before .before .before .before .before .if1 .left) (sym (c .before .before .before .before .before .before .before .before .before .before .before .before .before .before .before .before .before .before .before .before .before .before .before .kinds-known .ensures) ∙ not-false _ (c .before .before .before .before .before .before .before .before .before .before .before .before .before .before .before .before .before .before .before .before .before .before .if2 .left)) _ (c .before .before .before .before .before .before .before .before .before .before .before .before .before .before .before .choose .ensures (o .plan) (o .decodes) .0) _ (root-now _ (o .plan) (o .decodes) _ _) (sym (c .before .before .before .before .before .before .before .before .before .before .before .before .lowers .ensures) ∙ not-false _ (c .before .before .before .before .before .before .before .before .before .before .before .if3 .left)) _ _ _ (c .before .before .before .before .before .carry .ensures (o .plan) (o .decodes)), scratch-kept _ _ _)
+returns-5 c =
+    let o = c .before .before .before .before .before .before .before .before .before .before .before .before .before .before .before .before .before .before .before .before .before .before .before .before .before .before .before .before .before .before .before .open-tables .ensures .opens (c .before .before .before .before .before .before .before .before .before .before .before .before .before .before .before .before .before .before .before .before .before .before .before .before .before .before .if1 .left) in
+    rw (c .made .ensures) (improve-made _ _ _ _ _ _ _ (o .plan) (o .decodes) (sym (rw (c .before .before .before .before .before .before .before .before .before .before .before .before .before .before .before .before .before .before .before .before .before .before .before .before .before .before .before .before .before .before .before .before .before .before .before .before .before .lesser .ensures) at (rw (c .before .before .before .before .before .before .before .before .before .before .before .before .before .before .before .before .before .before .before .before .before .before .before .before .before .before .before .before .before .before .before .before .before .before .before .cells-lent .ensures) at (c .before .before .before .before .before .before .before .before .before .before .before .before .before .before .before .before .before .before .before .before .before .before .before .before .before .before .before .before .before .before .before .open-tables .ensures .number-is))) ∙ c .before .before .before .before .before .before .before .before .before .before .before .before .before .before .before .before .before .before .before .before .before .before .before .before .before .before .if1 .left) (sym (c .before .before .before .before .before .before .before .before .before .before .before .before .before .before .before .before .before .before .before .before .before .before .before .before .before .kinds-known .ensures) ∙ not-false _ (c .before .before .before .before .before .before .before .before .before .before .before .before .before .before .before .before .before .before .before .before .before .before .before .before .if2 .left)) _ (c .before .before .before .before .before .before .before .before .before .before .before .before .before .before .before .before .before .choose .ensures (o .plan) (o .decodes) .0) _ (root-now _ (o .plan) (o .decodes) _ _) (sym (c .before .before .before .before .before .before .before .before .before .before .before .before .before .before .lowers .ensures) ∙ not-false _ (c .before .before .before .before .before .before .before .before .before .before .before .before .before .if3 .left)) (sym (c .before .before .before .before .before .before .before .before .before .before .before .before .is-full .ensures) ∙ c .before .before .before .before .before .before .before .before .before .before .before .if4 .left) _ _ _ _ (c .before .before .before .before .before .carry .ensures (o .plan) (o .decodes)) (omega arith), scratch-kept _ _ _)
 
 pub improve-spec : {M : Type 1} → statement M
 improve-spec =
     tie.close
     (tie.spec
     lesser-requires
+    cells-lent-requires
     slice-aggregate-open-tables
     slice-aggregate-open-tables-2
     slice-aggregate-open-tables-3
@@ -150,11 +179,16 @@ improve-spec =
     same-length-3
     same-length-4
     returns-3
+    is-full-requires
+    same-length-5
+    same-length-6
+    returns-4
+    add-count
     slice-aggregate-carry
     slice-aggregate-carry-2
     slice-aggregate-carry-3
     carry-requires
     made-requires
-    same-length-5
-    same-length-6
-    returns-4)
+    same-length-7
+    same-length-8
+    returns-5)

@@ -1,6 +1,6 @@
 use native.Mathlib.Omega.{arith}
 use borrow.Author.Needs.{needs}
-use Rattle.call_list.specs.inner.Steps.{NextFits}
+use Rattle.call_list.specs.inner.Next.{NextFits}
 use Rattle.call_list.specs.Working.{noRoom}
 use Rattle.call_list.proofs.Extending.{too-few}
 use Rattle.call_list.proofs.next_fits.Statement.{statement}

@@ -101,8 +101,9 @@ fn refusing(state: &State) -> Line {
     line("refused (14)", medians([&mut archive, &mut plain]))
 }
 
-fn made_by_archive(state: &mut State, m: Move) -> Result<Numbers, u32> {
-    archive::make_move(&state.table, &mut state.masks, &mut state.cells, black_box(&m))
+fn made_by_archive(s: &mut State, m: Move) -> Result<Numbers, u32> {
+    s.make_room();
+    archive::make_move(&s.table, &mut s.masks, &mut s.cells, &mut s.journal, &mut s.count, black_box(&m))
 }
 
 fn made_by_plain(state: &mut State, m: Move) -> Result<Numbers, u32> {
@@ -184,7 +185,10 @@ fn improved(state: &mut State, times: usize, improve: &mut dyn FnMut(&mut State)
 
 fn improving(state: &State, kinds: u32, name: &str) -> Line {
     let (mut a, mut p) = (state.clone(), state.clone());
-    let mut by_archive = |s: &mut State| archive::improve(&s.table, &mut s.masks, &mut s.cells, &mut s.scratch, kinds);
+    let mut by_archive = |s: &mut State| {
+        s.make_room();
+        archive::improve(&s.table, &mut s.masks, &mut s.cells, &mut s.scratch, &mut s.journal, &mut s.count, kinds)
+    };
     let mut by_plain = |s: &mut State| plain::improve(&s.table, &mut s.masks, &mut s.cells, &s.scratch, kinds);
     let answer = by_archive(&mut a);
     assert_eq!(answer, by_plain(&mut p));

@@ -1,5 +1,5 @@
 //! A plan that is read and loaded, with the tables that one engine works on.
-use vuyekhang::MOST_TABLE;
+use vuyekhang::{Move, MOST_RECORDS, MOST_TABLE};
 
 use super::plans::Plan;
 use crate::archive::{load, read};
@@ -11,6 +11,9 @@ pub struct State {
     pub masks: Vec<u64>,
     pub cells: Vec<u32>,
     pub scratch: Vec<u32>,
+    /// The archive's; the plain engine keeps no journal.
+    pub journal: Vec<Move>,
+    pub count: usize,
 }
 
 impl State {
@@ -20,9 +23,17 @@ impl State {
         let answer = read(plan.u, plan.text.as_bytes(), &mut table).unwrap_or_else(|n| panic!("the text of {} is refused: {n}", plan.name));
         table.truncate(9 + 8 * answer.nodes);
         let (masks, cells) = (plan.masks.clone(), vec![0; answer.cells]);
-        let mut state = State { table, masks, scratch: cells.clone(), cells };
+        let journal = vec![Move::default(); MOST_RECORDS];
+        let mut state = State { table, masks, scratch: cells.clone(), cells, journal, count: 0 };
         load(&state.table, &state.masks, &mut state.cells).unwrap_or_else(|n| panic!("the masks of {} are refused: {n}", plan.name));
         (answer, state)
+    }
+
+    /// Begins the journal again before it is full, so that no move is refused for it.
+    pub fn make_room(&mut self) {
+        if self.count == MOST_RECORDS {
+            self.count = 0;
+        }
     }
 
     /// Both engines are to leave the same masks and cells.

@@ -1,7 +1,7 @@
 //! `compare [ROUNDS [SEED]]`: compares the proved engine with the second evaluator over random texts, tables and cells.
 //! `compare --damage [ROUNDS [SEED]]`: changes one word after every call, and fails unless each change is reported.
 //! `compare --short [TOKENS]`: reads some beginnings of texts, each with every choice of at most so many tokens behind it, with both.
-//! `compare --lists [CALLS [SEED]]`: compares lists of calls, every answer, mask, cell and listed move after every call.
+//! `compare --lists [CALLS [SEED]]`: compares lists of calls, every answer, mask, cell, record and listed move after every call.
 //! `compare --lists-damage [LISTS [SEED]]`: changes one bit after one call of each list, and fails unless each change is reported.
 use std::process::ExitCode;
 
@@ -10,14 +10,15 @@ use evidence::best::told_ties;
 use evidence::compare::{missed, one_round, short_texts};
 use evidence::counts::Counts;
 use evidence::damage::{Damage, Target};
-use evidence::lists::{self, Hit};
+use evidence::list_damage::{damaged_list, HITS};
+use evidence::lists;
 use evidence::random::Random;
 use evidence::with_stack;
 use evidence::writing::told_writings;
 
 const QUICK_ROUNDS: u64 = 20_000;
 const QUICK_TOKENS: u64 = 3;
-const QUICK_CALLS: u64 = 20_000;
+const QUICK_CALLS: u64 = 30_000;
 const QUICK_LISTS: u64 = 150;
 const QUICK_DAMAGES: u64 = 1_000;
 
@@ -111,8 +112,8 @@ fn lists_fail(calls: u64, seed: u64) -> bool {
 
 /// Fails unless every list in which a bit was changed after a call ends in a difference, and few lists leave nothing to change.
 fn list_damage_unseen(amount: u64, seed: u64) -> bool {
-    [Hit::Cell, Hit::Mask, Hit::Scratch, Hit::Answer, Hit::Listed, Hit::Kept, Hit::Count].into_iter().any(|hit| {
-        let all: Vec<(bool, bool)> = (0..amount).map(|list| lists::damaged_list(&Archive, hit, seed, list)).collect();
+    HITS.into_iter().any(|hit| {
+        let all: Vec<(bool, bool)> = (0..amount).map(|list| damaged_list(&Archive, hit, seed, list)).collect();
         let damaged = all.iter().filter(|(damaged, _)| *damaged).count() as u64;
         let reported = all.iter().filter(|(_, reported)| *reported).count() as u64;
         println!("{hit:?}: {damaged} of {amount} lists damaged, {reported} reported");

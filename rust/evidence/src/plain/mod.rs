@@ -1,7 +1,7 @@
 //! A plain incremental engine over the same tables, written to be fast: what the archive's times are held against.
 //!
-//! It takes the plan table, masks and cells as the archive does and answers the same numbers. It uses neither the binding nor the
-//! second evaluator. The shape: one pass over the plan table gives each node its first cell, its end and what it uses; a move then visits
+//! It takes the plan table, masks and cells as the archive does and answers the same numbers; it keeps no journal. It uses neither the
+//! binding nor the second evaluator. The shape: one pass over the plan table gives each node its first cell, its end and what it uses; a move then visits
 //! the touched cells only, and where every port below a quantifier is touched its cells are done as one row.
 mod change;
 mod check;

@@ -1,5 +1,5 @@
-//! Load's grounds, one move, trial, improve, the list of best moves. Paper 01, sections One move and Grounds for refusal; request
-//! 2026-01 of paper 02.
+//! Load's grounds, what a move changes, trial, the best moves. Paper 01, sections One move and Grounds for refusal; request 2026-01 of
+//! paper 02. The calls that write are in `journal`.
 use super::penalty::{below, in_set, literal_penalty, tuples};
 use super::plan::{Plan, ALL, AND, IN, NOT_IN, ROOT, SIZE};
 use super::table::decode;
@@ -20,7 +20,7 @@ pub fn tables(table: &[u8], masks: &[u64], lengths: &[usize]) -> Result<Plan, u3
 }
 
 /// Ground 14: "unknown kind, set, port [..], or an unused field not 0".
-fn unknown(plan: &Plan, m: &Move) -> bool {
+pub fn unknown(plan: &Plan, m: &Move) -> bool {
     let set = |s: u32| (s as usize) < plan.n;
     let port = |p: u32| (p as usize) < plan.u;
     let t = if m.kind == 3 { set(m.t) } else { m.t == 0 };
@@ -29,7 +29,7 @@ fn unknown(plan: &Plan, m: &Move) -> bool {
 }
 
 /// The condition of a move whose fields are known; ground 15 is its opposite.
-fn fits(masks: &[u64], m: &Move) -> bool {
+pub fn legal(masks: &[u64], m: &Move) -> bool {
     let has = |set: u32, port: u32| in_set(masks, set as usize, port as usize);
     match m.kind {
         1 => !has(m.s, m.p),
@@ -44,7 +44,7 @@ pub fn refused(plan: &Plan, masks: &[u64], m: &Move) -> Option<u32> {
     if unknown(plan, m) {
         return Some(14);
     }
-    (!fits(masks, m)).then_some(15)
+    (!legal(masks, m)).then_some(15)
 }
 
 /// The pairs (set, port) that a move changes.
@@ -124,19 +124,7 @@ pub fn made(plan: &Plan, masks: &[u64], cells: &[u32], m: &Move) -> (Numbers, Ve
     (numbers(old, &new), new)
 }
 
-/// A move over the caller's tables: writes masks and cells where it is accepted.
-pub fn make_move(table: &[u8], masks: &mut [u64], cells: &mut [u32], m: &Move) -> Result<Numbers, u32> {
-    let plan = tables(table, masks, &[cells.len()])?;
-    if let Some(ground) = refused(&plan, masks, m) {
-        return Err(ground);
-    }
-    let (answer, new) = made(&plan, masks, cells, m);
-    masks.copy_from_slice(&flipped(masks, m));
-    cells[..new.len()].copy_from_slice(&new);
-    Ok(answer)
-}
-
-/// The same numbers, with nothing written.
+/// The numbers of a move, with nothing written.
 pub fn trial(table: &[u8], masks: &[u64], cells: &[u32], scratch: usize, m: &Move) -> Result<Numbers, u32> {
     let plan = tables(table, masks, &[cells.len(), scratch])?;
     if let Some(ground) = refused(&plan, masks, m) {

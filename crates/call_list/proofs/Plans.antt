@@ -1,0 +1,2 @@
+-- What callers' plans cite of each function over the journal.
+pub mod work

@@ -1,0 +1,3 @@
+-- What callers' plans cite of work.
+pub mod Kinds
+pub mod Reads

@@ -1,0 +1,3 @@
+-- Laws.
+pub mod Lending
+pub mod OneCall

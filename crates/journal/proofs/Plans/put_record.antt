@@ -1,0 +1,3 @@
+-- What callers' plans cite of put_record.
+pub mod Kinds
+pub mod Reads

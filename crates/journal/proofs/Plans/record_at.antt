@@ -1,0 +1,3 @@
+-- What callers' plans cite of record_at.
+pub mod Kinds
+pub mod Reads

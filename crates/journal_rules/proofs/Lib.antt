@@ -1,0 +1,4 @@
+-- Laws.
+pub mod Counting
+pub mod Opposites
+pub mod Writing

@@ -1,0 +1,3 @@
+-- What callers' plans cite of vk_improve.
+pub mod Kinds
+pub mod Reads

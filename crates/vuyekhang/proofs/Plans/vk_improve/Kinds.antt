@@ -1,0 +1,23 @@
+-- vk_improve: the kinds of its parameters and of its result. Written by tools/plan.py: not to be edited.
+use Rattle.journal.proofs.Element
+use Rattle.answers.proofs.ImproveAnswer
+use Rattle.answers.proofs.ImproveAnswer.Laws
+use borrow.Fn.Kinds
+use borrow.Kind.MutSlice
+use borrow.Kind.ShrSlice
+use borrow.Kind.Value
+use borrow.Rule.Local
+use borrow.Table.Referent
+use borrow.Table.Rows
+use denote.Exit
+use denote.Struct.Declared
+use denote.Struct.Laws as Laws'
+use mathlib.Core.List
+use mathlib.Core.Path as Path'
+use mir.Syntax
+
+abbrev pub ps : List.List (Kinds.PK 6)
+ps = List._∷_ (ShrSlice.pShrS (Referent.rtF (Referent.fInt Syntax.w8)) 0 tt) (List._∷_ (MutSlice.pMutS (Referent.rtF (Referent.fInt Syntax.w64)) 1 tt) (List._∷_ (MutSlice.pMutS (Referent.rtF (Referent.fInt Syntax.w32)) 2 tt) (List._∷_ (MutSlice.pMutS (Referent.rtF (Referent.fInt Syntax.w32)) 3 tt) (List._∷_ (MutSlice.pMutS Element.row 4 tt) (List._∷_ (Kinds.pMutF (Referent.fInt Syntax.w64) 5 tt) (List._∷_ (Kinds.pNum Syntax.w32) List.[]))))))
+
+abbrev pub r : Kinds.RK 6
+r = Value.rVal record { ty = Declared.row ImproveAnswer.the-type; one = Path'.refl; val = Laws'.val ImproveAnswer.the-type Laws.the-laws; tells = Laws'.tells ImproveAnswer.the-type Laws.the-laws; still = Laws'.still ImproveAnswer.the-type Laws.the-copy Exit.yes; row = Rows.whole (Declared.row ImproveAnswer.the-type); rd = λ x. x; mk = λ x. x } λ M 𝓤 H A W. record { copies = Laws'.copy ImproveAnswer.the-type Laws.the-copy 𝓤 H A W; lawful = Laws'.lawful ImproveAnswer.the-type Laws.the-laws 𝓤 H A W; makes = Laws'.makes ImproveAnswer.the-type Laws.the-plain 𝓤 H A; in-mem = Local.mem-whole 𝓤 H A W (Declared.row ImproveAnswer.the-type); of-mem = Local.whole-mem 𝓤 H A W (Declared.row ImproveAnswer.the-type) }

@@ -1,0 +1,3 @@
+-- What callers' plans cite of vk_undo.
+pub mod Kinds
+pub mod Reads
