@@ -21,7 +21,7 @@ use Rattle.call_one.specs.declared.One.{One}
 use Rattle.call_one.specs.Scratch.{ScratchRun, kept}
 use Rattle.call_one.specs.Lending.{Lent, lends}
 use Rattle.call_one.specs.inner.Steps.{OneWorked, NoneWorked, OneAfter, OneOver}
-use Rattle.call_one.proofs.OneCall.{held}
+use Rattle.journal_rules.proofs.Promised.{held}
 use Rattle.call_list.specs.Working.{Worked, Stopped, atEnd, notWhole, unknownTag}
 use Rattle.call_list.specs.inner.Next.{NextFits}
 use Rattle.call_list.proofs.Scratch.{scratch-snoc, scratch-length}

@@ -107,13 +107,18 @@ unfolding moves made call moveCallGrounds tryGrounds madeGrounds makingGrounds j
 moves-made broken m s room count = refl
 moves-made (sound P) m s room count = refl
 
+-- What was made is what is promised, where the two are the same.
+pub promised : (counts : Bool → ℕ → ℕ) (made-as given : MoveValues × State) (count : ℕ) (r : Moved) (s′ : State) (count′ : ℕ) → made-as ≡ given
+    → MadeAs made-as r s′ → count′ ≡ counts (moveMade (moveValues r)) count → MovePromise counts given count r s′ count′
+promised counts made-as given count r s′ count′ same w c = record {
+  answers = subst (λ (x : MoveValues × State). MovedAs (x .0) r) same (w .answers);
+  tables-are = w .tables-are ∙ ap (λ (x : MoveValues × State). x .1) same;
+  count-is = c ∙ ap (λ (v : MoveValues). counts (moveMade v) count) (w .answers .values-are ∙ ap (λ (x : MoveValues × State). x .0) same);
+}
+
 pub move-promise : (d : Decoded) (m : Move) (s : State) (room count : ℕ) (b : Bool) (r : Moved) (s′ : State) (count′ : ℕ) → b ≡ full room count
     → MadeAs (made d m s room count false b) r s′ → count′ ≡ countAfter (moveMade (moveValues r)) count
-    → MovePromise (moves d m s room count) count r s′ count′
-move-promise d m s room count b r s′ count′ e w c =
-    let same = ap (made d m s room count false) e ∙ sym (moves-made d m s room count) in
-    record {
-      answers = subst (λ (x : MoveValues × State). MovedAs (x .0) r) same (w .answers);
-      tables-are = w .tables-are ∙ ap (λ (x : MoveValues × State). x .1) same;
-      count-is = c ∙ ap (λ (v : MoveValues). countAfter (moveMade v) count) (w .answers .values-are ∙ ap (λ (x : MoveValues × State). x .0) same);
-    }
+    → MovePromise countAfter (moves d m s room count) count r s′ count′
+move-promise d m s room count b r s′ count′ e =
+    promised countAfter (made d m s room count false b) (moves d m s room count) count r s′ count′
+    (ap (made d m s room count false) e ∙ sym (moves-made d m s room count))

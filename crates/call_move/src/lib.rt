@@ -10,6 +10,7 @@ use move_legal::move_number;
 use move_make::carry;
 ghost use Rattle.table_format.specs.Decode.{decode};
 ghost use Rattle.contracts.specs.State.{tables};
+ghost use Rattle.contracts.specs.Journal.{countAfter};
 ghost use Rattle.contracts.specs.MoveCall.{moves, MovePromise};
 ghost use Rattle.call_move.specs.inner.Making.{made, MadeAs};
 
@@ -74,7 +75,7 @@ pub fn make_move(
     count: &mut usize,
     m: Move,
 ) -> Moved
-    ensures { λ r. ⌜ MovePromise (moves (decode (now (table .entry))) m (tables (now (masks .entry)) (now (cells .entry))) room (now (count .entry))) (now (count .entry)) r (tables (now (masks .exit)) (now (cells .exit))) (now (count .exit)) ⌝ }
+    ensures { λ r. ⌜ MovePromise countAfter (moves (decode (now (table .entry))) m (tables (now (masks .entry)) (now (cells .entry))) room (now (count .entry))) (now (count .entry)) r (tables (now (masks .exit)) (now (cells .exit))) (now (count .exit)) ⌝ }
 {
     let at = *count;
     let a = move_with(table, masks, cells, room, at, false, is_full(room, at), m);

@@ -1,6 +1,6 @@
 -- One call of a list, from what the call promises. Assumes nothing.
 use mathlib.Core.Path.{_≡_, refl, sym, ap, _∙_, subst}
-use mathlib.Core.Bool.{Bool, false}
+use mathlib.Core.Bool.{false}
 use mathlib.Core.List.{List, _++_}
 use Prim.Native.Nat.{ℕ, _≤_}
 use native.Mathlib.Omega.{arith}
@@ -8,46 +8,26 @@ use lib.ListN.{length, take, drop, set}
 use Rattle.logic.specs.declared.Move.{Move}
 use Rattle.table_format.specs.Decode.{decode}
 use Rattle.contracts.specs.State.{State}
-use Rattle.contracts.specs.Journal.{Journaled, roomOf, newest as newestOf, countAfter, journalAfter, countTaken, journalTaken}
+use Rattle.contracts.specs.Journal.{newest as newestOf, countAfter, countTaken}
 use Rattle.contracts.specs.declared.Moved.{Moved}
 use Rattle.contracts.specs.declared.Improved.{Improved}
 use Rattle.contracts.specs.declared.Counted.{Counted}
 use Rattle.contracts.specs.MoveCall.{MoveValues, moveValues, moveMade, MovedAs, moves, movesJournaled, MovePromise}
 use Rattle.contracts.specs.TrialCall.{trials, ScratchAfter}
-use Rattle.contracts.specs.ImproveCall.{ImproveValues, improveValues, improveMakes, improves, improvesJournaled, ImprovePromise}
-use Rattle.contracts.specs.UndoCall.{undoes, undoesJournaled, UndoPromise}
+use Rattle.contracts.specs.ImproveCall.{ImproveValues, improveValues, improves, improvesJournaled, ImprovePromise}
+use Rattle.contracts.specs.UndoCall.{undoes, undoesJournaled}
 use Rattle.contracts.specs.Counting.{CountValues, countValues}
 use Rattle.contracts.specs.BestCall.{lists, ListPromise}
 use Rattle.contracts.specs.Lists.{askMove, askTrial, askImprove, askBest, askUndo, moveCall, trialCall, improveCall, bestCall, undoCall, step}
 use Rattle.journal_rules.specs.inner.Counting.{placeOf}
-use Rattle.journal_rules.proofs.Writing.{journal, unwritten, written, taken-fewer, taken}
+use Rattle.journal_rules.proofs.Writing.{taken-fewer}
+use Rattle.journal_rules.proofs.Promised.{held, put-none, move-held, improve-held, undo-held}
 use Rattle.call_numbers.specs.Encoding.{Unknown, tag, moveOf, kindsOf, cellsLent, recordsLent, Encodes, movedNumbers, improvedNumbers, countedNumbers, answerNumbers, listOne}
 use Rattle.call_one.specs.declared.One.{One}
 use Rattle.call_one.specs.Scratch.{lentTo, answerNumber}
 use Rattle.call_one.specs.Lending.{Lent, lends}
 use Rattle.call_one.specs.inner.Steps.{OneWorked, OneAfter, JournalIs, OneOver, withRecord}
 use Rattle.call_one.proofs.Lending.{none-lent, front-lent, list-back}
-
--- tables with a journal
-abbrev pub held : State → List Move → ℕ → Journaled
-held s records count = record { tables = s; journal = journal records count }
-
--- the journal after a call, where its length is known by value
-module _ (records : List Move) (room count count′ : ℕ) (m : Move) (l : length records ≡ room) where
-  abbrev put : List Move
-  put = set records (placeOf count count′ room) m
-
-  put-is : put ≡ set records (placeOf count count′ (length records)) m
-  put-is = ap (λ (n : ℕ). set records (placeOf count count′ n) m) (sym l)
-
-  put-none : count′ ≤ count → put ≡ records
-  put-none h = put-is ∙ unwritten records count count′ m h
-
-  put-made : (made : Bool) → count′ ≡ countAfter made count → journal put count′ ≡ journalAfter made m (journal records count)
-  put-made made e = ap (λ (xs : List Move). journal xs count′) put-is ∙ written made m records count count′ e
-
-  put-taken : (made : Bool) → count′ ≡ countTaken made count → journal put count′ ≡ journalTaken made (journal records count)
-  put-taken made e = ap (λ (xs : List Move). journal xs count′) (put-none (taken-fewer made count count′ e)) ∙ taken made records count count′ e
 
 -- of an unknown tag nothing is written
 pub none-over : (bytes call : List ℕ) (room : ℕ) (newest : Move) (count : ℕ) (s : State) (scratch : List ℕ) (list : List (List ℕ)) (answer : List ℕ) (m : Move)
@@ -57,7 +37,7 @@ unfolding OneOver OneAfter
 none-over bytes call room newest count s scratch list answer m u =
     λ records j. record {
       unknown = u;
-      kept = ap (λ (xs : List Move). lends (held s xs count) scratch list answer) (put-none records room count count m (j .room-is) (omega arith));
+      kept = ap (λ (xs : List Move). lends (held s xs count) scratch list answer) (put-none (decode bytes) s s records room count count (j .room-is) m (omega arith));
     }
 
 module _ (bytes call : List ℕ) (room : ℕ) (newest : Move) (count : ℕ) (s : State) (scratch : List ℕ) (list : List (List ℕ)) (answer answer′ : List ℕ) (r : One) where
@@ -72,41 +52,38 @@ module _ (bytes call : List ℕ) (room : ℕ) (newest : Move) (count : ℕ) (s :
   worked-over m count′ after e f = subst (λ (x : One). OneOver x bytes call room newest count before count′ after) (sym e) f
 
   pub one-move : (m : Move) (a : Moved) (s′ : State) (count′ : ℕ) → r ≡ withRecord m → tag call ≡ 1 → m ≡ moveOf call
-      → MovePromise (moves (decode bytes) m s room count) count a s′ count′ → answer′ ≡ movedNumbers (moveValues a) ++ drop 10 answer
+      → MovePromise countAfter (moves (decode bytes) m s room count) count a s′ count′ → answer′ ≡ movedNumbers (moveValues a) ++ drop 10 answer
       → OneOver r bytes call room newest count before count′ (λ records. lends (held s′ records count′) scratch list answer′)
-  unfolding Encodes step listOne answerNumbers lentTo movesJournaled roomOf
+  unfolding Encodes step listOne answerNumbers lentTo
   one-move m a s′ count′ e t f p told =
       worked-over m count′ (λ records. lends (held s′ records count′) scratch list answer′) e
       (λ records j.
-      let q = subst (λ (n : ℕ). MovePromise (moves (decode bytes) m s n count) count a s′ count′) (sym (j .room-is)) p in
-      let given = moves (decode bytes) m s (length records) count in
+      let q = move-held (decode bytes) s s′ records room count count′ (j .room-is) m a p in
       record {
         asked = askMove m;
         says = (t, f);
-        tables-are = λ i. record { tables = q .tables-are i; journal = put-made records room count count′ m (j .room-is) (moveMade (given .0)) (q .count-is) i };
-        scratch-step = none-lent (decode bytes) (moveCall m (given .0)) scratch refl;
+        tables-are = q .1;
+        scratch-step = none-lent (decode bytes) (moveCall m (movesJournaled (decode bytes) m (held s records count) .0)) scratch refl;
         list-is = refl;
-        answer-is = told ∙ ap (λ (v : MoveValues). movedNumbers v ++ drop 10 answer) (q .answers .values-are);
+        answer-is = told ∙ ap (λ (v : MoveValues). movedNumbers v ++ drop 10 answer) (q .0);
       })
 
   pub one-undo : (m : Move) (a : Moved) (s′ : State) (count′ : ℕ) → r ≡ withRecord m → tag call ≡ 5
-      → UndoPromise (undoes (decode bytes) newest s room count) count a s′ count′ → answer′ ≡ movedNumbers (moveValues a) ++ drop 10 answer
+      → MovePromise countTaken (undoes (decode bytes) newest s room count) count a s′ count′ → answer′ ≡ movedNumbers (moveValues a) ++ drop 10 answer
       → OneOver r bytes call room newest count before count′ (λ records. lends (held s′ records count′) scratch list answer′)
-  unfolding Encodes step listOne answerNumbers lentTo undoesJournaled roomOf newestOf
+  unfolding Encodes step listOne answerNumbers lentTo
   one-undo m a s′ count′ e t p told =
       worked-over m count′ (λ records. lends (held s′ records count′) scratch list answer′) e
       (λ records j.
-      let top = newestOf (journal records count) in
-      let q = subst (λ (n : ℕ). UndoPromise (undoes (decode bytes) top s n count) count a s′ count′) (sym (j .room-is))
-      (subst (λ (x : Move). UndoPromise (undoes (decode bytes) x s room count) count a s′ count′) (sym (j .newest-is)) p) in
-      let given = undoes (decode bytes) top s (length records) count in
+      let q = undo-held (decode bytes) s s′ records room count count′ (j .room-is) newest a (unfold newestOf in j .newest-is) p in
+      let none = put-none (decode bytes) s s′ records room count count′ (j .room-is) m (taken-fewer (moveMade (undoes (decode bytes) newest s room count .0)) count count′ (p .count-is)) in
       record {
         asked = askUndo;
         says = t;
-        tables-are = λ i. record { tables = q .tables-are i; journal = put-taken records room count count′ m (j .room-is) (moveMade (given .0)) (q .count-is) i };
-        scratch-step = none-lent (decode bytes) (undoCall (given .0)) scratch refl;
+        tables-are = ap (λ (xs : List Move). held s′ xs count′) none ∙ q .1;
+        scratch-step = none-lent (decode bytes) (undoCall (undoesJournaled (decode bytes) (held s records count) .0)) scratch refl;
         list-is = refl;
-        answer-is = told ∙ ap (λ (v : MoveValues). movedNumbers v ++ drop 10 answer) (q .answers .values-are);
+        answer-is = told ∙ ap (λ (v : MoveValues). movedNumbers v ++ drop 10 answer) (q .0);
       })
 
   -- a call that is lent the first l cells of scratch, and gives them back
@@ -120,7 +97,7 @@ module _ (bytes call : List ℕ) (room : ℕ) (newest : Move) (count : ℕ) (s :
         (λ records j. record {
           asked = askTrial m (take l scratch);
           says = (t, f, lent-so);
-          tables-are = ap (λ (xs : List Move). held s xs count) (put-none records room count count x (j .room-is) (omega arith));
+          tables-are = ap (λ (xs : List Move). held s xs count) (put-none (decode bytes) s s records room count count (j .room-is) x (omega arith));
           scratch-step = front-lent (decode bytes) scratch part l (trialCall m (take l scratch) (trials (decode bytes) m s (length (take l scratch)))) refl
               (subst (λ (v : MoveValues). ScratchAfter (decode bytes) (v .number) (take l scratch) part) (p .values-are) w);
           list-is = refl;
@@ -132,24 +109,20 @@ module _ (bytes call : List ℕ) (room : ℕ) (newest : Move) (count : ℕ) (s :
           → ImprovePromise (improves (decode bytes) kinds s (length (take l scratch)) room count) count a s′ count′
           → ScratchAfter (decode bytes) (improveValues a .number) (take l scratch) part → answer′ ≡ improvedNumbers (improveValues a) ++ drop 10 answer
           → OneOver r bytes call room newest count before count′ (λ records. lends (held s′ records count′) (part ++ drop l scratch) list answer′)
-      unfolding Encodes step listOne answerNumbers lentTo answerNumber improvesJournaled roomOf
+      unfolding Encodes step listOne answerNumbers lentTo answerNumber
       one-improve a s′ count′ m c e t p w told =
           worked-over m count′ (λ records. lends (held s′ records count′) (part ++ drop l scratch) list answer′) e
           (λ records j.
           let n = length (take l scratch) in
-          let q = subst (λ (k : ℕ). ImprovePromise (improves (decode bytes) kinds s n k count) count a s′ count′) (sym (j .room-is)) p in
-          let given = improves (decode bytes) kinds s n (length records) count in
+          let q = improve-held (decode bytes) s s′ records room count count′ (j .room-is) kinds n m a c p in
           record {
             asked = askImprove kinds (take l scratch);
             says = (t, kinds-are, lent-so);
-            tables-are =
-                (λ i. record { tables = q .tables-are i; journal = put-made records room count count′ m (j .room-is) (improveMakes (given .0)) (q .count-is) i })
-                ∙ ap (λ (x : Move). record { tables = given .1; journal = journalAfter (improveMakes (given .0)) x (journal records count) })
-                (c ∙ ap (λ (v : ImproveValues). v .chosen) (q .values-are));
-            scratch-step = front-lent (decode bytes) scratch part l (improveCall kinds (take l scratch) (given .0)) refl
-                (subst (λ (v : ImproveValues). ScratchAfter (decode bytes) (v .number) (take l scratch) part) (q .values-are) w);
+            tables-are = q .1;
+            scratch-step = front-lent (decode bytes) scratch part l (improveCall kinds (take l scratch) (improvesJournaled (decode bytes) kinds (held s records count) n .0)) refl
+                (subst (λ (v : ImproveValues). ScratchAfter (decode bytes) (v .number) (take l scratch) part) (q .0) w);
             list-is = refl;
-            answer-is = told ∙ ap (λ (v : ImproveValues). improvedNumbers v ++ drop 10 answer) (q .values-are);
+            answer-is = told ∙ ap (λ (v : ImproveValues). improvedNumbers v ++ drop 10 answer) (q .0);
           })
 
       -- and the first records of the list
@@ -167,7 +140,7 @@ module _ (bytes call : List ℕ) (room : ℕ) (newest : Move) (count : ℕ) (s :
           record {
             asked = askBest kinds (take l scratch) k;
             says = (t, kinds-are, lent-so, n-is);
-            tables-are = ap (λ (xs : List Move). held s xs count) (put-none records room count count x (j .room-is) (omega arith));
+            tables-are = ap (λ (xs : List Move). held s xs count) (put-none (decode bytes) s s records room count count (j .room-is) x (omega arith));
             scratch-step = front-lent (decode bytes) scratch part l (bestCall kinds (take l scratch) k given) refl
                 (subst (λ (v : CountValues). ScratchAfter (decode bytes) (v .number) (take l scratch) part) (p .values-are) w);
             list-is = list-back (given .1) list listed n fits long (p .list-is);

@@ -1,5 +1,5 @@
 -- Undo is the opposite of the newest record made, with a record left to take back and no room needed. Assumes nothing.
-use mathlib.Core.Path.{_≡_, refl, sym, ap, _∙_, subst}
+use mathlib.Core.Path.{_≡_, refl, sym, ap, _∙_}
 use mathlib.Core.Bool.{Bool, false, cond, not, _||_}
 use mathlib.Core.List.{[], _∷_}
 use Prim.Native.Nat.{ℕ}
@@ -16,9 +16,10 @@ use Rattle.contracts.specs.State.{State}
 use Rattle.contracts.specs.Journal.{countPast, opposite, countTaken}
 use Rattle.contracts.specs.Call.{planGrounds, tableGrounds, tablesThen, journalGrounds, callOr, call}
 use Rattle.contracts.specs.declared.Moved.{Moved}
-use Rattle.contracts.specs.MoveCall.{MoveValues, MovedAs, moveRefused, moveValues, moveMade, movesOwn}
-use Rattle.contracts.specs.UndoCall.{takenGrounds, undoGrounds, undoes, UndoPromise}
+use Rattle.contracts.specs.MoveCall.{moveRefused, moveValues, moveMade, movesOwn, MovePromise}
+use Rattle.contracts.specs.UndoCall.{takenGrounds, undoGrounds, undoes}
 use Rattle.contracts.proofs.Opposites.{opposite-known}
+use Rattle.call_move.proofs.Answering.{promised}
 use Rattle.call_move.specs.inner.Making.{makingGrounds, tryGrounds, made, MadeAs}
 
 -- 14 of the record is 14 of its opposite
@@ -38,11 +39,7 @@ undoes-made (sound P) m s room count =
 
 pub undo-promise : (d : Decoded) (m : Move) (s : State) (room count : ℕ) (x : Move) (b : Bool) (r : Moved) (s′ : State) (count′ : ℕ) → x ≡ opposite m
     → b ≡ eqb count 0 → MadeAs (made d x s room count b false) r s′ → count′ ≡ countTaken (moveMade (moveValues r)) count
-    → UndoPromise (undoes d m s room count) count r s′ count′
-undo-promise d m s room count x b r s′ count′ e z w c =
-    let same = (λ i. made d (e i) s room count (z i) false) ∙ sym (undoes-made d m s room count) in
-    record {
-      answers = subst (λ (y : MoveValues × State). MovedAs (y .0) r) same (w .answers);
-      tables-are = w .tables-are ∙ ap (λ (y : MoveValues × State). y .1) same;
-      count-is = c ∙ ap (λ (v : MoveValues). countTaken (moveMade v) count) (w .answers .values-are ∙ ap (λ (y : MoveValues × State). y .0) same);
-    }
+    → MovePromise countTaken (undoes d m s room count) count r s′ count′
+undo-promise d m s room count x b r s′ count′ e z =
+    promised countTaken (made d x s room count b false) (undoes d m s room count) count r s′ count′
+    ((λ i. made d (e i) s room count (z i) false) ∙ sym (undoes-made d m s room count))

@@ -6,7 +6,9 @@ use journal_rules::opposite_of;
 use logic::Move;
 ghost use Rattle.table_format.specs.Decode.{decode};
 ghost use Rattle.contracts.specs.State.{tables};
-ghost use Rattle.contracts.specs.UndoCall.{undoes, UndoPromise};
+ghost use Rattle.contracts.specs.Journal.{countTaken};
+ghost use Rattle.contracts.specs.MoveCall.{MovePromise};
+ghost use Rattle.contracts.specs.UndoCall.{undoes};
 
 // Undo, over a journal of some length and newest record: tries 11 to 13, 19, 14 of the record and 15 of its opposite, which it makes,
 // and lowers the record count.
@@ -18,7 +20,7 @@ pub fn undo(
     count: &mut usize,
     newest: Move,
 ) -> Moved
-    ensures { λ r. ⌜ UndoPromise (undoes (decode (now (table .entry))) newest (tables (now (masks .entry)) (now (cells .entry))) room (now (count .entry))) (now (count .entry)) r (tables (now (masks .exit)) (now (cells .exit))) (now (count .exit)) ⌝ }
+    ensures { λ r. ⌜ MovePromise countTaken (undoes (decode (now (table .entry))) newest (tables (now (masks .entry)) (now (cells .entry))) room (now (count .entry))) (now (count .entry)) r (tables (now (masks .exit)) (now (cells .exit))) (now (count .exit)) ⌝ }
 {
     let at = *count;
     let m = opposite_of(newest);

@@ -13,7 +13,7 @@ use Rattle.logic.specs.Moves.{Ground, moveGrounds, moveMasks, movePairs}
 use Rattle.logic.specs.Change.{pairsChange, newCells, differing}
 use Rattle.table_format.specs.Decode.{Decoded}
 use Rattle.contracts.specs.State.{State}
-use Rattle.contracts.specs.Journal.{full, roomOf, countAfter, journalAfter, Journaled}
+use Rattle.contracts.specs.Journal.{full, roomOf, journalAfter, Journaled}
 use Rattle.contracts.specs.Call.{journalGrounds, call}
 use Rattle.contracts.specs.declared.Moved.{Moved}
 use Rattle.contracts.specs.declared.Moved.the-variants.{Accepted, Refused}
@@ -86,9 +86,9 @@ movesJournaled d m x =
     let r = moves d m (x .tables) (roomOf (x .journal)) (x .journal .count) in
     (r .0, record { tables = r .1; journal = journalAfter (moveMade (r .0)) m (x .journal) })
 
--- What `make_move` promises, which is lent the journal's length and record count: its answer by 01's number and values, and every mask,
--- every cell and the record count afterwards.
-pub record MovePromise (given : MoveValues × State) (count : ℕ) (r : Moved) (s′ : State) (count′ : ℕ) : Type 0 where
+-- What `make_move` and `undo` promise, which are lent the journal's length and record count: the answer by 01's number and values, and
+-- every mask, every cell and the record count afterwards, which goes by whether a move was made.
+pub record MovePromise (counts : Bool → ℕ → ℕ) (given : MoveValues × State) (count : ℕ) (r : Moved) (s′ : State) (count′ : ℕ) : Type 0 where
   pub answers : MovedAs (given .0) r
   pub tables-are : s′ ≡ given .1
-  pub count-is : count′ ≡ countAfter (moveMade (given .0)) count
+  pub count-is : count′ ≡ counts (moveMade (given .0)) count

@@ -1,6 +1,5 @@
 -- Undo as a function of the tables and their journal. Paper 02, request 2026-03: "Undo makes the opposite of the newest record, returns a
 -- move's three numbers and lowers the record count by one".
-use mathlib.Core.Path.{_≡_}
 use mathlib.Core.Bool.{not}
 use mathlib.Core.List.{List, [], _∷_}
 use Prim.Native.Nat.{ℕ}
@@ -11,10 +10,9 @@ use Rattle.logic.specs.Configuration.{Sets}
 use Rattle.logic.specs.Moves.{Ground, known, legal}
 use Rattle.table_format.specs.Decode.{Decoded}
 use Rattle.contracts.specs.State.{State}
-use Rattle.contracts.specs.Journal.{roomOf, newest, countTaken, journalTaken, opposite, Journaled}
+use Rattle.contracts.specs.Journal.{roomOf, newest, journalTaken, opposite, Journaled}
 use Rattle.contracts.specs.Call.{journalGrounds, call}
-use Rattle.contracts.specs.declared.Moved.{Moved}
-use Rattle.contracts.specs.MoveCall.{MoveValues, MovedAs, moveRefused, moveMade, movesOwn}
+use Rattle.contracts.specs.MoveCall.{MoveValues, moveRefused, moveMade, movesOwn}
 
 -- "19, undo on an empty journal, after 13"; "A foreign record meets 14, and its opposite 15, as any move does".
 unfoldable pub takenGrounds : Plan → Sets → ℕ → Move → List Ground
@@ -34,10 +32,3 @@ unfoldable pub undoesJournaled : Decoded → Journaled → MoveValues × Journal
 undoesJournaled d x =
     let r = undoes d (newest (x .journal)) (x .tables) (roomOf (x .journal)) (x .journal .count) in
     (r .0, record { tables = r .1; journal = journalTaken (moveMade (r .0)) (x .journal) })
-
--- What `undo` promises, which is lent the journal's length, record count and newest record: its answer by 01's number and values, and
--- every mask, every cell and the record count afterwards.
-pub record UndoPromise (given : MoveValues × State) (count : ℕ) (r : Moved) (s′ : State) (count′ : ℕ) : Type 0 where
-  pub answers : MovedAs (given .0) r
-  pub tables-are : s′ ≡ given .1
-  pub count-is : count′ ≡ countTaken (moveMade (given .0)) count

@@ -1,4 +1,5 @@
 -- Laws.
 pub mod Counting
 pub mod Opposites
+pub mod Promised
 pub mod Writing

@@ -34,7 +34,7 @@ same-length-4 c = search needs
 
 returns : tie.Need-returns
 returns c =
-    improve-gives _ _ _ _ _ _ _ _ _ _ _ _ _ _ (c .before .before .before .before .before .before .before .before .before .before .before .before .improve .ensures .0) (c .before .before .before .chosen-of .ensures) (rw (c .before .before .before .before .before .record-place .ensures) at (c .before .before .put-record .ensures)) (c .before .before .before .before .before .before .before .before .before .before .before .before .improve .ensures .1) (c .improve-fields .ensures)
+    improve-gives _ _ _ _ _ _ _ _ _ _ _ _ _ (c .before .before .before .before .before .before .before .before .before .before .before .before .improve .ensures .0) (c .before .before .before .chosen-of .ensures) (rw (c .before .before .before .before .before .record-place .ensures) at (c .before .before .put-record .ensures)) (c .before .before .before .before .before .before .before .before .before .before .before .before .improve .ensures .1) (c .improve-fields .ensures)
 
 pub vk-improve-spec : {M : Type 1} → statement M
 vk-improve-spec =

@@ -28,7 +28,7 @@ same-length-3 c = search needs
 
 returns : tie.Need-returns
 returns c =
-    move-gives _ _ _ _ _ _ _ _ _ _ _ (c .before .before .before .before .before .before .before .before .before .make-move .ensures) (rw (c .before .before .before .record-place .ensures) at (c .before .before .put-record .ensures)) (c .move-fields .ensures)
+    move-gives _ _ _ _ _ _ _ _ _ _ (c .before .before .before .before .before .before .before .before .before .make-move .ensures) (rw (c .before .before .before .record-place .ensures) at (c .before .before .put-record .ensures)) (c .move-fields .ensures)
 
 pub vk-move-spec : {M : Type 1} → statement M
 vk-move-spec =

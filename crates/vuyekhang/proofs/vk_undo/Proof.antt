@@ -27,7 +27,7 @@ same-length-2 c = search needs
 returns : tie.Need-returns
 unfolding newest
 returns c =
-    undo-gives _ _ _ _ _ _ _ _ _ _ (rw (c .before .before .before .before .before .before .before .before .before .before .newest-place .ensures) at (c .before .before .before .before .before .before .before .before .before .record-at .ensures)) (c .before .before .before .before .before .undo .ensures) (c .move-fields .ensures)
+    undo-gives _ _ _ _ _ _ _ _ _ (rw (c .before .before .before .before .before .before .before .before .before .before .newest-place .ensures) at (c .before .before .before .before .before .before .before .before .before .record-at .ensures)) (c .before .before .before .before .before .undo .ensures) (c .move-fields .ensures)
 
 pub vk-undo-spec : {M : Type 1} → statement M
 vk-undo-spec =
