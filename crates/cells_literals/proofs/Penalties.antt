@@ -1,5 +1,6 @@
 -- A literal's penalty at the t-th tuple, by its kind, from the digits of t alone. Assumes nothing.
 use mathlib.Core.Path.{_≡_, refl}
+use mathlib.Core.Logic.{_≢_}
 use mathlib.Core.Bool.{Bool, true, false, _&&_}
 use mathlib.Core.List.{List, _++_}
 use Prim.Native.Nat.{ℕ, _≤_, _<_}
@@ -33,11 +34,11 @@ module _ {sets kind r a b ports depth width : ℕ} {masks cells : List ℕ} (p :
   penaltyAt t = literalPenalty (configured ports sets (inMasks masks)) (literalOf (testOf kind r a b)) (tupleAt ports depth t)
 
   -- what a record's fields are, by its kind
-  pub member-fields : kind ≤ 6 → (a < depth) × (b < sets)
+  pub member-fields : kind ≢ 7 → kind ≢ 8 → (a < depth) × (b < sets)
   unfolding fieldRule
-  member-fields h =
+  member-fields n o =
       let t = last-two (eqb r 0) (ltb a depth) (ltb b sets)
-      (rw (ne-eqb kind 0 (λ e. omega (arith, p .kind5)), lt-leb kind 4 (omega (arith, p .kind5)), le-leb kind 6 h) at (p .fields)) in
+      (rw (ne-eqb kind 0 (λ e. omega (arith, p .kind5)), lt-leb kind 4 (omega (arith, p .kind5)), le-leb kind 6 (omega (arith, p .kind8))) at (p .fields)) in
       (ltb-true a depth (t .0), ltb-true b sets (t .1))
 
   pub port-fields : kind ≡ 7 → (a < depth) × (b < depth)
@@ -79,11 +80,11 @@ module _ {sets kind r a b ports depth width : ℕ} {masks cells : List ℕ} (p :
   blocks block other h k e f = rw (e, f) (record { first-outer = nested a b h k; second-outer = nested b a k h; room = p .room })
 
   -- it, from the digits of t, by the rule
-  member-at : kind ≤ 6 → (t : ℕ)
+  member-at : kind ≢ 7 → kind ≢ 8 → (t : ℕ)
       → rulePenalty kind 0 (inMask (getD masks b 0) (digitAt ports (blockOf ports depth a) t)) 0 0
       ≡ penaltyAt t
   unfolding Operands literalPenalty literalOf testOf configured inMasks
-  member-at h t = rw (← port-digit ports depth a t (member-fields h .0)) (go (decLe kind 5))
+  member-at n o t = rw (← port-digit ports depth a t (member-fields n o .0)) (go (decLe kind 5))
     where
       go : Dec (kind ≤ 5)
           → rulePenalty kind 0 (inMask (getD masks b 0) (portOf (tupleAt ports depth t) a)) 0 0
@@ -92,7 +93,7 @@ module _ {sets kind r a b ports depth width : ℕ} {masks cells : List ℕ} (p :
           let e : kind ≡ 5 = omega (arith, p .kind5) in
           rw (eq-eqb kind 5 e) (rule-is (configured ports sets (inMasks masks)) (isin a b) (tupleAt ports depth t) kind 0 _ 0 0 (e, refl))
       go (no l) =
-          let e : kind ≡ 6 = omega arith in
+          let e : kind ≡ 6 = omega (arith, p .kind8) in
           rw (ne-eqb kind 5 (λ e. omega arith), eq-eqb kind 6 e) (rule-is (configured ports sets (inMasks masks)) (notin a b) (tupleAt ports depth t) kind 0 _ 0 0 (e, refl))
 
   port-at : kind ≡ 7 → (t : ℕ)
@@ -113,11 +114,11 @@ module _ {sets kind r a b ports depth width : ℕ} {masks cells : List ℕ} (p :
       (refl, refl, ports-within ports 64 (getD masks a 0) (p .ports64) (p .within a (size-fields h .0)), refl))
 
   -- cells that the rule gives are the literal's
-  pub member-cells : kind ≤ 6 → (mask block : ℕ) (after : List ℕ) → mask ≡ getD masks b 0 → block ≡ blockOf ports depth a
+  pub member-cells : kind ≢ 7 → kind ≢ 8 → (mask block : ℕ) (after : List ℕ) → mask ≡ getD masks b 0 → block ≡ blockOf ports depth a
       → after ≡ tabulate width (λ t. rulePenalty kind 0 (inMask mask (digitAt ports block t)) 0 0) ++ drop width cells
       → after ≡ tabulate width penaltyAt ++ drop width cells
-  member-cells h mask block after m k e =
-      same-cells (λ t. rulePenalty kind 0 (inMask mask (digitAt ports block t)) 0 0) penaltyAt width cells after e (λ t. rw (m, k) (member-at h t))
+  member-cells n o mask block after m k e =
+      same-cells (λ t. rulePenalty kind 0 (inMask mask (digitAt ports block t)) 0 0) penaltyAt width cells after e (λ t. rw (m, k) (member-at n o t))
 
   pub port-cells : kind ≡ 7 → (block other : ℕ) (after : List ℕ) → block ≡ blockOf ports depth a → other ≡ blockOf ports depth b
       → after ≡ tabulate width (λ t. rulePenalty 7 r false (digitAt ports block t) (digitAt ports other t)) ++ drop width cells

@@ -36,7 +36,7 @@ fn put_size(relation: u8, mask: u64, constant: u8, width: usize, cells: &mut [u3
     put_run(0, width, value, cells);
 }
 
-// Fills the cells of a literal: the first `width`.
+// Fills the cells of a literal, the first `width`, in the order of Definition 5.
 pub fn put_literal(
     kind: u8,
     relation: u8,
@@ -53,17 +53,20 @@ pub fn put_literal(
     ensures { λ _. ⌜ now (cells .exit) ≡ tabulate width (λ t. literalPenalty (configured ports sets (inMasks (now (masks .entry)))) (literalOf (testOf kind relation a b)) (tupleAt ports depth t)) ++ drop width (now (cells .entry)) ⌝ }
 {
     let count = ports as u32;
-    if kind <= 6 {
-        let mask = mask_at(masks, wide(b));
-        let block = block_of(ports, depth, wide(a));
-        put_members(kind, mask, count, block, width, cells);
-        return;
-    }
+    // (f) port comparison
     if kind == 7 {
         let block = block_of(ports, depth, wide(a));
         let other = block_of(ports, depth, wide(b));
         put_comparison(relation, count, block, other, width, cells);
         return;
     }
-    put_size(relation, mask_at(masks, wide(a)), b, width, cells);
+    // (g) size
+    if kind == 8 {
+        put_size(relation, mask_at(masks, wide(a)), b, width, cells);
+        return;
+    }
+    // (h) in, (i) not in
+    let mask = mask_at(masks, wide(b));
+    let block = block_of(ports, depth, wide(a));
+    put_members(kind, mask, count, block, width, cells);
 }

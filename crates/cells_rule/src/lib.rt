@@ -64,13 +64,13 @@ pub fn literal_penalty(kind: u8, relation: u8, inside: bool, x: u32, y: u32) -> 
     ensures { λ r. ⌜ r ≡ rulePenalty kind relation inside x y ⌝ }
 {
     match kind {
-        // (h) in
-        5 => unless(inside),
-        // (i) not in
-        6 => unless(!inside),
         // (f) port comparison
         7 => unless(related(relation, x, y)),
         // (g) size
-        _ => size_penalty(relation, x, y),
+        8 => size_penalty(relation, x, y),
+        // (h) in
+        5 => unless(inside),
+        // (i) not in
+        _ => unless(!inside),
     }
 }

@@ -105,17 +105,17 @@ module _ (u sets d kind relation a b : ℕ) (masks : List ℕ) (digits : ℕ) (r
     port-here v h = ap (λ (x : ℕ). x / 256 ^ v % 256) (at .digits-are) ∙ port-packed v (omega (arith, ready .ports64)) (at .tuple) h
 
   -- the rule's penalty is the test's
-  pub afresh-member : (r : ℕ) → kind ≤ 6 → r ≡ rulePenalty kind relation (inMask (getD masks b 0) (portHere a)) 0 0
+  pub afresh-member : (r : ℕ) → kind ≢ 7 → kind ≢ 8 → r ≡ rulePenalty kind relation (inMask (getD masks b 0) (portHere a)) 0 0
       → (t : Test) (e : Tuple) → TestAt u sets d kind relation a b masks digits t e → r ≡ testPenalty (configured u sets (inMasks masks)) t e
   unfolding Operands testKind testA testB TestFits inMasks configured
-  afresh-member r k q (isin v S) e at =
+  afresh-member r n o q (isin v S) e at =
       q ∙ rule-is (configured u sets (inMasks masks)) (isin v S) e kind relation (inMask (getD masks b 0) (portHere a)) 0 0
       (at .kind-is, ap₂ (λ (x y : ℕ). inMask (getD masks x 0) y) (at .b-is) (ap portHere (at .a-is) ∙ port-here (isin v S) e at v (at .fits .0)))
-  afresh-member r k q (notin v S) e at =
+  afresh-member r n o q (notin v S) e at =
       q ∙ rule-is (configured u sets (inMasks masks)) (notin v S) e kind relation (inMask (getD masks b 0) (portHere a)) 0 0
       (at .kind-is, ap₂ (λ (x y : ℕ). inMask (getD masks x 0) y) (at .b-is) (ap portHere (at .a-is) ∙ port-here (notin v S) e at v (at .fits .0)))
-  afresh-member r k q (port w v x) e at = absurd (omega (arith, at .kind-is))
-  afresh-member r k q (size w S c) e at = absurd (omega (arith, at .kind-is))
+  afresh-member r n o q (port w v x) e at = absurd (n (at .kind-is))
+  afresh-member r n o q (size w S c) e at = absurd (o (at .kind-is))
 
   pub afresh-port : (r : ℕ) → kind ≡ 7 → r ≡ rulePenalty kind relation false (portHere a) (portHere b)
       → (t : Test) (e : Tuple) → TestAt u sets d kind relation a b masks digits t e → r ≡ testPenalty (configured u sets (inMasks masks)) t e
@@ -127,13 +127,13 @@ module _ (u sets d kind relation a b : ℕ) (masks : List ℕ) (digits : ℕ) (r
       (at .kind-is, ap relationOf (at .relation-is) ∙ relation-of-number w, ap portHere (at .a-is) ∙ port-here (port w v x) e at v (at .fits .0), ap portHere (at .b-is) ∙ port-here (port w v x) e at x (at .fits .1))
   afresh-port r k q (size w S c) e at = absurd (omega (arith, at .kind-is))
 
-  pub afresh-size : (r : ℕ) → 6 < kind → kind ≢ 7 → r ≡ rulePenalty kind relation false (portsIn 64 (inMask (getD masks a 0))) b
+  pub afresh-size : (r : ℕ) → kind ≡ 8 → r ≡ rulePenalty kind relation false (portsIn 64 (inMask (getD masks a 0))) b
       → (t : Test) (e : Tuple) → TestAt u sets d kind relation a b masks digits t e → r ≡ testPenalty (configured u sets (inMasks masks)) t e
   unfolding Operands testKind testRelation testA testB TestFits configured inMasks
-  afresh-size r k n q (isin v S) e at = absurd (omega (arith, at .kind-is))
-  afresh-size r k n q (notin v S) e at = absurd (omega (arith, at .kind-is))
-  afresh-size r k n q (port w v x) e at = absurd (n (at .kind-is))
-  afresh-size r k n q (size w S c) e at =
+  afresh-size r k q (isin v S) e at = absurd (omega (arith, at .kind-is))
+  afresh-size r k q (notin v S) e at = absurd (omega (arith, at .kind-is))
+  afresh-size r k q (port w v x) e at = absurd (omega (arith, at .kind-is))
+  afresh-size r k q (size w S c) e at =
       q ∙ rule-is (configured u sets (inMasks masks)) (size w S c) e kind relation false (portsIn 64 (inMask (getD masks a 0))) b
       (at .kind-is, ap relationOf (at .relation-is) ∙ relation-of-number w, ap (λ (x : ℕ). portsIn 64 (inMask (getD masks x 0))) (at .a-is) ∙ ports-within u 64 (getD masks S 0) (ready .ports64) (ready .within S (at .fits .0)), at .b-is)
 
@@ -156,21 +156,21 @@ module _ (u sets d kind relation a b : ℕ) (masks : List ℕ) (digits : ℕ) (m
       ap₂ (λ (x y : ℕ). x / 256 ^ y % 256) (at .digits-are) q ∙ port-packed v (omega (arith, m .ports64)) (at .tuple) h in
       omega (arith, m .ports64)
 
-  member-at : kind ≤ 6 → (t : Test) (e : Tuple) → TestAt u sets d kind relation a b masks digits t e
+  member-at : kind ≢ 7 → kind ≢ 8 → (t : Test) (e : Tuple) → TestAt u sets d kind relation a b masks digits t e
       → (a ≤ 2) × (b < length masks) × (digits / 256 ^ a % 256 < 64)
   unfolding testKind testA testB TestFits
-  member-at k (isin v S) e at = (
+  member-at n o (isin v S) e at = (
     omega (arith, at .a-is, at .fits .0, at .depth3),
     omega (arith, at .b-is, at .fits .1, m .masks-long),
     digit-lt (isin v S) e at v (at .a-is) (at .fits .0),
   )
-  member-at k (notin v S) e at = (
+  member-at n o (notin v S) e at = (
     omega (arith, at .a-is, at .fits .0, at .depth3),
     omega (arith, at .b-is, at .fits .1, m .masks-long),
     digit-lt (notin v S) e at v (at .a-is) (at .fits .0),
   )
-  member-at k (port r v w) e at = absurd (omega (arith, at .kind-is))
-  member-at k (size r S c) e at = absurd (omega (arith, at .kind-is))
+  member-at n o (port r v w) e at = absurd (n (at .kind-is))
+  member-at n o (size r S c) e at = absurd (o (at .kind-is))
 
   comparison-at : kind ≡ 7 → (t : Test) (e : Tuple) → TestAt u sets d kind relation a b masks digits t e → (a ≤ 2) × (b ≤ 2)
   unfolding testKind testA testB TestFits
@@ -180,19 +180,19 @@ module _ (u sets d kind relation a b : ℕ) (masks : List ℕ) (digits : ℕ) (m
       (omega (arith, at .a-is, at .fits .0, at .depth3), omega (arith, at .b-is, at .fits .1, at .depth3))
   comparison-at h (size r S c) e at = absurd (omega (arith, at .kind-is))
 
-  size-at : 6 < kind → kind ≢ 7 → (t : Test) (e : Tuple) → TestAt u sets d kind relation a b masks digits t e → a < length masks
+  size-at : kind ≡ 8 → (t : Test) (e : Tuple) → TestAt u sets d kind relation a b masks digits t e → a < length masks
   unfolding testKind testA testB TestFits
-  size-at h n (isin v S) e at = absurd (omega (arith, at .kind-is))
-  size-at h n (notin v S) e at = absurd (omega (arith, at .kind-is))
-  size-at h n (port r v w) e at = absurd (n (at .kind-is))
-  size-at h n (size r S c) e at = omega (arith, at .a-is, at .fits .0, m .masks-long)
+  size-at h (isin v S) e at = absurd (omega (arith, at .kind-is))
+  size-at h (notin v S) e at = absurd (omega (arith, at .kind-is))
+  size-at h (port r v w) e at = absurd (omega (arith, at .kind-is))
+  size-at h (size r S c) e at = omega (arith, at .a-is, at .fits .0, m .masks-long)
 
 module _ {u sets d kind relation a b : ℕ} {masks : List ℕ} {digits : ℕ} (ready : LiteralReady u sets d kind relation a b masks digits) where
-  pub member-ready : kind ≤ 6 → (a ≤ 2) × (b < length masks) × (digits / 256 ^ a % 256 < 64)
-  member-ready k = member-at u sets d kind relation a b masks digits (ready .settled) k (ready .literal .test) (ready .ports) (ready .at)
+  pub member-ready : kind ≢ 7 → kind ≢ 8 → (a ≤ 2) × (b < length masks) × (digits / 256 ^ a % 256 < 64)
+  member-ready n o = member-at u sets d kind relation a b masks digits (ready .settled) n o (ready .literal .test) (ready .ports) (ready .at)
 
   pub comparison-ready : kind ≡ 7 → (a ≤ 2) × (b ≤ 2)
   comparison-ready h = comparison-at u sets d kind relation a b masks digits (ready .settled) h (ready .literal .test) (ready .ports) (ready .at)
 
-  pub size-ready : 6 < kind → kind ≢ 7 → a < length masks
-  size-ready h n = size-at u sets d kind relation a b masks digits (ready .settled) h n (ready .literal .test) (ready .ports) (ready .at)
+  pub size-ready : kind ≡ 8 → a < length masks
+  size-ready h = size-at u sets d kind relation a b masks digits (ready .settled) h (ready .literal .test) (ready .ports) (ready .at)

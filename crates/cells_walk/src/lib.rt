@@ -93,7 +93,7 @@ fn mask_at(masks: &[u64], set: u8) -> u64
     masks[set as usize]
 }
 
-// A literal's penalty at a tuple: what it asks of the tuple and the masks, given to the rule.
+// A literal's penalty at a tuple: what it asks of the tuple and the masks, given to the rule. In the order of Definition 5.
 fn literal_after(
     kind: u8,
     relation: u8,
@@ -108,17 +108,20 @@ fn literal_after(
     requires { ⌜ LiteralReady ports sets depth kind relation a b (now masks) digits ⌝ }
     ensures { λ r. ⌜ Afresh ports sets depth kind relation a b (now (masks .entry)) digits r ⌝ }
 {
-    if kind <= 6 {
-        let inside = has_port(mask_at(masks, b), port_at(digits, a));
-        return literal_penalty(kind, relation, inside, 0, 0);
-    }
+    // (f) port comparison
     if kind == 7 {
         let x = port_at(digits, a);
         let y = port_at(digits, b);
         return literal_penalty(kind, relation, false, x, y);
     }
-    let size = mask_size(mask_at(masks, a));
-    literal_penalty(kind, relation, false, size, b as u32)
+    // (g) size
+    if kind == 8 {
+        let size = mask_size(mask_at(masks, a));
+        return literal_penalty(kind, relation, false, size, b as u32);
+    }
+    // (h) in, (i) not in
+    let inside = has_port(mask_at(masks, b), port_at(digits, a));
+    literal_penalty(kind, relation, inside, 0, 0)
 }
 
 // The penalty of literal i at a tuple.

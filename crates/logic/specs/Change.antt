@@ -32,12 +32,12 @@ pairsChange qs = record { pairs = qs; resized = λ S. someOf (λ q. eqb S (q .0)
 unfoldable pub memberHit : ℕ → ℕ → Tuple → Pair → Bool
 memberHit v S e q = eqb S (q .0) && (leb (length e) v || eqb (portOf e v) (q .1))
 
--- Whether a change hits a literal's test: a membership by one of its pairs, a size if the set's size changes. Ports alone change nothing.
+-- Whether a change hits a literal's test: a port comparison never, a size if its set is resized, a membership by one of the pairs.
 unfoldable pub hit : Change → Test → Tuple → Bool
-hit ch (isin v S) e = someOf (memberHit v S e) (ch .pairs)
-hit ch (notin v S) e = someOf (memberHit v S e) (ch .pairs)
 hit ch (port r v w) e = false
 hit ch (size r S c) e = ch .resized S
+hit ch (isin v S) e = someOf (memberHit v S e) (ch .pairs)
+hit ch (notin v S) e = someOf (memberHit v S e) (ch .pairs)
 
 -- Of a node: only a literal has a test.
 unfoldable pub nodeHit : Change → Node → Tuple → Bool

@@ -22,11 +22,12 @@ relationOf (suc (suc (suc zero))) = ne
 relationOf (suc (suc (suc (suc zero)))) = ge
 relationOf (suc (suc (suc (suc (suc r))))) = gt
 
--- What a literal asks. "Kinds 5, 6: a is a variable, b a set. Kind 7: a and b are variables. Kind 8: a is a set, b the
--- constant." "A variable is numbered by its quantifier, the outermost being 0."
+-- What a literal asks, in the order of Definition 5, cases (f) to (i): port comparison, size, in, not in. "Kind 7: a and b
+-- are variables. Kind 8: a is a set, b the constant." "Kinds 5, 6: a is a variable, b a set." "A variable is numbered by its
+-- quantifier, the outermost being 0."
 pub data Test : Type 0 where
-  isin notin : ℕ → ℕ → Test
   port size : Relation → ℕ → ℕ → Test
+  isin notin : ℕ → ℕ → Test
 
 -- A literal: its test. (2026-06 puts the weight beside it.)
 pub record Literal : Type 0 where

@@ -7,6 +7,7 @@ use Rattle.logic.specs.Formula.{Relation, lt, le, eq, ne, ge, gt, Test, 
 use Rattle.logic.specs.Configuration.{Configuration, indicator}
 use Rattle.logic.specs.Truth.{Tuple, portOf}
 
+-- The six relations over numbers, decided.
 unfoldable pub compare : Relation → ℕ → ℕ → Bool
 compare lt a b = ltb a b
 compare le a b = leb a b
@@ -25,33 +26,40 @@ sizePenalty ne s c = indicator (eqb s c)
 sizePenalty ge s c = c - s
 sizePenalty gt s c = c + 1 - s
 
--- "In, not in and port comparison give 0 if true, else 1." Cases (f) to (i) of Definition 5.
+-- Cases (f) to (i) of Definition 5. "In, not in and port comparison give 0 if true, else 1."
 unfoldable pub testPenalty : Configuration → Test → Tuple → ℕ
-testPenalty k (isin v S) e = indicator (not (k .member S (portOf e v)))
-testPenalty k (notin v S) e = indicator (k .member S (portOf e v))
+-- (f) port comparison
 testPenalty k (port r v w) e = indicator (not (compare r (portOf e v) (portOf e w)))
+-- (g) size
 testPenalty k (size r S c) e = sizePenalty r (k .size S) c
+-- (h) in
+testPenalty k (isin v S) e = indicator (not (k .member S (portOf e v)))
+-- (i) not in
+testPenalty k (notin v S) e = indicator (k .member S (portOf e v))
 
 -- A literal's penalty is its test's.
 unfoldable pub literalPenalty : Configuration → Literal → Tuple → ℕ
 literalPenalty k l e = testPenalty k (l .test) e
 
+-- "for all and "and" add".
 unfoldable pub sum : List ℕ → ℕ
 sum [] = 0
 sum (x ∷ xs) = x + sum xs
 
--- The table's rules give every minimum and the root a child; without one they are false, and 1 stands for that.
+-- "exists and "or" take the minimum". The table's rules give every minimum and the root a child; without one they are false,
+-- and 1 stands for that.
 unfoldable pub least : List ℕ → ℕ
 least [] = 1
 least (x ∷ []) = x
 least (x ∷ y ∷ ys) = min x (least (y ∷ ys))
 
+-- "the root copies its child".
 unfoldable pub copy : List ℕ → ℕ
 copy [] = 1
 copy (x ∷ xs) = x
 
 -- "for all and "and" add, exists and "or" take the minimum, the root copies its child": a cell's number from the numbers
--- directly below it.
+-- directly below it. Cases (a) to (e) of Definition 5 in their order, then a literal's.
 unfoldable pub combine : Configuration → Node → Tuple → List ℕ → ℕ
 combine k root e vs = copy vs
 combine k all e vs = sum vs
@@ -61,6 +69,7 @@ combine k or e vs = least vs
 combine k (lit l) e vs = literalPenalty k l e
 
 module _ {A : Type 0} where
+  -- What each port gives, in rising order.
   unfoldable pub eachPort : ℕ → (ℕ → List A) → List A
   eachPort zero g = []
   eachPort (suc u) g = eachPort u g ++ g u

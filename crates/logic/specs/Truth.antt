@@ -28,12 +28,13 @@ Related ne a b = a ≢ b
 Related ge a b = b ≤ a
 Related gt a b = b < a
 
--- Truth of a literal's test under a tuple: "`v:S` in, `v/S` not in, `v < w` and its kin, `#S <= 9` and its kin".
+-- Truth of a literal's test under a tuple: "`v < w` and its kin, `#S <= 9` and its kin", "`v:S` in, `v/S` not in", in the
+-- order of the penalty's cases.
 unfoldable pub TestTrue : Configuration → Test → Tuple → Type 0
-TestTrue k (isin v S) e = k .member S (portOf e v) ≡ true
-TestTrue k (notin v S) e = k .member S (portOf e v) ≡ false
 TestTrue k (port r v w) e = Related r (portOf e v) (portOf e w)
 TestTrue k (size r S c) e = Related r (k .size S) c
+TestTrue k (isin v S) e = k .member S (portOf e v) ≡ true
+TestTrue k (notin v S) e = k .member S (portOf e v) ≡ false
 
 -- What is asked of the trees of a forest: all of them, one of them, the first.
 pub data Asked : Type 0 where

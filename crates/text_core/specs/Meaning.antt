@@ -20,12 +20,13 @@ unfoldable pub valueOf : List Binding → ℕ → ℕ
 valueOf [] v = 0
 valueOf (b ∷ env) v = cond (eqb v (b .0)) (b .1) (valueOf env v)
 
--- Truth of a literal's test by its letters: sets by their place in the declaration, variables by the innermost binding.
+-- Truth of a literal's test by its letters, case by case as `TestTrue`: sets by their place in the declaration, variables by the
+-- innermost binding.
 unfoldable pub LeafTrue : Configuration → List ℕ → List Binding → Test → Type 0
-LeafTrue k sets env (isin v S) = k .member (setNumber sets S) (valueOf env v) ≡ true
-LeafTrue k sets env (notin v S) = k .member (setNumber sets S) (valueOf env v) ≡ false
 LeafTrue k sets env (port r v w) = Related r (valueOf env v) (valueOf env w)
 LeafTrue k sets env (size r S c) = Related r (k .size (setNumber sets S)) c
+LeafTrue k sets env (isin v S) = k .member (setNumber sets S) (valueOf env v) ≡ true
+LeafTrue k sets env (notin v S) = k .member (setNumber sets S) (valueOf env v) ≡ false
 
 unfoldable pub JoinTrue : Join → Type 0 → Type 0 → Type 0
 JoinTrue conj A B = A × B

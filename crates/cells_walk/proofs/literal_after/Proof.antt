@@ -1,21 +1,17 @@
 use borrow.Author.Needs.{needs}
 use Rattle.logic.specs.Penalty.{literalPenalty}
 use Rattle.cells_walk.specs.inner.Visit.{Afresh}
-use Rattle.cells_walk.proofs.Steps.{afresh-member, afresh-port, afresh-size, member-ready, comparison-ready, size-ready}
+use Rattle.cells_walk.proofs.Steps.{afresh-port, afresh-size, afresh-member, comparison-ready, size-ready, member-ready}
 use Rattle.cells_walk.proofs.literal_after.Statement.{statement}
 use Rattle.cells_walk.proofs.literal_after.Tie as tie
 
-mask-at-requires : tie.Need-mask-at-requires
-mask-at-requires c κs =
-    member-ready (c .before .before .pre) (c .if1 .taken) .1
-
 port-at-requires : tie.Need-port-at-requires
 port-at-requires c κs =
-    member-ready (c .before .before .before .pre) (c .before .if1 .taken) .0
+    comparison-ready (c .before .before .pre) (c .if1 .taken) .0
 
-has-port-requires : tie.Need-has-port-requires
-has-port-requires c κs =
-    rw (c .port-at .ensures .0) (member-ready (c .before .before .before .before .pre) (c .before .before .if1 .taken) .2)
+port-at-requires-2 : tie.Need-port-at-requires-2
+port-at-requires-2 c κs =
+    comparison-ready (c .before .before .before .pre) (c .before .if1 .taken) .1
 
 literal-penalty-requires : tie.Need-literal-penalty-requires
 literal-penalty-requires c κs = search needs
@@ -23,15 +19,14 @@ literal-penalty-requires c κs = search needs
 returns : tie.Need-returns
 unfolding Afresh literalPenalty
 returns c =
-    λ l. afresh-member _ _ _ _ _ _ _ _ _ (c .before .before .before .before .before .before .pre .settled) _ (c .before .before .before .before .if1 .taken) (cc) (l .test)
+    λ l. afresh-port _ _ _ _ _ _ _ _ _ (c .before .before .before .before .before .pre .settled) _ (c .before .before .before .if1 .taken) (cc) (l .test)
 
-port-at-requires-2 : tie.Need-port-at-requires-2
-port-at-requires-2 c κs =
-    comparison-ready (c .before .before .before .pre) (c .if2 .taken) .0
+mask-at-requires : tie.Need-mask-at-requires
+mask-at-requires c κs =
+    size-ready (c .before .before .before .pre) (c .if2 .taken)
 
-port-at-requires-3 : tie.Need-port-at-requires-3
-port-at-requires-3 c κs =
-    comparison-ready (c .before .before .before .before .pre) (c .before .if2 .taken) .1
+mask-size-requires : tie.Need-mask-size-requires
+mask-size-requires c κs = search needs
 
 literal-penalty-requires-2 : tie.Need-literal-penalty-requires-2
 literal-penalty-requires-2 c κs = search needs
@@ -39,14 +34,19 @@ literal-penalty-requires-2 c κs = search needs
 returns-2 : tie.Need-returns-2
 unfolding Afresh literalPenalty
 returns-2 c =
-    λ l. afresh-port _ _ _ _ _ _ _ _ _ (c .before .before .before .before .before .before .pre .settled) _ (c .before .before .before .if2 .taken) (cc) (l .test)
+    λ l. afresh-size _ _ _ _ _ _ _ _ _ (c .before .before .before .before .before .before .pre .settled) _ (c .before .before .before .if2 .taken) (cc) (l .test)
 
 mask-at-requires-2 : tie.Need-mask-at-requires-2
 mask-at-requires-2 c κs =
-    size-ready (c .before .before .before .pre) (c .before .if1 .left) (c .if2 .left)
+    member-ready (c .before .before .before .pre) (c .before .if1 .left) (c .if2 .left) .1
 
-mask-size-requires : tie.Need-mask-size-requires
-mask-size-requires c κs = search needs
+port-at-requires-3 : tie.Need-port-at-requires-3
+port-at-requires-3 c κs =
+    member-ready (c .before .before .before .before .pre) (c .before .before .if1 .left) (c .before .if2 .left) .0
+
+has-port-requires : tie.Need-has-port-requires
+has-port-requires c κs =
+    rw (c .port-at3 .ensures .0) (member-ready (c .before .before .before .before .before .pre) (c .before .before .before .if1 .left) (c .before .before .if2 .left) .2)
 
 literal-penalty-requires-3 : tie.Need-literal-penalty-requires-3
 literal-penalty-requires-3 c κs = search needs
@@ -54,22 +54,22 @@ literal-penalty-requires-3 c κs = search needs
 returns-3 : tie.Need-returns-3
 unfolding Afresh literalPenalty
 returns-3 c =
-    λ l. afresh-size _ _ _ _ _ _ _ _ _ (c .before .before .before .before .before .before .pre .settled) _ (c .before .before .before .before .if1 .left) (c .before .before .before .if2 .left) (cc) (l .test)
+    λ l. afresh-member _ _ _ _ _ _ _ _ _ (c .before .before .before .before .before .before .before .pre .settled) _ (c .before .before .before .before .before .if1 .left) (c .before .before .before .before .if2 .left) (cc) (l .test)
 
 pub literal-after-spec : {M : Type 1} → statement M
 literal-after-spec =
     tie.close
     (tie.spec
-    mask-at-requires
     port-at-requires
-    has-port-requires
+    port-at-requires-2
     literal-penalty-requires
     returns
-    port-at-requires-2
-    port-at-requires-3
+    mask-at-requires
+    mask-size-requires
     literal-penalty-requires-2
     returns-2
     mask-at-requires-2
-    mask-size-requires
+    port-at-requires-3
+    has-port-requires
     literal-penalty-requires-3
     returns-3)

@@ -36,15 +36,15 @@ fn size(masks: &[u64], set: u8) -> u64 {
     u64::from(masks[usize::from(set)].count_ones())
 }
 
-/// A literal's penalty at a tuple.
+/// A literal's penalty at a tuple: cases (f) to (i).
 pub fn literal_penalty(plan: &Plan, masks: &[u64], node: usize, tuple: &[usize]) -> u64 {
     let n = &plan.nodes[node];
     let port = |v: u8| tuple[usize::from(v)];
     match n.kind {
-        IN => u64::from(!in_set(masks, usize::from(n.b), port(n.a))),
-        NOT_IN => u64::from(in_set(masks, usize::from(n.b), port(n.a))),
         COMPARE => u64::from(!related(n.relation, port(n.a) as u64, port(n.b) as u64)),
         SIZE => size_penalty(n.relation, size(masks, n.a), u64::from(n.b)),
+        IN => u64::from(!in_set(masks, usize::from(n.b), port(n.a))),
+        NOT_IN => u64::from(in_set(masks, usize::from(n.b), port(n.a))),
         _ => unreachable!("a literal"),
     }
 }
