@@ -1,4 +1,5 @@
 use mathlib.Core.Path.{ap, _∙_}
+use mathlib.Core.Bool.{Bool, not}
 use native.Mathlib.Omega.{arith}
 use borrow.Author.Tests.{ne-eqb}
 use borrow.Author.Needs.{needs}
@@ -25,7 +26,7 @@ unless-requires-3 c κs = search needs
 
 returns : tie.Need-returns
 unfolding rulePenalty
-returns c = rw (c .before .before .match .keys1, ← c .before .related .ensures) (c .unless .ensures)
+returns c = rw (c .before .before .match .keys1) (c .unless .ensures ∙ ap (λ (b : Bool). indicator (not b)) (c .before .related .ensures))
 
 returns-2 : tie.Need-returns-2
 unfolding rulePenalty

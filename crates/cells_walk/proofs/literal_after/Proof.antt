@@ -19,7 +19,9 @@ literal-penalty-requires c κs = search needs
 returns : tie.Need-returns
 unfolding Afresh literalPenalty
 returns c =
-    λ l. afresh-port _ _ _ _ _ _ _ _ _ (c .before .before .before .before .before .pre .settled) _ (c .before .before .before .if1 .taken) (cc) (l .test)
+    λ l. afresh-port _ _ _ _ _ _ _ _ _ (c .before .before .before .before .before .pre .settled) _ (c .before .before .before .if1 .taken)
+    (rw (← c .before .before .port-at .ensures .0, ← c .before .port-at2 .ensures .0) (c .literal-penalty .ensures))
+    (l .test)
 
 mask-at-requires : tie.Need-mask-at-requires
 mask-at-requires c κs =
