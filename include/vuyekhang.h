@@ -1,5 +1,5 @@
-/* Vuyekhang: a planning engine for the ports of a cabinet, proved in Rattle. Version 0.5: read, write, load, a node's cells, move,
- * trial, improve, undo and the list of best moves.
+/* Vuyekhang: a planning engine for the ports of a cabinet, proved in Rattle. Version 0.6: read, write, load, a node's cells, move,
+ * trial, improve, undo, the list of best moves, and a port's test begun and ended.
  *
  * Link target/staticlib/libvuyekhang.a, which `rt staticlib vuyekhang` writes (x86-64, Linux). Each function is proved to meet its
  * contract in crates/vuyekhang/src/lib.rt for every value of its arguments; none keeps anything between two calls. A caller
@@ -7,7 +7,8 @@
  * table that is written is no part of another argument's table.
  *
  * An answer's number is 0 where the call is accepted, else the ground for refusal, with all other fields 0. A refused call
- * writes nothing. Nothing past a plan's own bytes, masks or cells is ever read or written.
+ * writes nothing. Nothing past a plan's own bytes, masks or cells is ever read or written. A plan's own masks are one for each set
+ * and, after these, that of the ports in test.
  *
  * Grounds: 1 text over 4,096 bytes; 2 a byte of no token, space or line end; 3 outside the grammar; 4 more than 64 of `(`, `~` and
  * quantifiers around one token; 5 set undeclared, declared twice or a seventeenth, variable unbound or bound again within its
@@ -15,14 +16,14 @@
  * 1 to 64; 11 plan table breaks a rule or is cut short; 12 cell, scratch, mask or output table too short, or a record count past
  * the journal's length or past 1,024; 13 a mask with a port of u or more; 14 unknown kind, set, port or kinds sum, or an unused
  * field not 0; 15 illegal move; 16 the list of moves too short; 17 the written text would meet 1 or 4; 18 the journal is full;
- * 19 undo on an empty journal. */
+ * 19 undo on an empty journal; 20 the port is already in test, or already not in test. */
 #ifndef VUYEKHANG_H
 #define VUYEKHANG_H
 
 #include <stddef.h>
 #include <stdint.h>
 
-#define VK_VERSION "0.5"
+#define VK_VERSION "0.6"
 
 #ifdef __cplusplus
 extern "C" {
@@ -66,8 +67,10 @@ typedef struct {
     uint32_t number, root, cells;
 } vk_load_answer;
 
-/* Checks a plan table and the masks (bit p of mask s set: port p is in set s), and writes every cell of the plan: its penalty.
- * Tries 11, then 12 (fewer masks than sets, or fewer cells than the plan's total), then 13. */
+/* Checks a plan table and the masks (bit p of mask s set: port p is in set s), and writes every cell of the plan: its penalty. One
+ * mask more, after those of the sets, has the bit of each port in test: the size of a set is the number of its members that are not
+ * in test; membership does not look at it. Tries 11, then 12 (fewer masks than one more than the sets, or fewer cells than the plan's
+ * total), then 13, of the mask in test too. */
 vk_load_answer vk_load(const uint8_t *table, size_t table_len, const uint64_t *masks, size_t masks_len, uint32_t *cells,
                        size_t cells_len);
 
@@ -99,18 +102,30 @@ typedef struct {
 
 /* Makes a move: writes its masks and the touched cells in place, and the move into the journal. The first *journal_count records are
  * the moves that were made and not taken back, the newest last: the caller begins with 0 and lends both on to every call. The move
- * is written at the old count, the count is then one more, and every other record stays. Tries 11, then 12 (fewer masks than sets,
- * fewer cells than the plan's total, or a count past journal_len, in records, or past 1,024), then 13, 14, 15, then 18 (the count is
- * journal_len or 1,024). The cells are taken as they are: after a vk_load and nothing but these calls each is its penalty. */
+ * is written at the old count, the count is then one more, and every other record stays. Tries 11, then 12 (fewer masks or cells
+ * than vk_load asks for, or a count past journal_len, in records, or past 1,024), then 13, 14, 15, then 18 (the count is journal_len
+ * or 1,024). The cells are taken as they are: after a vk_load and nothing but these calls each is its penalty. */
 vk_move_answer vk_move(const uint8_t *table, size_t table_len, uint64_t *masks, size_t masks_len, uint32_t *cells,
                        size_t cells_len, vk_move_record *journal, size_t journal_len, size_t *journal_count, vk_move_record move);
 
 /* Takes the newest move of the journal back: makes its opposite (drop for add, add for drop; a transfer from t to s; a swap with p
  * and q exchanged), answers as vk_move would for that, and lowers the count by one. No record is written. Tries 11 to 13 as vk_move
  * does, then 19 (the count is 0), then 14 (of the record) and 15 (of its opposite). After a vk_load and nothing but these calls,
- * masks and cells are those before the move. */
+ * the sets are those before the move; ports in test stay in test, and each cell is its penalty with these. */
 vk_move_answer vk_undo(const uint8_t *table, size_t table_len, uint64_t *masks, size_t masks_len, uint32_t *cells,
                        size_t cells_len, const vk_move_record *journal, size_t journal_len, size_t *journal_count);
+
+/* Puts a port in test: it keeps its place in every set and counts in no size. Writes its bit of the mask after those of the sets, and
+ * the touched cells as vk_move does: those of the size literals of every set that holds the port, and of the nodes above them. It
+ * goes into no journal, and vk_undo does not take it back. Tries 11 to 13 as vk_load does, then 14 (a port of u or more), then 20 (the
+ * port is in test). */
+vk_move_answer vk_test_begin(const uint8_t *table, size_t table_len, uint64_t *masks, size_t masks_len, uint32_t *cells,
+                             size_t cells_len, uint32_t port);
+
+/* Takes a port out of test: it counts again in the size of every set that holds it. Writes, answers and tries as vk_test_begin does;
+ * 20 where the port is not in test. */
+vk_move_answer vk_test_end(const uint8_t *table, size_t table_len, uint64_t *masks, size_t masks_len, uint32_t *cells,
+                           size_t cells_len, uint32_t port);
 
 /* What vk_move would answer with room in its journal, with masks and cells kept. Scratch has as many cells as the plan or more (else
  * 12); what an accepted call leaves in so many of them is not said. */

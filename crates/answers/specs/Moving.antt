@@ -1,10 +1,11 @@
--- What vk_move, vk_trial, vk_improve, vk_best_moves and vk_undo give: the fields of the C structs by the answer definitions of the calls, and
+-- What vk_move, vk_trial, vk_improve, vk_best_moves, vk_undo, vk_test_begin and vk_test_end give: the fields of the C structs by the answer definitions of the calls, and
 -- the tables and the journal afterwards.
 use mathlib.Core.Path.{_≡_}
 use mathlib.Core.List.{List, _++_, map}
 use Prim.Native.Nat.{ℕ}
 use lib.ListN.{length, drop}
 use Rattle.table_format.specs.Decode.{Decoded}
+use Rattle.contracts.specs.State.{State}
 use Rattle.contracts.specs.Journal.{Journaled}
 use Rattle.contracts.specs.MoveCall.{MoveValues}
 use Rattle.contracts.specs.TrialCall.{ScratchAfter}
@@ -27,6 +28,11 @@ pub record MoveFields (v : MoveValues) (r : MoveAnswer) : Type 0 where
 pub record MoveGives (given : MoveValues × Journaled) (r : MoveAnswer) (x′ : Journaled) : Type 0 where
   pub fields : MoveFields (given .0) r
   pub lent-are : x′ ≡ given .1
+
+-- The struct, and every mask and cell afterwards, of a port put in test or taken out.
+pub record TestGives (given : MoveValues × State) (r : MoveAnswer) (s′ : State) : Type 0 where
+  pub fields : MoveFields (given .0) r
+  pub tables-are : s′ ≡ given .1
 
 -- The struct, and scratch afterwards: on refusal as it was, and never written past the plan's own cells.
 pub record TrialGives (d : Decoded) (given : MoveValues) (r : MoveAnswer) (scratch scratch′ : List ℕ) : Type 0 where

@@ -14,7 +14,7 @@ use Rattle.logic.proofs.Lent.{lent, back, lent-is, back-is}
 use Rattle.table_format.specs.Decode.{Decoded, decode}
 use Rattle.contracts.specs.State.{State}
 use Rattle.contracts.specs.Journal.{Journaled}
-use Rattle.contracts.specs.Lists.{Asked, Exchange, moveCall, trialCall, improveCall, bestCall, undoCall, step, run}
+use Rattle.contracts.specs.Lists.{Asked, Exchange, moveCall, trialCall, improveCall, bestCall, undoCall, testCall, step, run}
 use Rattle.journal_rules.specs.inner.Counting.{placeOf}
 use Rattle.call_numbers.specs.Encoding.{Encodes, Unknown, SayAll, tenNumbers, movedNumbers, improvedNumbers, countedNumbers, answerNumbers, allNumbers, listOne, listAfter}
 use Rattle.call_one.specs.declared.One.{One}
@@ -58,6 +58,7 @@ length-numbers (trialCall m scratch r) = refl
 length-numbers (improveCall kinds scratch r) = refl
 length-numbers (bestCall kinds scratch room r) = refl
 length-numbers (undoCall r) = refl
+length-numbers (testCall into p r) = refl
 
 length-all : (xs : List Exchange) → length (allNumbers xs) ≡ 10 * length xs
 unfolding allNumbers

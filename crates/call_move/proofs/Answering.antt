@@ -20,13 +20,13 @@ use Rattle.contracts.specs.Journal.{countPast, full, countAfter}
 use Rattle.contracts.specs.Call.{planGrounds, tableGrounds, tablesThen, journalGrounds, callOr, call}
 use Rattle.contracts.specs.declared.Moved.{Moved}
 use Rattle.contracts.specs.declared.Moved.the-variants.{Accepted, Refused}
-use Rattle.contracts.specs.MoveCall.{MoveValues, moveRefused, moveValues, MoveTold, MovedAs, madeGrounds, moveCallGrounds, tablesAfter, movesOwn, moves, moveMade, MovePromise}
+use Rattle.contracts.specs.MoveCall.{MoveValues, moveRefused, moveValues, MoveTold, MovedAs, madeGrounds, moveCallGrounds, tablesAfter, movesOwn, moves, moveMade, MovePromise, MadeAs}
 use Rattle.contracts.proofs.Calls.{call-refused, call-accepted}
 use Rattle.contracts.proofs.Grounds.{refusal-first, passes}
 use Rattle.call_open.proofs.Opening.{one-table, Tries, tries-journal}
 use Rattle.move_try.proofs.OpenMove.{answer-is}
 use Rattle.move_make.specs.inner.Carrying.{Carries}
-use Rattle.call_move.specs.inner.Making.{makingGrounds, tryGrounds, made, MadeAs}
+use Rattle.call_move.specs.inner.Making.{makingGrounds, tryGrounds, made}
 
 -- the grounds of a move with a journal, tried
 pub tries-move : (bytes : List ℕ) (m : Move) (s : State) (room count : ℕ) (empty none : Bool)

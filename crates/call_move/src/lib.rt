@@ -11,8 +11,8 @@ use move_make::carry;
 ghost use Rattle.table_format.specs.Decode.{decode};
 ghost use Rattle.contracts.specs.State.{tables};
 ghost use Rattle.contracts.specs.Journal.{countAfter};
-ghost use Rattle.contracts.specs.MoveCall.{moves, MovePromise};
-ghost use Rattle.call_move.specs.inner.Making.{made, MadeAs};
+ghost use Rattle.contracts.specs.MoveCall.{MadeAs, moves, MovePromise};
+ghost use Rattle.call_move.specs.inner.Making.{made};
 
 // A move that a call makes over a journal of some length and record count: tries 11 to 13, 19 where the call needs a record and there
 // is none, 14 and 15, and 18 where it needs room and there is none; writes the move's masks and the touched cells in place.

@@ -1,2 +1,3 @@
 -- Laws.
+pub mod Tags
 pub mod Telling

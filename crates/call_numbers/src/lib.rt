@@ -5,8 +5,10 @@ use contracts::Moved;
 use logic::Move;
 use logic::no_move;
 ghost use mathlib.Core.Path.{_≡_};
+ghost use mathlib.Core.Bool.{_||_};
 ghost use mathlib.Core.List.{_++_};
 ghost use Prim.Native.Nat.{_≤_};
+ghost use lib.Dec.{eqb};
 ghost use lib.ListN.{length, drop};
 ghost use Rattle.contracts.specs.MoveCall.{moveValues};
 ghost use Rattle.contracts.specs.ImproveCall.{improveValues};
@@ -30,7 +32,7 @@ fn tell(number: u32, found: u32, m: Move, before: u32, after: u32, changed: u32,
     answer[9] = changed;
 }
 
-// The answer to a move, a trial or an undo: no move is told.
+// The answer to a move, a trial, an undo or a port in test: no move is told.
 pub fn tell_moved(r: Moved, answer: &mut [u32])
     requires { ⌜ 10 ≤ length (now answer) ⌝ }
     ensures { λ _. ⌜ now (answer .exit) ≡ movedNumbers (moveValues r) ++ drop 10 (now (answer .entry)) ⌝ }
@@ -71,6 +73,16 @@ pub fn tell_counted(r: Counted, answer: &mut [u32])
         Counted::Accepted(count) => tell(0, count, no_move(), 0, 0, 0, answer),
         Counted::Refused(number) => tell(number as u32, 0, no_move(), 0, 0, 0, answer),
     }
+}
+
+// Whether a tag says that a port is put in test or taken out.
+pub fn is_test(tag: u32) -> bool
+    ensures { λ r. ⌜ r ≡ (eqb tag 6 || eqb tag 7) ⌝ }
+{
+    if tag == 6 {
+        return true;
+    }
+    tag == 7
 }
 
 // The five fields of a call as a move.

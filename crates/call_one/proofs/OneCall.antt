@@ -1,6 +1,6 @@
 -- One call of a list, from what the call promises. Assumes nothing.
 use mathlib.Core.Path.{_≡_, refl, sym, ap, _∙_, subst}
-use mathlib.Core.Bool.{false}
+use mathlib.Core.Bool.{Bool, false}
 use mathlib.Core.List.{List, _++_}
 use Prim.Native.Nat.{ℕ, _≤_}
 use native.Mathlib.Omega.{arith}
@@ -12,17 +12,18 @@ use Rattle.contracts.specs.Journal.{newest as newestOf, countAfter, countTaken}
 use Rattle.contracts.specs.declared.Moved.{Moved}
 use Rattle.contracts.specs.declared.Improved.{Improved}
 use Rattle.contracts.specs.declared.Counted.{Counted}
-use Rattle.contracts.specs.MoveCall.{MoveValues, moveValues, moveMade, MovedAs, moves, movesJournaled, MovePromise}
+use Rattle.contracts.specs.MoveCall.{MoveValues, moveValues, moveMade, MovedAs, MadeAs, moves, movesJournaled, MovePromise}
 use Rattle.contracts.specs.TrialCall.{trials, ScratchAfter}
 use Rattle.contracts.specs.ImproveCall.{ImproveValues, improveValues, improves, improvesJournaled, ImprovePromise}
 use Rattle.contracts.specs.UndoCall.{undoes, undoesJournaled}
+use Rattle.contracts.specs.TestCall.{tests, testsJournaled}
 use Rattle.contracts.specs.Counting.{CountValues, countValues}
 use Rattle.contracts.specs.BestCall.{lists, ListPromise}
-use Rattle.contracts.specs.Lists.{askMove, askTrial, askImprove, askBest, askUndo, moveCall, trialCall, improveCall, bestCall, undoCall, step}
+use Rattle.contracts.specs.Lists.{askMove, askTrial, askImprove, askBest, askUndo, askTest, moveCall, trialCall, improveCall, bestCall, undoCall, testCall, step}
 use Rattle.journal_rules.specs.inner.Counting.{placeOf}
 use Rattle.journal_rules.proofs.Writing.{taken-fewer}
 use Rattle.journal_rules.proofs.Promised.{held, put-none, move-held, improve-held, undo-held}
-use Rattle.call_numbers.specs.Encoding.{Unknown, tag, moveOf, kindsOf, cellsLent, recordsLent, Encodes, movedNumbers, improvedNumbers, countedNumbers, answerNumbers, listOne}
+use Rattle.call_numbers.specs.Encoding.{Unknown, tag, moveOf, kindsOf, cellsLent, recordsLent, testTag, Encodes, movedNumbers, improvedNumbers, countedNumbers, answerNumbers, listOne}
 use Rattle.call_one.specs.declared.One.{One}
 use Rattle.call_one.specs.Scratch.{lentTo, answerNumber}
 use Rattle.call_one.specs.Lending.{Lent, lends}
@@ -84,6 +85,22 @@ module _ (bytes call : List ℕ) (room : ℕ) (newest : Move) (count : ℕ) (s :
         scratch-step = none-lent (decode bytes) (undoCall (undoesJournaled (decode bytes) (held s records count) .0)) scratch refl;
         list-is = refl;
         answer-is = told ∙ ap (λ (v : MoveValues). movedNumbers v ++ drop 10 answer) (q .0);
+      })
+
+  pub one-test : (m : Move) (into : Bool) (p : ℕ) (a : Moved) (s′ : State) → r ≡ withRecord m → tag call ≡ testTag into → p ≡ moveOf call .p
+      → MadeAs (tests (decode bytes) into p s) a s′ → answer′ ≡ movedNumbers (moveValues a) ++ drop 10 answer
+      → OneOver r bytes call room newest count before count (λ records. lends (held s′ records count) scratch list answer′)
+  unfolding Encodes step listOne answerNumbers lentTo testsJournaled
+  one-test m into p a s′ e t f w told =
+      worked-over m count (λ records. lends (held s′ records count) scratch list answer′) e
+      (λ records j. record {
+        asked = askTest into p;
+        says = (t, f);
+        tables-are = ap (λ (xs : List Move). held s′ xs count) (put-none (decode bytes) s s′ records room count count (j .room-is) m (omega arith))
+            ∙ ap (λ (x : State). held x records count) (w .tables-are);
+        scratch-step = none-lent (decode bytes) (testCall into p (tests (decode bytes) into p s .0)) scratch refl;
+        list-is = refl;
+        answer-is = told ∙ ap (λ (v : MoveValues). movedNumbers v ++ drop 10 answer) (w .answers .values-are);
       })
 
   -- a call that is lent the first l cells of scratch, and gives them back

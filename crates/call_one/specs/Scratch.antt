@@ -5,15 +5,16 @@ use Prim.Native.Nat.{ℕ}
 use lib.ListN.{length, take, drop}
 use Rattle.table_format.specs.Decode.{Decoded}
 use Rattle.contracts.specs.TrialCall.{ScratchAfter}
-use Rattle.contracts.specs.Lists.{Exchange, moveCall, trialCall, improveCall, bestCall, undoCall}
+use Rattle.contracts.specs.Lists.{Exchange, moveCall, trialCall, improveCall, bestCall, undoCall, testCall}
 
--- What a call is lent of scratch: a move and an undo none of it.
+-- What a call is lent of scratch: a move, an undo and a port in test none of it.
 unfoldable pub lentTo : Exchange → List ℕ
 lentTo (moveCall m r) = []
 lentTo (trialCall m scratch r) = scratch
 lentTo (improveCall kinds scratch r) = scratch
 lentTo (bestCall kinds scratch room r) = scratch
 lentTo (undoCall r) = []
+lentTo (testCall into p r) = []
 
 -- The paper's number of an answer.
 unfoldable pub answerNumber : Exchange → ℕ
@@ -22,6 +23,7 @@ answerNumber (trialCall m scratch r) = r .number
 answerNumber (improveCall kinds scratch r) = r .number
 answerNumber (bestCall kinds scratch room r) = r .0 .number
 answerNumber (undoCall r) = r .number
+answerNumber (testCall into p r) = r .number
 
 -- "Trial returns the same three numbers and writes only a scratch table of at least as many cells" (paper 01, section One move);
 -- improve and the best moves likewise. One call: it is lent the front of scratch as the last call left it, writes of that what `ScratchAfter` allows,

@@ -1,11 +1,13 @@
-// Works one encoded call. Paper 01, section Lists of calls; paper 02, request 2026-03.
+// Works one encoded call. Paper 01, section Lists of calls; paper 02, requests 2026-03 and 2026-05.
 use call_best::best_moves;
 use call_improve::improve;
 use call_move::make_move;
+use call_numbers::is_test;
 use call_numbers::move_of;
 use call_numbers::tell_counted;
 use call_numbers::tell_improved;
 use call_numbers::tell_moved;
+use call_test::port_test;
 use call_trial::trial;
 use call_undo::undo;
 use journal_rules::chosen_of;
@@ -35,8 +37,8 @@ fn worked(m: Move) -> One
     }
 }
 
-// One call by its tag: 1 a move, 2 a trial, 3 improve, 4 the best moves, 5 undo. Any other tag is unknown, and nothing is written for it.
-// The journal is lent by value, its length and its newest record; the record is the caller's to write, at the old count.
+// One call by its tag: 1 a move, 2 a trial, 3 improve, 4 the best moves, 5 undo, 6 a port put in test, 7 one taken out. Any other tag is
+// unknown, and nothing is written for it. The journal is lent by value, its length and its newest record; the record is the caller's to write, at the old count.
 pub fn work_one(
     table: &[u8],
     masks: &mut [u64],
@@ -97,6 +99,10 @@ pub fn work_one(
     }
     if tag == 5 {
         tell_moved(undo(table, masks, cells, room, count, newest), answer);
+        return worked(m);
+    }
+    if is_test(tag) {
+        tell_moved(port_test(table, masks, cells, tag == 6, m.p), answer);
         return worked(m);
     }
     One {

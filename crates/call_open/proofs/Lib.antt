@@ -1,3 +1,4 @@
 -- Laws.
 pub mod OfKinds
+pub mod OpenPlan
 pub mod Opening

@@ -16,11 +16,11 @@ use Rattle.contracts.specs.State.{State}
 use Rattle.contracts.specs.Journal.{countPast, opposite, countTaken}
 use Rattle.contracts.specs.Call.{planGrounds, tableGrounds, tablesThen, journalGrounds, callOr, call}
 use Rattle.contracts.specs.declared.Moved.{Moved}
-use Rattle.contracts.specs.MoveCall.{moveRefused, moveValues, moveMade, movesOwn, MovePromise}
+use Rattle.contracts.specs.MoveCall.{moveRefused, moveValues, moveMade, movesOwn, MovePromise, MadeAs}
 use Rattle.contracts.specs.UndoCall.{takenGrounds, undoGrounds, undoes}
 use Rattle.contracts.proofs.Opposites.{opposite-known}
 use Rattle.call_move.proofs.Answering.{promised}
-use Rattle.call_move.specs.inner.Making.{makingGrounds, tryGrounds, made, MadeAs}
+use Rattle.call_move.specs.inner.Making.{makingGrounds, tryGrounds, made}
 
 -- 14 of the record is 14 of its opposite
 same-grounds : (P : Plan) (k : Sets) (count : ℕ) (m : Move) → refusal (takenGrounds P k count m) ≡ refusal (makingGrounds (eqb count 0) false (opposite m) P k)

@@ -3,7 +3,7 @@ use mathlib.Core.Path.{_≡_, refl, sym, ap, ap₂, _∙_, subst}
 use mathlib.Core.Bool.{true}
 use mathlib.Core.List.{List, [], _∷_, _++_, append-assoc}
 use Prim.Native.Nat.{ℕ, _+_, _-_, _*_, _^_, _≤_, _<_}
-use native.Mathlib.Nat.{le-trans, add-zero, suc-add, mul-le-mul-right, mul-left-comm, pow-suc}
+use native.Mathlib.Nat.{add-zero, suc-add, mul-le-mul-right, mul-left-comm, pow-suc}
 use native.Mathlib.Omega.{arith}
 use lib.ListN.{length, getD, take, drop, length-append, length-drop, take-append-drop, List·getD-append}
 use lib.Seq.{drop-at, length-take-le, ext-getD, drop-append-add}
@@ -14,7 +14,7 @@ use Rattle.logic.specs.Truth.{Tuple}
 use Rattle.logic.specs.Penalty.{sum, below, penalties, penalty}
 use Rattle.logic.specs.Cells.{cellCount, tupleAt, tabulate, layout}
 use Rattle.logic.proofs.Tables.{length-tabulate, getD-tabulate, tabulate-cong, length-layout}
-use Rattle.logic.proofs.Bound.{spread, spread-pos, subtreeCells, subtree-count, below-penalties-le, literals-low, ports-in-le}
+use Rattle.logic.proofs.Bound.{spread, spread-pos, subtreeCells, subtree-count, below-penalties-le, literals-low, sizes-64}
 use Rattle.logic.proofs.Lent.{lent, back, lent-is, back-is}
 use Rattle.table_format.specs.Bytes.{recordLength, kindField, relationField, aField, bField, endField, nodeOf, records}
 use Rattle.table_format.specs.Rules.{everyNode, nodeRule}
@@ -74,10 +74,9 @@ few-parts u m c s h l =
 -- The sum below a cell of a plan's node stays below 2^32.
 pub low-below : (u sets : ℕ) (masks : List ℕ) (m : Node) (c s : Forest) (depth : ℕ) (e : Tuple) → 1 ≤ u → u ≤ 64 → everyNode (nodeRule sets) c (childDepth m depth) ≡ true
     → cellCount u (tree m c s) 0 ≤ 1048576 → sum (below u m e (penalties u (config u sets masks) c)) < 4294967296
-unfolding configured
 low-below u sets masks m c s depth e u1 u64 rules few =
     let k = config u sets masks in
-    let small : (S : ℕ) → k .size S ≤ 64 = λ S. le-trans (ports-in-le u (inMasks masks S)) u64 in
+    let small : (S : ℕ) → k .size S ≤ 64 = sizes-64 u sets (inMasks masks) u64 in
     let b = below-penalties-le u 65 (omega arith) k m c (childDepth m depth) e (literals-low k small c (childDepth m depth) (constants-low sets c (childDepth m depth) rules)) in
     omega (arith, few-parts u m c s u1 few .0, mul-left-comm (spread u m) 65 (subtreeCells u c))
 

@@ -27,11 +27,11 @@ use Rattle.cells_fill.proofs.Filling.{low-below}
 use Rattle.logic.proofs.Lent.{nothing-behind}
 use Rattle.table_format.proofs.Ready.{TableReady, own-zero}
 
-pub placed-plan : (bytes : List ℕ) (P : Plan) (nodes : ℕ) (masks xs : List ℕ) → TableReady bytes P nodes → P .sets ≤ length masks → allWithin (P .ports) (take (P .sets) masks) ≡ true
+pub placed-plan : (bytes : List ℕ) (P : Plan) (nodes : ℕ) (masks xs : List ℕ) → TableReady bytes P nodes → ownMasks P ≤ length masks → allWithin (P .ports) (take (ownMasks P) masks) ≡ true
     → ownCells P ≤ length xs
     → FillPlaced (belowRoot bytes nodes) 1 0 (P .ports) (P .sets) 0 1 1 1
-    (take (P .sets) masks) xs
-unfolding kindNumber childDepth
+    (take (ownMasks P) masks) xs
+unfolding ownMasks kindNumber childDepth
 placed-plan bytes P nodes masks xs r m st l =
     let f = r .facts in
     record {
@@ -57,7 +57,7 @@ placed-plan bytes P nodes masks xs r m st l =
       ports1 = f .ports1;
       ports64 = f .ports64;
       depth4 = omega arith;
-      sets-masks = omega (arith, length-take-le (P .sets) masks m);
+      sets-masks = omega (arith, length-take-le (ownMasks P) masks m);
       within = st;
       after = omega arith;
       room = omega (arith, r .total);
@@ -96,10 +96,10 @@ plan-table P own c e =
 
 pub plan-filled : (bytes : List ℕ) (P : Plan) (nodes r : ℕ) (masks xs ys zs : List ℕ) → decode bytes ≡ sound P → TableReady bytes P nodes → length xs ≡ ownCells P
     → ys ≡ tabulate 1 (λ _. unitOf 1) ++ drop 1 xs
-    → Fills (belowRoot bytes nodes) 1 0 (P .ports) (P .sets) 0 1 1 (take (P .sets) masks) ys zs r
+    → Fills (belowRoot bytes nodes) 1 0 (P .ports) (P .sets) 0 1 1 (take (ownMasks P) masks) ys zs r
     → FillsPlan bytes masks zs
-unfolding Fills FillsPlan ownMasks kindNumber childDepth
-plan-filled bytes P nodes r masks xs ys zs d rd l ye fl Q dq = subst (λ (R : Plan). zs ≡ cells R (spelled R (take (R .sets) masks))) one whole
+unfolding Fills FillsPlan kindNumber childDepth
+plan-filled bytes P nodes r masks xs ys zs d rd l ye fl Q dq = subst (λ (R : Plan). zs ≡ cells R (spelled R (take (ownMasks R) masks))) one whole
   where
     u : ℕ
     u = P .ports
@@ -108,7 +108,7 @@ plan-filled bytes P nodes r masks xs ys zs d rd l ye fl Q dq = subst (λ (R : Pl
     c = rd .below
 
     own : List ℕ
-    own = take (P .sets) masks
+    own = take (ownMasks P) masks
 
     one : P ≡ Q
     one = one-plan bytes P Q (decode-sound bytes P d) (decode-sound bytes Q dq)

@@ -4,6 +4,7 @@ use cells_join::merge;
 use cells_join::put_unit;
 use cells_join::spread_of;
 use cells_literals::put_literal;
+use logic::own_masks;
 use table_format::RECORD;
 use table_format::a_of;
 use table_format::b_of;
@@ -124,5 +125,6 @@ pub fn fill(table: &[u8], ports: usize, sets: usize, nodes: usize, masks: &[u64]
 {
     let below = below_root(table, nodes);
     put_unit(1, 1, cells);
-    fill_forest(below, 1, 0, ports, sets, 0, 1, 1, 1, &masks[0..sets], cells);
+    let own = own_masks(sets);
+    fill_forest(below, 1, 0, ports, sets, 0, 1, 1, 1, &masks[0..own], cells);
 }

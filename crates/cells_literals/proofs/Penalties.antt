@@ -10,7 +10,7 @@ use lib.Dec.{eqb, leb, ltb}
 use lib.ListN.{getD, drop}
 use borrow.Author.Tests.{eq-eqb, ne-eqb, le-leb, lt-leb, leb-true, ltb-true}
 use Rattle.logic.specs.Formula.{isin, notin, port, size, literalOf, relationOf}
-use Rattle.logic.specs.Configuration.{portsIn, inMask, configured, inMasks}
+use Rattle.logic.specs.Configuration.{portsIn, outOfTest, inMask, configured, inMasks}
 use Rattle.logic.specs.Truth.{portOf}
 use Rattle.logic.specs.Penalty.{literalPenalty}
 use Rattle.logic.specs.Cells.{tupleAt, tabulate}
@@ -105,13 +105,13 @@ module _ {sets kind r a b ports depth width : ℕ} {masks cells : List ℕ} (p :
       (rule-is (configured ports sets (inMasks masks)) (port (relationOf r) a b) (tupleAt ports depth t) 7 r false _ _ (refl, refl, refl, refl))
 
   size-at : kind ≡ 8 → (t : ℕ)
-      → rulePenalty 8 r false (portsIn 64 (inMask (getD masks a 0))) b
+      → rulePenalty 8 r false (portsIn 64 (outOfTest (inMasks masks a) (inMasks masks sets))) b
       ≡ penaltyAt t
   unfolding Operands literalPenalty literalOf testOf configured inMasks
   size-at h t =
       rw (ne-eqb kind 5 (λ e. omega arith), ne-eqb kind 6 (λ e. omega arith), ne-eqb kind 7 (λ e. omega arith))
       (rule-is (configured ports sets (inMasks masks)) (size (relationOf r) a b) (tupleAt ports depth t) 8 r false _ b
-      (refl, refl, ports-within ports 64 (getD masks a 0) (p .ports64) (p .within a (size-fields h .0)), refl))
+      (refl, refl, ports-within ports 64 (getD masks a 0) (inMasks masks sets) (p .ports64) (p .within a (size-fields h .0)), refl))
 
   -- cells that the rule gives are the literal's
   pub member-cells : kind ≢ 7 → kind ≢ 8 → (mask block : ℕ) (after : List ℕ) → mask ≡ getD masks b 0 → block ≡ blockOf ports depth a
@@ -126,8 +126,8 @@ module _ {sets kind r a b ports depth width : ℕ} {masks cells : List ℕ} (p :
   port-cells h block other after k m e =
       same-cells (λ t. rulePenalty 7 r false (digitAt ports block t) (digitAt ports other t)) penaltyAt width cells after e (λ t. rw (k, m) (port-at h t))
 
-  pub size-cells : kind ≡ 8 → (mask : ℕ) (after : List ℕ) → mask ≡ getD masks a 0
-      → after ≡ tabulate width (λ _. rulePenalty 8 r false (portsIn 64 (inMask mask)) b) ++ drop width cells
+  pub size-cells : kind ≡ 8 → (s : ℕ) (after : List ℕ) → s ≡ portsIn 64 (outOfTest (inMasks masks a) (inMasks masks sets))
+      → after ≡ tabulate width (λ _. rulePenalty 8 r false s b) ++ drop width cells
       → after ≡ tabulate width penaltyAt ++ drop width cells
-  size-cells h mask after m e =
-      same-cells (λ _. rulePenalty 8 r false (portsIn 64 (inMask mask)) b) penaltyAt width cells after e (λ t. rw m (size-at h t))
+  size-cells h s after m e =
+      same-cells (λ _. rulePenalty 8 r false s b) penaltyAt width cells after e (λ t. rw m (size-at h t))

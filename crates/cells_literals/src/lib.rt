@@ -4,35 +4,28 @@ use cells_members::put_members;
 use cells_rule::literal_penalty;
 use cells_runs::block_of;
 use cells_runs::put_run;
-use logic::mask_size;
+use cells_size::mask_at;
+use cells_size::set_size;
 use table_format::wide;
 ghost use mathlib.Core.Path.{_≡_};
 ghost use mathlib.Core.Bool.{false};
 ghost use mathlib.Core.List.{_++_};
-ghost use Prim.Native.Nat.{_≤_, _<_};
-ghost use lib.ListN.{length, getD, drop};
+ghost use Prim.Native.Nat.{_≤_};
+ghost use lib.ListN.{length, drop};
 ghost use Rattle.logic.specs.Formula.{literalOf};
-ghost use Rattle.logic.specs.Configuration.{portsIn, inMask, configured, inMasks};
+ghost use Rattle.logic.specs.Configuration.{configured, inMasks};
 ghost use Rattle.logic.specs.Penalty.{literalPenalty};
 ghost use Rattle.logic.specs.Cells.{tupleAt, tabulate};
 ghost use Rattle.table_format.specs.Bytes.{testOf};
 ghost use Rattle.cells_rule.specs.inner.Rule.{rulePenalty};
 ghost use Rattle.cells_literals.specs.inner.Literal.{LiteralPlaced};
 
-// The mask of a set.
-fn mask_at(masks: &[u64], set: usize) -> u64
-    requires { ⌜ set < length (now masks) ⌝ }
-    ensures { λ r. ⌜ r ≡ getD (now (masks .entry)) set 0 ⌝ }
-{
-    masks[set]
-}
-
 // The cells of kind 8: the same at every tuple.
-fn put_size(relation: u8, mask: u64, constant: u8, width: usize, cells: &mut [u32])
-    requires { ⌜ width ≤ length (now cells) ⌝ }
-    ensures { λ _. ⌜ now (cells .exit) ≡ tabulate width (λ _. rulePenalty 8 relation false (portsIn 64 (inMask mask)) constant) ++ drop width (now (cells .entry)) ⌝ }
+fn put_size(relation: u8, size: u32, constant: u8, width: usize, cells: &mut [u32])
+    requires { ⌜ (size ≤ 64) × (width ≤ length (now cells)) ⌝ }
+    ensures { λ _. ⌜ now (cells .exit) ≡ tabulate width (λ _. rulePenalty 8 relation false size constant) ++ drop width (now (cells .entry)) ⌝ }
 {
-    let value = literal_penalty(8, relation, false, mask_size(mask), constant as u32);
+    let value = literal_penalty(8, relation, false, size, constant as u32);
     put_run(0, width, value, cells);
 }
 
@@ -62,7 +55,7 @@ pub fn put_literal(
     }
     // (g) size
     if kind == 8 {
-        put_size(relation, mask_at(masks, wide(a)), b, width, cells);
+        put_size(relation, set_size(masks, sets, wide(a)), b, width, cells);
         return;
     }
     // (h) in, (i) not in

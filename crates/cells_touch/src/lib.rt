@@ -80,7 +80,7 @@ fn variable_bits(set: usize) -> u64
 }
 
 // The bit of a set that says that its size is tested.
-fn size_bit(set: usize) -> u64
+pub fn size_bit(set: usize) -> u64
     requires { ⌜ set < 16 ⌝ }
     ensures { λ r. ⌜ r ≡ sizeBit set ⌝ }
 {

@@ -16,7 +16,7 @@ use Rattle.logic.specs.Truth.{Tuple}
 use Rattle.logic.specs.Penalty.{eachPort, below, sum}
 use Rattle.logic.specs.Cells.{placeOf, siblingFirst}
 use Rattle.logic.specs.Change.{Change, touched, modulus, cellOf, renewals}
-use Rattle.logic.proofs.Bound.{LiteralsAtMost, literals-low, ports-in-le}
+use Rattle.logic.proofs.Bound.{LiteralsAtMost, literals-low, sizes-64}
 use Rattle.logic.proofs.Tables.{place-lt}
 use Rattle.table_format.specs.Bytes.{recordLength, kindField, relationField, aField, bField, recordsOf, recordAt, relationByte, aByte, bByte}
 use Rattle.table_format.specs.Rules.{treeCount, arityRule}
@@ -101,8 +101,8 @@ module _ (u sets : ℕ) (c : Changed) (bytes firsts ends uses masks cells : List
           touched-here u sets ch bytes firsts ends uses cells i n f s b d e place digits word v (ready .masks-settled .sets16) ∙ ap (λ (y : ℕ). meets y word) (sym h) ∙ m
 
       literals : LiteralsAtMost 65 after f (childDepth n d)
-      unfolding Fitting Every configured
-      literals = literals-low after (λ S. le-trans (ports-in-le u (inMasks masks S)) (ready .masks-settled .ports64)) f (childDepth n d) (all-constants sets f (childDepth n d) (v .fitting .1))
+      unfolding Fitting Every
+      literals = literals-low after (sizes-64 u sets (inMasks masks) (ready .masks-settled .ports64)) f (childDepth n d) (all-constants sets f (childDepth n d) (v .fitting .1))
 
       place-fits : place < 262144
       place-fits =

@@ -12,7 +12,7 @@ use lib.ListN.{length, getD}
 use lib.Pow.{pow-add}
 use borrow.Author.Tests.{eq-eqb, ne-eqb}
 use Rattle.logic.specs.Formula.{Test, isin, notin, port, size, testKind, relationOf}
-use Rattle.logic.specs.Configuration.{portsIn, configured, inMask, inMasks}
+use Rattle.logic.specs.Configuration.{portsIn, outOfTest, configured, inMask, inMasks}
 use Rattle.logic.specs.Truth.{Tuple, portOf}
 use Rattle.logic.specs.Penalty.{testPenalty}
 use Rattle.logic.proofs.Lists.{TupleOf, empty, more}
@@ -127,15 +127,20 @@ module _ (u sets d kind relation a b : ℕ) (masks : List ℕ) (digits : ℕ) (r
       (at .kind-is, ap relationOf (at .relation-is) ∙ relation-of-number w, ap portHere (at .a-is) ∙ port-here (port w v x) e at v (at .fits .0), ap portHere (at .b-is) ∙ port-here (port w v x) e at x (at .fits .1))
   afresh-port r k q (size w S c) e at = absurd (omega (arith, at .kind-is))
 
-  pub afresh-size : (r : ℕ) → kind ≡ 8 → r ≡ rulePenalty kind relation false (portsIn 64 (inMask (getD masks a 0))) b
+  pub afresh-size : (r : ℕ) → kind ≡ 8 → r ≡ rulePenalty kind relation false (portsIn 64 (outOfTest (inMasks masks a) (inMasks masks sets))) b
       → (t : Test) (e : Tuple) → TestAt u sets d kind relation a b masks digits t e → r ≡ testPenalty (configured u sets (inMasks masks)) t e
   unfolding Operands testKind testRelation testA testB TestFits configured inMasks
   afresh-size r k q (isin v S) e at = absurd (omega (arith, at .kind-is))
   afresh-size r k q (notin v S) e at = absurd (omega (arith, at .kind-is))
   afresh-size r k q (port w v x) e at = absurd (omega (arith, at .kind-is))
   afresh-size r k q (size w S c) e at =
-      q ∙ rule-is (configured u sets (inMasks masks)) (size w S c) e kind relation false (portsIn 64 (inMask (getD masks a 0))) b
-      (at .kind-is, ap relationOf (at .relation-is) ∙ relation-of-number w, ap (λ (x : ℕ). portsIn 64 (inMask (getD masks x 0))) (at .a-is) ∙ ports-within u 64 (getD masks S 0) (ready .ports64) (ready .within S (at .fits .0)), at .b-is)
+      q ∙ rule-is (configured u sets (inMasks masks)) (size w S c) e kind relation false (portsIn 64 (outOfTest (inMasks masks a) (inMasks masks sets))) b (
+        at .kind-is,
+        ap relationOf (at .relation-is) ∙ relation-of-number w,
+        ap (λ (x : ℕ). portsIn 64 (outOfTest (inMasks masks x) (inMasks masks sets))) (at .a-is)
+            ∙ ports-within u 64 (getD masks S 0) (inMasks masks sets) (ready .ports64) (ready .within S (at .fits .0)),
+        at .b-is,
+      )
 
 -- the port of a bound variable is below u
 port-of-lt : {u d : ℕ} {e : Tuple} (v : ℕ) → TupleOf u d e → v < d → portOf e v < u
@@ -180,12 +185,12 @@ module _ (u sets d kind relation a b : ℕ) (masks : List ℕ) (digits : ℕ) (m
       (omega (arith, at .a-is, at .fits .0, at .depth3), omega (arith, at .b-is, at .fits .1, at .depth3))
   comparison-at h (size r S c) e at = absurd (omega (arith, at .kind-is))
 
-  size-at : kind ≡ 8 → (t : Test) (e : Tuple) → TestAt u sets d kind relation a b masks digits t e → a < length masks
+  size-at : kind ≡ 8 → (t : Test) (e : Tuple) → TestAt u sets d kind relation a b masks digits t e → (a < sets) × (sets < length masks)
   unfolding testKind testA testB TestFits
   size-at h (isin v S) e at = absurd (omega (arith, at .kind-is))
   size-at h (notin v S) e at = absurd (omega (arith, at .kind-is))
   size-at h (port r v w) e at = absurd (omega (arith, at .kind-is))
-  size-at h (size r S c) e at = omega (arith, at .a-is, at .fits .0, m .masks-long)
+  size-at h (size r S c) e at = (omega (arith, at .a-is, at .fits .0), omega (arith, m .masks-long))
 
 module _ {u sets d kind relation a b : ℕ} {masks : List ℕ} {digits : ℕ} (ready : LiteralReady u sets d kind relation a b masks digits) where
   pub member-ready : kind ≢ 7 → kind ≢ 8 → (a ≤ 2) × (b < length masks) × (digits / 256 ^ a % 256 < 64)
@@ -194,5 +199,5 @@ module _ {u sets d kind relation a b : ℕ} {masks : List ℕ} {digits : ℕ} (r
   pub comparison-ready : kind ≡ 7 → (a ≤ 2) × (b ≤ 2)
   comparison-ready h = comparison-at u sets d kind relation a b masks digits (ready .settled) h (ready .literal .test) (ready .ports) (ready .at)
 
-  pub size-ready : kind ≡ 8 → a < length masks
+  pub size-ready : kind ≡ 8 → (a < sets) × (sets < length masks)
   size-ready h = size-at u sets d kind relation a b masks digits (ready .settled) h (ready .literal .test) (ready .ports) (ready .at)

@@ -1,12 +1,13 @@
 // The steps of a change's walk over the cells: a node's entries in the index, the tuple's ports, literals afresh, the ports to
 // visit. Paper 01, section One move.
 use cells_rule::literal_penalty;
+use cells_size::mask_at;
+use cells_size::set_size;
 use cells_sum::After;
 use cells_touch::Changed;
 use cells_touch::meet;
 use cells_touch::rest_word;
 use logic::has_port;
-use logic::mask_size;
 use logic::wide;
 use table_format::a_of;
 use table_format::b_of;
@@ -85,14 +86,6 @@ pub fn with_port(digits: u32, depth: usize, x: usize) -> u32
     digits + (port << (8 * depth))
 }
 
-// The mask of a set.
-fn mask_at(masks: &[u64], set: u8) -> u64
-    requires { ⌜ set < length (now masks) ⌝ }
-    ensures { λ r. ⌜ r ≡ getD (now (masks .entry)) set 0 ⌝ }
-{
-    masks[set as usize]
-}
-
 // A literal's penalty at a tuple: what it asks of the tuple and the masks, given to the rule. In the order of Definition 5.
 fn literal_after(
     kind: u8,
@@ -116,11 +109,11 @@ fn literal_after(
     }
     // (g) size
     if kind == 8 {
-        let size = mask_size(mask_at(masks, a));
+        let size = set_size(masks, sets, a as usize);
         return literal_penalty(kind, relation, false, size, b as u32);
     }
     // (h) in, (i) not in
-    let inside = has_port(mask_at(masks, b), port_at(digits, a));
+    let inside = has_port(mask_at(masks, b as usize), port_at(digits, a));
     literal_penalty(kind, relation, inside, 0, 0)
 }
 

@@ -1,5 +1,5 @@
--- "Bytes, masks and cells past a plan's own are never written or read": load, moves, trials, improve and undo over two inputs. Assumes
--- nothing.
+-- "Bytes, masks and cells past a plan's own are never written or read": load, moves, trials, improve, undo and ports in test over two
+-- inputs. Assumes nothing.
 use mathlib.Core.Path.{_≡_, refl, sym, ap, _∙_}
 use mathlib.Core.Bool.{Bool, true, false, cond, not, _||_}
 use mathlib.Core.List.{List, [], _∷_}
@@ -9,10 +9,11 @@ use lib.ListN.{length, take}
 use lib.Seq.{length-take-le}
 use Rattle.logic.specs.declared.Move.{Move}
 use Rattle.logic.specs.Formula.{Plan}
-use Rattle.logic.specs.Configuration.{Sets, ownMasks, spelled}
+use Rattle.logic.specs.Configuration.{Sets, Configuration, ownMasks, spelled}
 use Rattle.logic.specs.Cells.{ownCells, cells}
 use Rattle.logic.specs.Moves.{Ground, refusal, moveGrounds, kindsKnown}
-use Rattle.logic.specs.Change.{someOf, newCells}
+use Rattle.logic.specs.Change.{Change, someOf, newCells}
+use Rattle.logic.specs.InTest.{testGrounds}
 use Rattle.logic.proofs.Tables.{length-layout}
 use Rattle.logic.proofs.Theorems.{length-cells}
 use Rattle.table_format.specs.Decode.{sound}
@@ -24,20 +25,21 @@ use Rattle.contracts.specs.MoveCall.{moveRefused, madeGrounds, moveCallG
 use Rattle.contracts.specs.TrialCall.{trialsOwn, trialGrounds, trials}
 use Rattle.contracts.specs.ImproveCall.{ImproveValues, improveRefused, improveMade, noBetter, rootNow, rootAfter, bestMoves, wouldMake, chosenGrounds, improveGrounds, improvesBy, improvesOwn, improves}
 use Rattle.contracts.specs.UndoCall.{takenGrounds, undoGrounds, undoes}
+use Rattle.contracts.specs.TestCall.{testCallGrounds, testedCells, testedTables, testsOwn, tests}
 use Rattle.contracts.specs.BestCall.{listRefused, bestGrounds, listsOwn, lists}
 use Rattle.contracts.proofs.Calls.{lent-enough, journal-tables, same-counted, AsLong, own-long, SamePast, same-own, same-grounds, call-past, call-same}
-use Rattle.contracts.proofs.Within.{move-length}
+use Rattle.contracts.proofs.Within.{move-length, test-length}
 use Rattle.contracts.specs.OwnParts.{SameTables}
 
-length-after : (P : Plan) (m : Move) (own cells : List ℕ) → ownCells P ≤ length cells
-    → length (cellsAfter P m own (take (ownCells P) cells)) ≡ length (take (ownCells P) cells)
-unfolding cellsAfter newCells ownCells
-length-after P m own cells h = length-layout (P .ports) _ (P .formula) 0 0 ∙ sym (length-take-le (ownCells P) cells h)
+-- a change leaves as many own cells as there were
+length-after : (P : Plan) (k : Configuration) (ch : Change) (cells : List ℕ) → ownCells P ≤ length cells
+    → length (newCells P k ch (take (ownCells P) cells)) ≡ length (take (ownCells P) cells)
+unfolding newCells ownCells
+length-after P k ch cells h = length-layout (P .ports) _ (P .formula) 0 0 ∙ sym (length-take-le (ownCells P) cells h)
 
 made-long : (P : Plan) (m : Move) (s : State) → ownCells P ≤ length (s .cells) → AsLong P (tablesAfter P m (ownTables P s)) s
-unfolding tablesAfter ownTables
-made-long P m s h =
-    record { masks-long = move-length P m (take (ownMasks P) (s .masks)); cells-long = length-after P m (take (ownMasks P) (s .masks)) (s .cells) h }
+unfolding tablesAfter ownTables cellsAfter
+made-long P m s h = record { masks-long = move-length P m (take (ownMasks P) (s .masks)); cells-long = length-after P _ _ (s .cells) h }
 
 -- an accepted load, move, trial or improve leaves as many own masks and cells as there were
 load-fits : (P : Plan) (s : State) → refusal (loadGrounds (sound P) s) ≡ 0 → AsLong P (loadsOwn P (ownTables P s) .1) s
@@ -54,6 +56,14 @@ made-fits : (m : Move) (P : Plan) (s : State) (room count : ℕ) (more : Plan �
     → refusal (journalGrounds (sound P) s room count [] more) ≡ 0 → AsLong P (movesOwn m P (ownTables P s) .1) s
 unfolding movesOwn
 made-fits m P s room count more e = made-long P m s (lent-enough P s [] more (journal-tables P s room count [] more e) .cells-enough)
+
+-- a port that goes into test or out of it
+test-fits : (into : Bool) (p : ℕ) (P : Plan) (s : State) → refusal (testCallGrounds (sound P) s into p) ≡ 0 → AsLong P (testsOwn into p P (ownTables P s) .1) s
+unfolding testCallGrounds testsOwn testedTables testedCells ownTables
+test-fits into p P s e = record {
+  masks-long = test-length P into p (take (ownMasks P) (s .masks));
+  cells-long = length-after P _ _ (s .cells) (lent-enough P s [] (λ Q k. testGrounds Q k into p) e .cells-enough);
+}
 
 trial-fits : (m : Move) (P : Plan) (s : State) (scratch : ℕ) → refusal (trialGrounds (sound P) s scratch m) ≡ 0
     → AsLong P (trialsOwn m P (ownTables P s) .1) s
@@ -100,6 +110,11 @@ module _ (P : Plan) (s : State) where
   unfolding undoes undoGrounds
   undo-past m room count = made-past (opposite m) room count (λ Q k. takenGrounds Q k count m)
 
+  -- The same of a port that goes into test or out of it.
+  pub test-past : (into : Bool) (p : ℕ) → SamePast P s (tests (sound P) into p s .1)
+  unfolding tests
+  test-past into p = call-past moveRefused (testsOwn into p) P (testCallGrounds (sound P) s into p) s (test-fits into p P s)
+
   -- The same of load.
   pub load-past : SamePast P s (loads (sound P) s .1)
   unfolding loads
@@ -137,6 +152,13 @@ module _ (P : Plan) (s s′ : State) (t : SameTables P s s′) where
       × (ownTables P (undoes (sound P) m s room count .1) ≡ ownTables P (undoes (sound P) m s′ room count .1))
   unfolding undoes undoGrounds
   undo-sound m room count = made-sound (opposite m) room count (λ Q k. takenGrounds Q k count m)
+
+  pub test-sound : (into : Bool) (p : ℕ) → (tests (sound P) into p s .0 ≡ tests (sound P) into p s′ .0)
+      × (ownTables P (tests (sound P) into p s .1) ≡ ownTables P (tests (sound P) into p s′ .1))
+  unfolding tests testCallGrounds
+  test-sound into p =
+      call-same moveRefused (testsOwn into p) P (testCallGrounds (sound P) s into p) (testCallGrounds (sound P) s′ into p) s s′ t
+      (same-grounds P s s′ [] [] (λ Q k. testGrounds Q k into p) t refl) (test-fits into p P s) (test-fits into p P s′)
 
   pub trial-sound : (m : Move) (scratch scratch′ : List ℕ) → ltb (length scratch) (ownCells P) ≡ ltb (length scratch′) (ownCells P)
       → trials (sound P) m s (length scratch) ≡ trials (sound P) m s′ (length scratch′)

@@ -1,10 +1,10 @@
 -- One call keeps what is kept: for every call, the answer that the calls' definitions give is right under the book's sets, and masks,
 -- cells and journal are the book's afterwards. Assumes nothing.
 use mathlib.Core.Path.{_≡_, refl, sym, ap, _∙_, subst}
-use mathlib.Core.Bool.{Bool, true, false, cond, not, _&&_, _||_}
+use mathlib.Core.Bool.{Bool, true, false, cond, not, _&&_, _||_, Bool·beq}
 use mathlib.Core.Logic.{_≢_, inl, inr}
 use mathlib.Core.List.{List, [], _∷_, _++_, List·Memᴰ, List·Memᴰ·head, List·Memᴰ·not-nil}
-use Prim.Native.Nat.{ℕ, zero, suc, _≤_}
+use Prim.Native.Nat.{ℕ, zero, suc, _≤_, _<_}
 use native.Mathlib.Omega.{arith}
 use lib.Dec.{eqb, ltb}
 use lib.ListN.{length, getD, take, drop, length-append}
@@ -12,12 +12,15 @@ use lib.Seq.{take-at, drop-at, length-take-le}
 use borrow.Author.Tests.{ne-eqb, eqb-false, not-false, ltb-true, ltb-false}
 use Rattle.logic.specs.declared.Move.{Move}
 use Rattle.logic.specs.Formula.{Plan}
-use Rattle.logic.specs.Configuration.{Sets, configuration, inMasks, ownMasks, spelled, allWithin}
+use Rattle.logic.specs.Configuration.{Sets, Configuration, configuration, inMasks, ownMasks, spelled, allWithin}
 use Rattle.logic.specs.Cells.{ownCells, cells as planCells, rootPenalty}
 use Rattle.logic.specs.Moves.{Ground, refusal, moveGrounds, known, legal, moveMasks, movePairs, kindsKnown}
-use Rattle.logic.specs.Change.{someOf, pairsChange, differing}
+use Rattle.logic.specs.Change.{someOf, pairsChange, newCells, differing}
+use Rattle.logic.specs.InTest.{testGrounds, testMasks, testFlip, testChange}
 use Rattle.logic.proofs.Lists.{and-at}
+use Rattle.logic.proofs.InTest.{test-masks, test-spells, test-true}
 use Rattle.logic.proofs.Moves.{move-masks, move-spells}
+use Rattle.logic.proofs.Tables.{stands-self}
 use Rattle.logic.proofs.Theorems.{move-true, length-cells}
 use Rattle.table_format.specs.Decode.{sound, decode}
 use Rattle.table_format.specs.inner.Facts.{PlanFacts}
@@ -32,17 +35,22 @@ use Rattle.contracts.specs.Least.{NoneBelow}
 use Rattle.contracts.specs.MoveOrder.{candidates, Candidate}
 use Rattle.contracts.specs.ImproveCall.{ImproveValues, improveRefused, improveMade, noBetter, rootNow, rootAfter, bestMoves, firstLowers, wouldMake, chosenGrounds, improveGrounds, improvesBy, improvesOwn, improves, improveMakes, improvesJournaled}
 use Rattle.contracts.specs.UndoCall.{takenGrounds, undoGrounds, undoes, undoesJournaled}
+use Rattle.contracts.specs.TestCall.{testCallGrounds, testedCells, testedTables, testsOwn, tests, testsJournaled}
 use Rattle.contracts.specs.Counting.{countAccepted}
 use Rattle.contracts.specs.BestCall.{listRefused, bestGrounds, listsOwn, lists}
-use Rattle.contracts.specs.Book.{Book, fedMove, fedUndo, bookMade, movedBook, undoneBook, chosenStep, bookGrounds, bookTaken, bookStep}
-use Rattle.contracts.specs.Lists.{Asked, askMove, askTrial, askImprove, askBest, askUndo, step, feed, bookRoot, bookCells, NumbersRight, MovedRight, scratchGround, bookBest, bookLowers, FirstOf, ImprovedRight, ListedRight, Right, AsBook}
+use Rattle.contracts.specs.Book.{Book, fedMove, fedUndo, fedTest, bookMade, movedBook, undoneBook, testedBook, chosenStep, bookGrounds, bookTaken, bookStep}
+use Rattle.contracts.specs.Lists.{Asked, askMove, askTrial, askImprove, askBest, askUndo, askTest, step, feed, bookRoot, bookCells, NumbersRight, ChangedRight, MovedRight, TestedRight, scratchGround, bookBest, bookLowers, FirstOf, ImprovedRight, ListedRight, Right, AsBook}
 use Rattle.contracts.proofs.Candidates.{candidate-in, in-candidate}
 use Rattle.contracts.proofs.Best.{best-is, best-none, best-same}
 use Rattle.contracts.proofs.Calls.{LentEnough, tables-pass, count-within}
 use Rattle.contracts.proofs.Grounds.{passes, grounds-legal}
 use Rattle.contracts.proofs.Journals.{JournalHolds, never-past, same-newest, appended-holds, removed-holds}
-use Rattle.contracts.proofs.Within.{move-within, move-length}
+use Rattle.contracts.proofs.Within.{move-within, move-length, test-within, test-length}
 use Rattle.logic.proofs.Changed as changed
+
+-- the three numbers of a move that is made
+abbrev MoveNumbers : Plan → Sets → Move → ℕ → ℕ → ℕ → Type 0
+MoveNumbers P k m before after changed = NumbersRight P k (bookMade P m k) (pairsChange (movePairs P k m)) before after changed
 
 -- the tables of the sets that own masks spell
 abbrev bookTables : Plan → List ℕ → State
@@ -91,6 +99,13 @@ unfolding refusal takenGrounds
 taken-same P k zero m n e = refl
 taken-same P k (suc count) m n e = ap (λ (x : Move). refusal (takenGrounds P k (suc count) x)) (e (λ z. omega arith))
 
+-- A port that no ground stops is the plan's, and not in the condition that it is put in.
+pub test-free : (P : Plan) (k : Sets) (into : Bool) (p : ℕ) → refusal (testGrounds P k into p) ≡ 0 → (p < P .ports) × (Bool·beq (k (P .sets) p) into ≡ false)
+unfolding refusal testGrounds
+test-free P k into p h =
+    let r = passes (not (ltb p (P .ports))) 13 _ h in
+    (ltb-true p (P .ports) (not-false _ (r .0)), passes (Bool·beq (k (P .sets) p) into) 19 0 (r .1) .0)
+
 -- An improve that no ground stops makes a move only where there is room for its record.
 pub chosen-free : (kinds : ℕ) (lowers : Bool) (room count : ℕ) → refusal (chosenGrounds kinds lowers room count) ≡ 0 → (lowers && full room count) ≡ false
 unfolding chosenGrounds refusal
@@ -110,7 +125,7 @@ module _ (P : Plan) (facts : PlanFacts P) where
       → cellsAfter P m own (bookCells P (inMasks own)) ≡ bookCells P (bookMade P m (inMasks own))
   unfolding cellsAfter bookCells bookMade spelled
   made-cells m own h l =
-      move-true P (facts .ports1) (facts .ports64) (facts .constants) (facts .cells-most) m own h l
+      move-true P (facts .ports1) (facts .ports64) (facts .constants) (facts .sets-below) (facts .cells-most) m own h l
       ∙ ap (planCells P) (move-spells P m own h l)
 
   pub root-made : (m : Move) (own : List ℕ) → legal P (inMasks own) m ≡ true → ownMasks P ≤ length own
@@ -121,7 +136,7 @@ module _ (P : Plan) (facts : PlanFacts P) where
   -- its three numbers
   pub made-numbers : (m : Move) (own : List ℕ) → legal P (inMasks own) m ≡ true → ownMasks P ≤ length own
       → (let b = bookCells P (inMasks own) in
-      NumbersRight P (inMasks own) m (rootNow b) (rootAfter P m own b) (differing b (cellsAfter P m own b)))
+      MoveNumbers P (inMasks own) m (rootNow b) (rootAfter P m own b) (differing b (cellsAfter P m own b)))
   unfolding rootNow bookRoot bookCells rootPenalty cellsAfter
   made-numbers m own h l =
       let b = bookCells P (inMasks own) in
@@ -151,14 +166,57 @@ module _ (P : Plan) (facts : PlanFacts P) where
 
   -- An accepted move or trial: its three numbers, and what the move leaves, over the plan's own parts.
   pub move-own : (m : Move) (k : Sets) (own : State) → OwnKept P k own → legal P k m ≡ true
-      → NumbersRight P k m (rootNow (own .cells)) (rootAfter P m (own .masks) (own .cells)) (differing (own .cells) (cellsAfter P m (own .masks) (own .cells)))
+      → MoveNumbers P k m (rootNow (own .cells)) (rootAfter P m (own .masks) (own .cells)) (differing (own .cells) (cellsAfter P m (own .masks) (own .cells)))
       × OwnKept P (bookMade P m k) (tablesAfter P m own)
   move-own m k own o =
       of-book k own
       (λ j s. legal P j m ≡ true
-      → NumbersRight P j m (rootNow (s .cells)) (rootAfter P m (s .masks) (s .cells)) (differing (s .cells) (cellsAfter P m (s .masks) (s .cells)))
+      → MoveNumbers P j m (rootNow (s .cells)) (rootAfter P m (s .masks) (s .cells)) (differing (s .cells) (cellsAfter P m (s .masks) (s .cells)))
       × OwnKept P (bookMade P m j) (tablesAfter P m s))
       o (λ h. (made-numbers m (own .masks) h (omega (arith, o .enough)), made-kept m (own .masks) h (o .enough) (o .within)))
+
+  -- A port that goes into test or out of it leaves the penalties of the sets with it flipped.
+  tested-cells : (into : Bool) (p : ℕ) (own : List ℕ) → Bool·beq (inMasks own (P .sets) p) into ≡ false → ownMasks P ≤ length own
+      → testedCells P into p own (bookCells P (inMasks own)) ≡ bookCells P (testFlip P p (inMasks own))
+  unfolding testedCells bookCells
+  tested-cells into p own h l =
+      ap (λ (k : Configuration). newCells P k (testChange P (inMasks own) p) (bookCells P (inMasks own))) (test-spells P into p own h l)
+      ∙ test-true P (facts .ports1) (facts .ports64) (facts .constants) (facts .sets-below) (facts .cells-most) (inMasks own) p (bookCells P (inMasks own)) (stands-self _)
+
+  tested-numbers : (into : Bool) (p : ℕ) (own : List ℕ) → Bool·beq (inMasks own (P .sets) p) into ≡ false → ownMasks P ≤ length own
+      → (let b = bookCells P (inMasks own) in
+      let a = testedCells P into p own b in
+      NumbersRight P (inMasks own) (testFlip P p (inMasks own)) (testChange P (inMasks own) p) (getD b 0 0) (getD a 0 0) (differing b a))
+  unfolding bookRoot bookCells rootPenalty testedCells
+  tested-numbers into p own h l =
+      let b = bookCells P (inMasks own) in
+      record {
+        before-right = refl;
+        after-right = ap (λ (c : List ℕ). getD c 0 0) (tested-cells into p own h l);
+        changed-right = ap (differing b) (tested-cells into p own h l);
+        changed-touched =
+            changed.changed-touched P (facts .ports1) (spelled P (testMasks P into p own)) (testChange P (inMasks own) p) b (length-cells P _);
+      }
+
+  tested-kept : (into : Bool) (p : ℕ) (own : List ℕ) → p < P .ports → Bool·beq (inMasks own (P .sets) p) into ≡ false → length own ≡ ownMasks P
+      → allWithin (P .ports) own ≡ true → OwnKept P (testFlip P p (inMasks own)) (testedTables P into p (bookTables P own))
+  unfolding testedTables
+  tested-kept into p own u h l w = record {
+    spells = test-masks P into p own h (omega arith);
+    enough = test-length P into p own ∙ l;
+    within = test-within P into p own u h (omega arith) w;
+    penalties = tested-cells into p own h (omega arith);
+  }
+
+  -- An accepted call: its three numbers, and what it leaves, over the plan's own parts.
+  test-own : (into : Bool) (p : ℕ) (k : Sets) (own : State) → OwnKept P k own → p < P .ports → Bool·beq (k (P .sets) p) into ≡ false
+      → ChangedRight 0 P k (testFlip P p k) (testChange P k p) (testsOwn into p P own .0) × OwnKept P (testFlip P p k) (testsOwn into p P own .1)
+  unfolding ChangedRight testsOwn moveAccepted
+  test-own into p k own o u =
+      of-book k own
+      (λ j s. Bool·beq (j (P .sets) p) into ≡ false
+      → ChangedRight 0 P j (testFlip P p j) (testChange P j p) (testsOwn into p P s .0) × OwnKept P (testFlip P p j) (testsOwn into p P s .1))
+      o (λ h. ((refl, tested-numbers into p (own .masks) h (omega (arith, o .enough))), tested-kept into p (own .masks) u h (o .enough) (o .within)))
 
   -- The best moves over tables that hold the book's penalties are those of the book.
   best-book : (kinds : ℕ) (own : List ℕ) → length own ≡ ownMasks P → bestMoves P kinds (bookTables P own) ≡ bookBest P (inMasks own) kinds
@@ -385,7 +443,7 @@ module _ (P : Plan) (facts : PlanFacts P) (b : Book) (tail-masks tail-cells : Li
       → (let r = callOr moveRefused g (sound P) (movesOwn m) s in
       MovedRight g P (b .sets) m (r .0)
       × Holds (cond (eqb g 0) (movedBook P m b) b) (record { tables = r .1; journal = journalAfter (moveMade (r .0)) m lentJournal }))
-  unfolding callOr movesOwn moveAnswer moveAccepted moveRefused moveMade MovedRight rootNow rootAfter bookGrounds
+  unfolding callOr movesOwn moveAnswer moveAccepted moveRefused moveMade ChangedRight rootNow rootAfter bookGrounds
   move-at m zero q =
       let f = made-free P (b .sets) (roomOf bookJournal) (bookJournal .count) m q in
       let o = move-own P facts m (b .sets) own kept (f .0) in
@@ -412,7 +470,7 @@ module _ (P : Plan) (facts : PlanFacts P) (b : Book) (tail-masks tail-cells : Li
       × Holds (cond (eqb g 0) (undoneBook P b) b) (record { tables = r .1; journal = journalTaken (moveMade (r .0)) lentJournal }))
 
   undo-at : (g : ℕ) → refusal (bookTaken P b) ≡ g → (m : Move) → (bookJournal .count ≢ 0 → m ≡ newest bookJournal) → UndoHolds g m
-  unfolding callOr movesOwn moveAnswer moveAccepted moveRefused moveMade journalTaken MovedRight rootNow rootAfter bookTaken undoneBook
+  unfolding callOr movesOwn moveAnswer moveAccepted moveRefused moveMade journalTaken ChangedRight rootNow rootAfter bookTaken undoneBook
   undo-at zero q m e =
       let f = taken-free P (b .sets) (bookJournal .count) (newest bookJournal) q in
       let o = move-own P facts (opposite (newest bookJournal)) (b .sets) own kept (f .1) in
@@ -436,8 +494,30 @@ module _ (P : Plan) (facts : PlanFacts P) (b : Book) (tail-masks tail-cells : Li
       × Holds (cond (eqb (refusal (bookTaken P b)) 0) (undoneBook P b) b) (record { tables = r .1; journal = journalTaken (moveMade (r .0)) lentJournal }))) (sym g)
       (undo-at (refusal (bookTaken P b)) refl m same)
 
+  -- a port that goes into test or out of it, by the first ground that applies
+  abbrev TestHolds : Bool → ℕ → ℕ → ℕ → Type 0
+  TestHolds into p g i = (let r = callOr moveRefused i (sound P) (testsOwn into p) s in
+      TestedRight g P (b .sets) p (r .0)
+      × Holds (cond (eqb g 0) (testedBook P p b) b) (record { tables = r .1; journal = lentJournal }))
+
+  test-at : (into : Bool) (p : ℕ) (g : ℕ) → refusal (testGrounds P (b .sets) into p) ≡ g → TestHolds into p g g
+  unfolding callOr testedBook ChangedRight
+  test-at into p zero q =
+      let f = test-free P (b .sets) into p q in
+      let o = test-own P facts into p (b .sets) own kept (f .0) (f .1) in
+      (o .0, after (testedBook P p b) (testsOwn into p P own .1) lentJournal (o .1) counted)
+  test-at into p (suc g) q = (refl, rw (ne-eqb (suc g) 0 (λ z. omega arith)) h)
+
+  test-step : (into : Bool) (p : ℕ) → (let r = testsJournaled (sound P) into p x in
+      TestedRight (refusal (testGrounds P (b .sets) into p)) P (b .sets) p (r .0) × Holds (bookStep P b (fedTest into p)) (r .1))
+  unfolding testsJournaled tests testCallGrounds call bookStep refusal someOf
+  test-step into p =
+      let g : refusal (callGrounds (sound P) s [] (λ Q k. testGrounds Q k into p)) ≡ refusal (testGrounds P (b .sets) into p) =
+      tables-pass P s [] (λ Q k. testGrounds Q k into p) lent ∙ ap (λ (k : Sets). refusal (testGrounds P k into p)) (h .kept .masks-are) in
+      subst (TestHolds into p (refusal (testGrounds P (b .sets) into p))) (sym g) (test-at into p (refusal (testGrounds P (b .sets) into p)) refl)
+
   trial-at : (m : Move) (g : ℕ) → (g ≡ 0 → legal P (b .sets) m ≡ true) → MovedRight g P (b .sets) m (callOr moveRefused g (sound P) (trialsOwn m) s .0)
-  unfolding callOr trialsOwn moveAnswer moveAccepted MovedRight rootNow rootAfter
+  unfolding callOr trialsOwn moveAnswer moveAccepted ChangedRight rootNow rootAfter
   trial-at m zero H = (refl, move-own P facts m (b .sets) own kept (H refl) .0)
   trial-at m (suc g) H = refl
 
@@ -506,6 +586,7 @@ module _ (P : Plan) (facts : PlanFacts P) (b : Book) (tail-masks tail-cells : Li
   step-at (askImprove kinds scratch) = improve-step kinds scratch
   step-at (askBest kinds scratch room) = (list-step kinds scratch room, h)
   step-at askUndo = undo-step
+  step-at (askTest into p) = test-step into p
 
 -- One call over a plan that has a table: its answer is right under the book before it, and afterwards masks, cells and journal are those
 -- of the next book.

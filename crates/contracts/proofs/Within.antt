@@ -1,6 +1,6 @@
--- The masks that a legal move leaves have no port of u or more, so that ground 13 does not come up in a list. Assumes nothing.
+-- The masks that a legal move leaves, or a port that goes into test or out of it, have no port of u or more, so that ground 13 does not come up in a list. Assumes nothing.
 use mathlib.Core.Path.{_≡_, refl, ap, _∙_}
-use mathlib.Core.Bool.{Bool, true, false, cond, not}
+use mathlib.Core.Bool.{Bool, true, false, cond, not, Bool·beq}
 use mathlib.Core.List.{List, [], _∷_}
 use Prim.Native.Nat.{ℕ, zero, suc, _^_, _≤_, _<_}
 use native.Mathlib.Omega.{arith}
@@ -12,6 +12,8 @@ use Rattle.logic.specs.declared.Move.{Move}
 use Rattle.logic.specs.Formula.{Plan}
 use Rattle.logic.specs.Configuration.{Sets, inMask, inMasks, ownMasks, withinPorts, leave, allWithin}
 use Rattle.logic.specs.Moves.{MoveKind, add, drop, transfer, swap, unknown, moveKind, known, legal, kindMasks, namedMasks, moveMasks, Pair, movePairs, flip, flips}
+use Rattle.logic.specs.InTest.{testMasks, testFlip}
+use Rattle.logic.proofs.InTest.{test-masks}
 use Rattle.logic.proofs.Lists.{and-left, and-right, and-true, and-false}
 use Rattle.logic.proofs.Touched.{PortsBelow}
 use Rattle.logic.proofs.Masks.{within-ports}
@@ -39,7 +41,7 @@ none-within u (m ∷ ms) H =
     and-true (withinPorts u m) (allWithin u ms) (within-ports u m .1 (H 0)) (none-within u ms (λ S. H (suc S)))
 
 -- a flip at a port below u moves no port of u or more
-flip-none : (u : ℕ) (q : Pair) (k : Sets) → q .1 < u → NoneAbove u k → NoneAbove u (flip q k)
+pub flip-none : (u : ℕ) (q : Pair) (k : Sets) → q .1 < u → NoneAbove u k → NoneAbove u (flip q k)
 unfolding NoneAbove flip
 flip-none u q k h H S p l =
     ap (λ (b : Bool). cond b (not (k S p)) (k S p)) (and-false (eqb S (q .0)) (eqb p (q .1)) (λ e. ne-eqb p (q .1) (λ z. omega arith)))
@@ -58,6 +60,17 @@ move-within P m own h l w =
     (rw (move-masks P m own h l)
     (flips-none (P .ports) (movePairs P (inMasks own) m) (inMasks own) (known-ports P (movePairs P (inMasks own) m) (known-pairs P (inMasks own) m (and-left (known P m) _ h)))
     (within-none (P .ports) own w)))
+
+pub test-within : (P : Plan) (into : Bool) (p : ℕ) (own : List ℕ) → p < P .ports → Bool·beq (inMasks own (P .sets) p) into ≡ false → ownMasks P ≤ length own
+    → allWithin (P .ports) own ≡ true → allWithin (P .ports) (testMasks P into p own) ≡ true
+unfolding testFlip
+test-within P into p own l h e w =
+    none-within (P .ports) (testMasks P into p own)
+    (rw (test-masks P into p own h e) (flip-none (P .ports) (P .sets, p) (inMasks own) l (within-none (P .ports) own w)))
+
+pub test-length : (P : Plan) (into : Bool) (p : ℕ) (ms : List ℕ) → length (testMasks P into p ms) ≡ length ms
+unfolding testMasks
+test-length P into p ms = length-set {A = ℕ} ms (P .sets) _
 
 -- a move keeps the length of the mask table
 kind-length : (κ : MoveKind) (m : Move) (ms : List ℕ) → length (kindMasks κ m ms) ≡ length ms

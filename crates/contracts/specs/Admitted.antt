@@ -6,7 +6,7 @@ use mathlib.Core.List.{List, []}
 use Prim.Native.Nat.{ℕ, _≤_}
 use lib.ListN.{length, take}
 use Rattle.logic.specs.Formula.{Plan, nodeCount}
-use Rattle.logic.specs.Configuration.{inMasks, configured}
+use Rattle.logic.specs.Configuration.{inMasks, configured, maskCount}
 use Rattle.logic.specs.Cells.{ownCells}
 use Rattle.text_tree.specs.Tree.{Tree, Declared, lettersOf, tooDeep}
 use Rattle.text_tokens.specs.Tokens.{knownBytes}
@@ -44,9 +44,10 @@ pub record Admitted (u : ℕ) (s : List ℕ) (room : ℕ) : Type 0 where
 unfoldable pub admittedPlan : {u : ℕ} {s : List ℕ} {room : ℕ} → Admitted u s room → Plan
 admittedPlan {u} A = planOf u (A .sets) (A .tree)
 
--- The text is true over u ports under the masks of its sets: the truth of its own tree, arrows and negations included.
+-- The text is true over u ports under the masks of its sets and of the ports in test: the truth of its own tree, arrows and negations
+-- included.
 pub record TextTrue (u : ℕ) (masks s : List ℕ) : Type 0 where
   pub sets : List Declared
   pub tree : Tree
   pub derived : Text (symbols s) sets tree
-  pub holds : TreeTrue u (configured u (length sets) (inMasks (take (length sets) masks))) (lettersOf sets) [] tree
+  pub holds : TreeTrue u (configured u (length sets) (inMasks (take (maskCount (length sets)) masks))) (lettersOf sets) [] tree

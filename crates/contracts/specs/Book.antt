@@ -1,6 +1,6 @@
 -- The book: "says what the masks must be. It knows the plan and is fed each call's kind and arguments, but no masks or cells, and
 -- improve's answers too, since improve chooses." (paper 01, section Lists of calls)
-use mathlib.Core.Bool.{cond}
+use mathlib.Core.Bool.{Bool, cond}
 use mathlib.Core.List.{List}
 use Prim.Native.Nat.{ℕ}
 use lib.Dec.{eqb}
@@ -9,12 +9,14 @@ use Rattle.logic.specs.declared.Move.{Move}
 use Rattle.logic.specs.Formula.{Plan}
 use Rattle.logic.specs.Configuration.{Sets, inMasks, ownMasks}
 use Rattle.logic.specs.Moves.{Ground, noMove, refusal, movePairs, flips}
+use Rattle.logic.specs.InTest.{testGrounds, testFlip}
 use Rattle.contracts.specs.Journal.{Journal, Journaled, roomOf, newest, appended, removed, opposite}
 use Rattle.contracts.specs.MoveCall.{madeGrounds}
 use Rattle.contracts.specs.ImproveCall.{ImproveValues, improveMakes}
 use Rattle.contracts.specs.UndoCall.{takenGrounds}
 
--- "Its state is the n sets, at first the masks after the load." "The book keeps a journal of its own, of the same length, by the same
+-- "Its state is the n sets, at first the masks after the load", "the book holding this mask too" (paper 02, request 2026-05): the ports
+-- in test are number n of `sets`. "The book keeps a journal of its own, of the same length, by the same
 -- rules." (paper 02, request 2026-03)
 pub record Book : Type 0 where
   pub sets : Sets
@@ -35,6 +37,7 @@ pub data Fed : Type 0 where
   fedImprove : ℕ → ImproveValues → Fed
   fedBest : ℕ → Fed
   fedUndo : Fed
+  fedTest : Bool → ℕ → Fed
 
 -- "in each pair (set, port) that the move changes the port enters the set if it was out, and leaves it if it was in"
 unfoldable pub bookMade : Plan → Move → Sets → Sets
@@ -47,6 +50,10 @@ movedBook P m b = record { sets = bookMade P m (b .sets); journal = appended m (
 -- The book with the pairs of the newest record's opposite changed, and that record out of its journal.
 unfoldable pub undoneBook : Plan → Book → Book
 undoneBook P b = record { sets = bookMade P (opposite (newest (b .journal))) (b .sets); journal = removed (b .journal) }
+
+-- The book with a port in test that was not, or not in test that was. "Undo doesn't take them back": the journal stays.
+unfoldable pub testedBook : Plan → ℕ → Book → Book
+testedBook P p b = record { sets = testFlip P p (b .sets); journal = b .journal }
 
 -- "If improve answers a move, that move's pairs change likewise. Any other answer of improve changes nothing."
 unfoldable pub chosenStep : Plan → Book → ImproveValues → Book
@@ -61,10 +68,12 @@ unfoldable pub bookTaken : Plan → Book → List Ground
 bookTaken P b = takenGrounds P (b .sets) (b .journal .count) (newest (b .journal))
 
 -- "A move that meets a ground for refusal, the book's sets taken as the masks, changes nothing. For any other add, drop, transfer or
--- swap" its pairs change. "Trial changes nothing.", nor does listing the best moves. Undo takes the newest record back.
+-- swap" its pairs change. "Trial changes nothing.", nor does listing the best moves. Undo takes the newest record back. A port goes into
+-- test or out of it unless a ground applies.
 unfoldable pub bookStep : Plan → Book → Fed → Book
 bookStep P b (fedMove m) = cond (eqb (refusal (bookGrounds P b m)) 0) (movedBook P m b) b
 bookStep P b (fedTrial m) = b
 bookStep P b (fedImprove kinds answer) = chosenStep P b answer
 bookStep P b (fedBest kinds) = b
 bookStep P b fedUndo = cond (eqb (refusal (bookTaken P b)) 0) (undoneBook P b) b
+bookStep P b (fedTest into p) = cond (eqb (refusal (testGrounds P (b .sets) into p)) 0) (testedBook P p b) b

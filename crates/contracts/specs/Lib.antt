@@ -14,6 +14,7 @@ pub mod NodeCells
 pub mod OwnParts
 pub mod Read
 pub mod State
+pub mod TestCall
 pub mod TrialCall
 pub mod UndoCall
 pub mod WriteCall

@@ -1,5 +1,5 @@
 -- Lists of calls, and demand 3 as one claim over every list. Paper 01, section Lists of calls; paper 02, request 2026-03: "Lists of calls
--- now begin with an empty journal, passed on as the tables are, and include undo".
+-- now begin with an empty journal, passed on as the tables are, and include undo"; request 2026-05: "these two calls join the lists".
 use mathlib.Core.Path.{_≡_}
 use mathlib.Core.Logic.{_⊎_}
 use mathlib.Core.Bool.{Bool, not}
@@ -12,7 +12,8 @@ use Rattle.logic.specs.Formula.{Plan}
 use Rattle.logic.specs.Configuration.{Sets, configuration, inMasks, ownMasks}
 use Rattle.logic.specs.Cells.{ownCells, cells as planCells, rootPenalty}
 use Rattle.logic.specs.Moves.{Ground, refusal, moveGrounds, movePairs, kindsKnown}
-use Rattle.logic.specs.Change.{pairsChange, differing, touchedCount}
+use Rattle.logic.specs.Change.{Change, pairsChange, differing, touchedCount}
+use Rattle.logic.specs.InTest.{testGrounds, testFlip, testChange}
 use Rattle.table_format.specs.Decode.{Decoded}
 use Rattle.contracts.specs.State.{State}
 use Rattle.contracts.specs.Journal.{Journal, Journaled, roomOf, newest, opposite}
@@ -21,10 +22,11 @@ use Rattle.contracts.specs.TrialCall.{trials}
 use Rattle.contracts.specs.MoveOrder.{candidates, Candidate, bestOf}
 use Rattle.contracts.specs.ImproveCall.{ImproveValues, improveRefused, noBetter, firstLowers, chosenGrounds, improvesJournaled}
 use Rattle.contracts.specs.UndoCall.{undoesJournaled}
+use Rattle.contracts.specs.TestCall.{testsJournaled}
 use Rattle.contracts.specs.Counting.{countAccepted}
 use Rattle.contracts.specs.BestCall.{Listing, listRefused, lists}
 use Rattle.contracts.specs.Least.{NoneBelow}
-use Rattle.contracts.specs.Book.{Book, Fed, fedMove, fedTrial, fedImprove, fedBest, fedUndo, bookMade, bookGrounds, bookTaken, bookStep}
+use Rattle.contracts.specs.Book.{Book, Fed, fedMove, fedTrial, fedImprove, fedBest, fedUndo, fedTest, bookMade, bookGrounds, bookTaken, bookStep}
 
 -- A call of a list: its kind, its arguments, the scratch that it is lent, and how many records its list has. "Scratch may be another
 -- table at every call, hold anything or be too short."
@@ -34,6 +36,7 @@ pub data Asked : Type 0 where
   askImprove : ℕ → List ℕ → Asked
   askBest : ℕ → List ℕ → ℕ → Asked
   askUndo : Asked
+  askTest : Bool → ℕ → Asked
 
 -- A call with what it answered.
 pub data Exchange : Type 0 where
@@ -42,6 +45,7 @@ pub data Exchange : Type 0 where
   improveCall : ℕ → List ℕ → ImproveValues → Exchange
   bestCall : ℕ → List ℕ → ℕ → Listing → Exchange
   undoCall : MoveValues → Exchange
+  testCall : Bool → ℕ → MoveValues → Exchange
 
 -- One call over a plan table, the tables and the journal as the last call left them, by the very definitions that the calls' contracts
 -- cite: what it answers, and the tables and the journal afterwards.
@@ -57,6 +61,9 @@ step d x (askBest kinds scratch room) = (bestCall kinds scratch room (lists d ki
 step d x askUndo =
     let r = undoesJournaled d x in
     (undoCall (r .0), r .1)
+step d x (askTest into p) =
+    let r = testsJournaled d into p x in
+    (testCall into p (r .0), r .1)
 
 -- Call after call: every list of calls has one list of answers, and leaves one pair of tables and one journal.
 unfoldable pub run : Decoded → Journaled → List Asked → List Exchange × Journaled
@@ -77,6 +84,7 @@ feed (trialCall m scratch r) = fedTrial m
 feed (improveCall kinds scratch r) = fedImprove kinds r
 feed (bestCall kinds scratch room r) = fedBest kinds
 feed (undoCall r) = fedUndo
+feed (testCall into p r) = fedTest into p
 
 -- The book after a list.
 unfoldable pub bookAfter : Plan → Book → List Exchange → Book
@@ -91,18 +99,27 @@ bookRoot P k = rootPenalty P (configuration P k)
 unfoldable pub bookCells : Plan → Sets → List ℕ
 bookCells P k = planCells P (configuration P k)
 
--- The three numbers of an accepted move or trial: the roots' penalties before and "after the move as if it were made"; "A cell has
--- changed if its own penalties under these two configurations differ"; and no more cells change than the move touches.
-pub record NumbersRight (P : Plan) (k : Sets) (m : Move) (before after changed : ℕ) : Type 0 where
+-- The three numbers of an accepted call, from the sets k to the sets k′ by a change: the roots' penalties before and "after the move as
+-- if it were made"; "A cell has changed if its own penalties under these two configurations differ"; and no more cells change than the
+-- change touches.
+pub record NumbersRight (P : Plan) (k k′ : Sets) (ch : Change) (before after changed : ℕ) : Type 0 where
   pub before-right : before ≡ bookRoot P k
-  pub after-right : after ≡ bookRoot P (bookMade P m k)
-  pub changed-right : changed ≡ differing (bookCells P k) (bookCells P (bookMade P m k))
-  pub changed-touched : changed ≤ touchedCount P (pairsChange (movePairs P k m))
+  pub after-right : after ≡ bookRoot P k′
+  pub changed-right : changed ≡ differing (bookCells P k) (bookCells P k′)
+  pub changed-touched : changed ≤ touchedCount P ch
 
--- A move or a trial that meets a ground answers its number; any other is accepted with right numbers.
-unfoldable pub MovedRight : ℕ → Plan → Sets → Move → MoveValues → Type 0
-MovedRight zero P k m v = (v .number ≡ 0) × NumbersRight P k m (v .before) (v .after) (v .changed)
-MovedRight (suc g) P k m v = v ≡ moveRefused (suc g)
+-- A call that meets a ground answers its number; any other is accepted with right numbers.
+unfoldable pub ChangedRight : ℕ → Plan → Sets → Sets → Change → MoveValues → Type 0
+ChangedRight zero P k k′ ch v = (v .number ≡ 0) × NumbersRight P k k′ ch (v .before) (v .after) (v .changed)
+ChangedRight (suc g) P k k′ ch v = v ≡ moveRefused (suc g)
+
+-- Of a move or a trial.
+abbrev pub MovedRight : ℕ → Plan → Sets → Move → MoveValues → Type 0
+MovedRight g P k m v = ChangedRight g P k (bookMade P m k) (pairsChange (movePairs P k m)) v
+
+-- Of a port that goes into test or out of it.
+abbrev pub TestedRight : ℕ → Plan → Sets → ℕ → MoveValues → Type 0
+TestedRight g P k p v = ChangedRight g P k (testFlip P p k) (testChange P k p) v
 
 -- 12 for scratch that is too short.
 unfoldable pub scratchGround : Plan → List ℕ → Ground
@@ -130,7 +147,7 @@ pub record BestMade (P : Plan) (k : Sets) (kinds : ℕ) (v : ImproveValues) : Ty
   pub lowers : bookRoot P (bookMade P (v .chosen) k) < bookRoot P k
   pub least : NoneBelow (Candidate P kinds k) (λ x. bookRoot P (bookMade P x k)) (bookRoot P (bookMade P (v .chosen) k))
   pub first : FirstOf (bookBest P k kinds) (v .chosen)
-  pub numbers : NumbersRight P k (v .chosen) (v .before) (v .after) (v .changed)
+  pub numbers : NumbersRight P k (bookMade P (v .chosen) k) (pairsChange (movePairs P k (v .chosen))) (v .before) (v .after) (v .changed)
 
 -- No legal move of the kinds lowers the root.
 pub record NoneLowers (P : Plan) (k : Sets) (kinds : ℕ) (v : ImproveValues) : Type 0 where
@@ -156,6 +173,7 @@ Right P b (improveCall kinds scratch r) =
 Right P b (bestCall kinds scratch room r) =
     ListedRight (refusal (scratchGround P scratch ∷ (14, not (kindsKnown kinds)) ∷ (16, ltb room (length (bookBest P (b .sets) kinds))) ∷ [])) P (b .sets) kinds r
 Right P b (undoCall r) = MovedRight (refusal (bookTaken P b)) P (b .sets) (opposite (newest (b .journal))) r
+Right P b (testCall into p r) = TestedRight (refusal (testGrounds P (b .sets) into p)) P (b .sets) p r
 
 -- Each answer of a list is right under the book before its call.
 unfoldable pub AllRight : Plan → Book → List Exchange → Type 0

@@ -60,9 +60,13 @@ moveCallGrounds d s room count m = journalGrounds d s room count [] (λ P k. mad
 unfoldable pub cellsAfter : Plan → Move → List ℕ → List ℕ → List ℕ
 cellsAfter P m own before = newCells P (spelled P (moveMasks P m own)) (pairsChange (movePairs P (inMasks own) m)) before
 
+-- "root before, root after, and how many cells differ from before", of cells before and after.
+abbrev pub threeNumbers : List ℕ → List ℕ → MoveValues
+threeNumbers before after = moveAccepted (getD before 0 0) (getD after 0 0) (differing before after)
+
 -- "and returns root before, root after, and how many cells differ from before".
 unfoldable pub moveAnswer : Plan → Move → List ℕ → List ℕ → MoveValues
-moveAnswer P m own before = moveAccepted (getD before 0 0) (getD (cellsAfter P m own before) 0 0) (differing before (cellsAfter P m own before))
+moveAnswer P m own before = threeNumbers before (cellsAfter P m own before)
 
 -- "An accepted move writes its masks and touched cells": the plan's own tables afterwards.
 unfoldable pub tablesAfter : Plan → Move → State → State
@@ -85,6 +89,11 @@ unfoldable pub movesJournaled : Decoded → Move → Journaled → MoveValues ×
 movesJournaled d m x =
     let r = moves d m (x .tables) (roomOf (x .journal)) (x .journal .count) in
     (r .0, record { tables = r .1; journal = journalAfter (moveMade (r .0)) m (x .journal) })
+
+-- What a call without a journal promises that answers these numbers: the answer, and every mask and every cell afterwards.
+pub record MadeAs (given : MoveValues × State) (r : Moved) (s′ : State) : Type 0 where
+  pub answers : MovedAs (given .0) r
+  pub tables-are : s′ ≡ given .1
 
 -- What `make_move` and `undo` promise, which are lent the journal's length and record count: the answer by 01's number and values, and
 -- every mask, every cell and the record count afterwards, which goes by whether a move was made.

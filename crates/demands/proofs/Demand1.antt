@@ -3,6 +3,7 @@
 -- two calls whose own parts agree answer the same, and leave what stands behind them as it was. That every call ends, and
 -- that its answer and tables are those of the definitions, is each call's contract.
 use mathlib.Core.Path.{_≡_, refl, sym, ap, _∙_}
+use mathlib.Core.Bool.{Bool}
 use mathlib.Core.List.{List}
 use Prim.Native.Nat.{ℕ}
 use lib.ListN.{drop, length}
@@ -24,11 +25,12 @@ use Rattle.contracts.specs.MoveCall.{moveCallGrounds, moves}
 use Rattle.contracts.specs.TrialCall.{scratchOwn, trialGrounds, trials}
 use Rattle.contracts.specs.ImproveCall.{improveGrounds, improves}
 use Rattle.contracts.specs.UndoCall.{undoGrounds, undoes}
+use Rattle.contracts.specs.TestCall.{testCallGrounds, tests}
 use Rattle.contracts.specs.BestCall.{bestGrounds, lists}
 use Rattle.contracts.specs.WriteCall.{writes}
 use Rattle.contracts.specs.Lists.{run}
 use Rattle.contracts.specs.OwnParts.{SameFirst, SameTables, SameLent}
-use Rattle.contracts.proofs.OwnParts.{load-sound, move-sound, undo-sound, trial-sound, improve-sound, lists-sound}
+use Rattle.contracts.proofs.OwnParts.{load-sound, move-sound, undo-sound, test-sound, trial-sound, improve-sound, lists-sound}
 
 -- Two calls of one kind whose tables agree on the plan's own bytes, masks and cells, and on being long enough for them: if they answer
 -- alike over one broken table and over one plan, they have the same answer and leave the same own masks and cells.
@@ -88,6 +90,14 @@ pub undo-own-parts : (l l′ : List ℕ) (s s′ : State) (m : Move) (room count
 unfolding undoes undoGrounds journalGrounds planGrounds refusal call callOr
 undo-own-parts l l′ s s′ m room count b same =
     own-parts (λ d t. undoes d m t room count) l l′ s s′ b same refl (λ P t. undo-sound P s s′ t m room count)
+
+-- The same of a port put in test or taken out.
+pub test-own-parts : (l l′ : List ℕ) (s s′ : State) (into : Bool) (p : ℕ) → SameFirst (ownBytes l) l l′ → ((P : Plan) → decode l ≡ sound P → SameTables P s s′)
+    → (tests (decode l) into p s .0 ≡ tests (decode l′) into p s′ .0)
+    × ((P : Plan) → decode l ≡ sound P → ownTables P (tests (decode l) into p s .1) ≡ ownTables P (tests (decode l′) into p s′ .1))
+unfolding tests testCallGrounds callGrounds planGrounds refusal call callOr
+test-own-parts l l′ s s′ into p b same =
+    own-parts (λ d t. tests d into p t) l l′ s s′ b same refl (λ P t. test-sound P s s′ t into p)
 
 -- The same of trials, whatever scratch holds.
 pub trial-own-parts : (l l′ : List ℕ) (s s′ : State) (scratch scratch′ : List ℕ) (m : Move) → SameFirst (ownBytes l) l l′

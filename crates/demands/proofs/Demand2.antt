@@ -10,7 +10,7 @@ use native.Mathlib.Omega.{arith}
 use lib.Dec.{ltb}
 use lib.ListN.{length, take}
 use Rattle.logic.specs.Formula.{Forest, none, tree, Plan, nodeCount}
-use Rattle.logic.specs.Configuration.{configured, configuration, inMasks, ownMasks, spelled, allWithin}
+use Rattle.logic.specs.Configuration.{configured, configuration, inMasks, maskCount, ownMasks, spelled, allWithin}
 use Rattle.logic.specs.Truth.{PlanTrue}
 use Rattle.logic.specs.Cells.{ownCells, rootPenalty}
 use Rattle.logic.specs.Moves.{refusal}
@@ -109,13 +109,13 @@ module _ (u : ℕ) (s before : List ℕ) (accepted : reads u s before .0 .number
   unfolding plan admittedPlan planOf ownMasks spelled configuration
   text-true masks =
       let A = admitted in
-      let t = plan-true u (configured u (length (A .sets)) (inMasks (take (length (A .sets)) masks))) (A .sets) (A .tree) (A .names) in (
+      let t = plan-true u (configured u (length (A .sets)) (inMasks (take (maskCount (length (A .sets))) masks))) (A .sets) (A .tree) (A .names) in (
         (λ h. record { sets = A .sets; tree = A .tree; derived = A .derived; holds = t .0 h }),
         (λ T. t .1 (one T (unambiguous s (T .sets) (A .sets) (T .tree) (A .tree) (T .derived) (A .derived)))),
       )
     where
       one : (T : TextTrue u masks s) → (T .sets ≡ admitted .sets) × (T .tree ≡ admitted .tree)
-          → TreeTrue u (configured u (length (admitted .sets)) (inMasks (take (length (admitted .sets)) masks))) (lettersOf (admitted .sets)) [] (admitted .tree)
+          → TreeTrue u (configured u (length (admitted .sets)) (inMasks (take (maskCount (length (admitted .sets))) masks))) (lettersOf (admitted .sets)) [] (admitted .tree)
       one T e = rw (← e .0, ← e .1) (T .holds)
 
   -- The stored core formula is true under the same configurations as the text.

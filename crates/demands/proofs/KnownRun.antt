@@ -7,12 +7,13 @@ use Prim.Native.Nat.{ℕ}
 use lib.ListN.{replicate}
 use Rattle.logic.specs.declared.Move.{Move}
 use Rattle.logic.specs.Formula.{none, literalOf, testKind, kindNumber, nodeCount, childDepth}
-use Rattle.logic.specs.Configuration.{indicator, portsIn, configuration, configured, inMask, inMasks, ownMasks, spelled, withinPorts, enter, leave, allWithin}
+use Rattle.logic.specs.Configuration.{indicator, portsIn, outOfTest, configuration, configured, inMask, inMasks, ownMasks, spelled, withinPorts, enter, leave, allWithin}
 use Rattle.logic.specs.Truth.{portOf}
 use Rattle.logic.specs.Penalty.{compare, sizePenalty, testPenalty, literalPenalty, sum, least, copy, combine, eachPort, below, penalties, penalty}
 use Rattle.logic.specs.Cells.{cellCount, placeOf, tupleAt, tabulate, siblingFirst, layout, ownCells, cells, rootPenalty}
 use Rattle.logic.specs.Moves.{noMove, moveKind, fieldsKnown, fieldsFit, known, fits, legal, refusal, moveGrounds, kindMasks, namedMasks, moveMasks, Pair, kindPairs, namedPairs, movePairs, kindWeight, kindsKnown, ofKinds}
 use Rattle.logic.specs.Change.{someOf, pairsChange, memberHit, hit, nodeHit, forestHit, touched, modulus, differences, newNumbers, renew, cellOf, renewals, newCell, newCells, differing}
+use Rattle.logic.specs.InTest.{testGrounds, testMasks, testChange}
 use Rattle.logic.specs.Known.{literal, over, plan, planA, move}
 use Rattle.table_format.specs.Bytes.{encoding}
 use Rattle.table_format.specs.Rules.{everyNode, treeCount, arityRule, mayNest, nestingRule, depthRule, testRule, literalRule, innerRule, nodeRule, formulaRule, mostCells, planRule}
@@ -27,15 +28,16 @@ use Rattle.contracts.specs.MoveCall.{MoveValues, moveRefused, moveAccepted, mad
 use Rattle.contracts.specs.TrialCall.{trialsOwn, trialGrounds, trials}
 use Rattle.contracts.specs.ImproveCall.{improveRefused, improveMade, noBetter, rootNow, rootAfter, bestMoves, firstLowers, wouldMake, chosenGrounds, improveGrounds, improvesBy, improvesOwn, improves, improveMakes, improvesJournaled}
 use Rattle.contracts.specs.UndoCall.{takenGrounds, undoGrounds, undoes, undoesJournaled}
+use Rattle.contracts.specs.TestCall.{testCallGrounds, testedCells, testedTables, testsOwn, tests, testsJournaled}
 use Rattle.contracts.specs.Counting.{countRefused, countAccepted}
 use Rattle.contracts.specs.BestCall.{bestGrounds, listRefused, listsOwn, lists}
 use Rattle.contracts.specs.MoveOrder.{fieldsAre, allMoves, kept, candidates, noneSmaller, bestOf}
-use Rattle.contracts.specs.Lists.{Asked, askMove, askTrial, askImprove, askBest, askUndo, Exchange, moveCall, trialCall, improveCall, bestCall, undoCall, step, run, begun, bookAfter, AllRight, AsBook}
+use Rattle.contracts.specs.Lists.{Asked, askMove, askTrial, askImprove, askBest, askUndo, askTest, Exchange, moveCall, trialCall, improveCall, bestCall, undoCall, testCall, step, run, begun, bookAfter, AllRight, AsBook}
 use Rattle.demands.proofs.Demand3.{lists-right}
 
 -- what computes here
 computing : Unit {0}
-unfolding literalOf testKind kindNumber nodeCount childDepth indicator portsIn configuration configured inMask inMasks ownMasks spelled withinPorts enter leave portOf compare sizePenalty testPenalty literalPenalty sum least copy combine eachPort below penalties penalty cellCount placeOf tupleAt tabulate siblingFirst layout ownCells cells rootPenalty moveKind fieldsKnown fieldsFit known fits legal refusal moveGrounds kindMasks namedMasks moveMasks kindPairs namedPairs movePairs kindWeight kindsKnown ofKinds someOf pairsChange memberHit hit nodeHit forestHit touched modulus differences newNumbers renew cellOf renewals newCell newCells differing literal over plan planA move everyNode treeCount arityRule mayNest nestingRule depthRule testRule literalRule innerRule nodeRule formulaRule mostCells planRule allWithin loadGrounds loadedMasks loadedTables loadRefused loadsOwn loads planGrounds tableGrounds callGrounds callOr call moveCallGrounds cellsAfter moveRefused moveAccepted moveAnswer movesOwn moves trialsOwn trials improveRefused improveMade noBetter improveGrounds rootNow rootAfter fieldsAre allMoves kept candidates noneSmaller bestOf bestMoves improvesBy improvesOwn improves countRefused countAccepted bestGrounds listRefused listsOwn lists step run ownTables withRest tablesAfter tablesThen journalGrounds mostRecords countPast full roomOf newest appended removed kindOpposite opposite noMove madeGrounds moveMade journalAfter journalTaken movesJournaled trialGrounds firstLowers wouldMake chosenGrounds improveMakes improvesJournaled takenGrounds undoGrounds undoes undoesJournaled begun
+unfolding literalOf testKind kindNumber nodeCount childDepth indicator portsIn outOfTest configuration configured inMask inMasks ownMasks spelled withinPorts enter leave portOf compare sizePenalty testPenalty literalPenalty sum least copy combine eachPort below penalties penalty cellCount placeOf tupleAt tabulate siblingFirst layout ownCells cells rootPenalty moveKind fieldsKnown fieldsFit known fits legal refusal moveGrounds kindMasks namedMasks moveMasks kindPairs namedPairs movePairs kindWeight kindsKnown ofKinds someOf pairsChange memberHit hit nodeHit forestHit touched modulus differences newNumbers renew cellOf renewals newCell newCells differing literal over plan planA move everyNode treeCount arityRule mayNest nestingRule depthRule testRule literalRule innerRule nodeRule formulaRule mostCells planRule allWithin loadGrounds loadedMasks loadedTables loadRefused loadsOwn loads planGrounds tableGrounds callGrounds callOr call moveCallGrounds cellsAfter moveRefused moveAccepted moveAnswer movesOwn moves trialsOwn trials improveRefused improveMade noBetter improveGrounds rootNow rootAfter fieldsAre allMoves kept candidates noneSmaller bestOf bestMoves improvesBy improvesOwn improves countRefused countAccepted bestGrounds listRefused listsOwn lists step run ownTables withRest tablesAfter tablesThen journalGrounds mostRecords countPast full roomOf newest appended removed kindOpposite opposite noMove madeGrounds moveMade journalAfter journalTaken movesJournaled trialGrounds firstLowers wouldMake chosenGrounds improveMakes improvesJournaled takenGrounds undoGrounds undoes undoesJournaled testGrounds testMasks testChange testCallGrounds testedCells testedTables testsOwn tests testsJournaled begun
 computing = tt
 
 -- plan A's cells under its masks, and after each of four moves
@@ -54,9 +56,10 @@ cellsTransfer = 3 ∷ 3 ∷ 2 ∷ 0 ∷ 1 ∷ 1 ∷ 0 ∷ 0 ∷ 1 ∷ 1 ∷ 0 �
 abbrev cellsSwap : List ℕ
 cellsSwap = 3 ∷ 3 ∷ 3 ∷ 1 ∷ 1 ∷ 1 ∷ 0 ∷ 0 ∷ 1 ∷ 0 ∷ 0 ∷ 1 ∷ 0 ∷ 0 ∷ 1 ∷ 0 ∷ 0 ∷ 1 ∷ 0 ∷ 0 ∷ 0 ∷ 1 ∷ 1 ∷ 0 ∷ 1 ∷ 1 ∷ 0 ∷ 1 ∷ 1 ∷ 0 ∷ 1 ∷ 1 ∷ 1 ∷ 0 ∷ []
 
--- The tables are longer than the plan's own: a fourth mask, with ports that the plan lacks, and a 35th cell. They stay as they are.
+-- No port is in test. The tables are longer than the plan's own: a fifth mask, with ports that the plan lacks, and a 35th cell. They stay
+-- as they are.
 abbrev masksWith : ℕ → ℕ → ℕ → List ℕ
-masksWith S T I = S ∷ T ∷ I ∷ 255 ∷ []
+masksWith S T I = S ∷ T ∷ I ∷ 0 ∷ 255 ∷ []
 
 abbrev lent : List ℕ → List ℕ
 lent own = own ++ 77 ∷ []
@@ -97,14 +100,15 @@ unfolding computing
 known-refusals = (refl, refl, refl, refl, refl, refl, refl, refl, refl, refl, refl, refl)
 
 -- 12 before 13: a mask short; a cell short; a record count past the journal's length, and past 1,024; then a mask of the plan's own with
--- port 3.
-pub known-tables : (moves (sound planA) (move 1 0 0 0 0) (tables (8 ∷ 7 ∷ []) (lent cellsA)) 2 1 ≡ outcome (moveRefused 12) (8 ∷ 7 ∷ []) (lent cellsA))
+-- port 3, that of the ports in test too.
+pub known-tables : (moves (sound planA) (move 1 0 0 0 0) (tables (8 ∷ 7 ∷ 1 ∷ []) (lent cellsA)) 2 1 ≡ outcome (moveRefused 12) (8 ∷ 7 ∷ 1 ∷ []) (lent cellsA))
     × (moves (sound planA) (move 1 0 0 0 0) (tables (masksWith 8 7 1) (0 ∷ [])) 2 1 ≡ outcome (moveRefused 12) (masksWith 8 7 1) (0 ∷ []))
     × (moves (sound planA) (move 1 0 0 0 0) (tables (masksWith 8 7 1) (lent cellsA)) 2 3 ≡ outcome (moveRefused 12) (masksWith 8 7 1) (lent cellsA))
     × (moves (sound planA) (move 1 0 0 0 0) (tables (masksWith 8 7 1) (lent cellsA)) 2000 1025 ≡ outcome (moveRefused 12) (masksWith 8 7 1) (lent cellsA))
     × (moves (sound planA) (move 0 0 0 0 0) (tables (masksWith 8 7 1) (lent cellsA)) 2 2 ≡ outcome (moveRefused 13) (masksWith 8 7 1) (lent cellsA))
+    × (tests (sound planA) true 3 (tables (3 ∷ 7 ∷ 1 ∷ 8 ∷ []) (lent cellsA)) ≡ outcome (moveRefused 13) (3 ∷ 7 ∷ 1 ∷ 8 ∷ []) (lent cellsA))
 unfolding computing
-known-tables = (refl, refl, refl, refl, refl)
+known-tables = (refl, refl, refl, refl, refl, refl)
 
 abbrev tablesA : State
 tablesA = tables (masksWith 3 7 1) (lent cellsA)
@@ -277,6 +281,19 @@ pub known-run-undo : run (sound planA) begunA
     )
 unfolding computing
 known-run-undo = refl
+
+-- I has ports 0 and 2, one too many; with port 2 in test it has one that counts. The undo takes the add back and leaves the port in test;
+-- out of test it is in no set whose size is asked. Each of the two again meets 20, and a port that the plan lacks 14.
+pub known-run-test : run (sound planA) begunA
+    (askMove (move 1 2 0 2 0) ∷ askTest true 2 ∷ askTest true 2 ∷ askUndo ∷ askTest false 2 ∷ askTest false 2 ∷ askTest true 3 ∷ [])
+    ≡ (
+      moveCall (move 1 2 0 2 0) (moveAccepted 1 3 8) ∷ testCall true 2 (moveAccepted 3 2 3) ∷ testCall true 2 (moveRefused 20)
+          ∷ undoCall (moveAccepted 2 1 7) ∷ testCall false 2 (moveAccepted 1 1 0) ∷ testCall false 2 (moveRefused 20)
+          ∷ testCall true 3 (moveRefused 14) ∷ [],
+      with-records stateA (move 1 2 0 2 0) foreign 0,
+    )
+unfolding computing
+known-run-test = refl
 
 -- A journal of one record is full after B's drop: a legal move then meets 18, one that is not legal 15, and an improve that finds no
 -- better move none. After the undo improve makes a move; one of no room meets 18 where it would make one.

@@ -1,4 +1,4 @@
--- What planroot's line says of the text: `penalty 0` is printed exactly when the text is true. A line that is no penalty says nothing
+-- What planroot's line says of the text: `penalty 0` is printed exactly when the text is true with no port in test. A line that is no penalty says nothing
 -- of it, `refused 0` neither. Assumes nothing.
 use mathlib.Core.Path.{_≡_, refl, sym, _∙_}
 use mathlib.Core.Logic.{_↔_}
@@ -20,7 +20,7 @@ use Rattle.planroot_print.specs.declared.Line.{Line}
 use Rattle.planroot_print.specs.declared.Line.the-variants.{Penalty, Refusal}
 use Rattle.planroot_print.specs.Line.{isPenalty, lineRoot}
 use Rattle.planroot_line.specs.Loading.{loadLine}
-use Rattle.planroot_line.specs.Line.{readLine, textLine, tableRoom, cellRoom, zeros, inputLine}
+use Rattle.planroot_line.specs.Line.{noneInTest, readLine, textLine, tableRoom, cellRoom, zeros, inputLine}
 use Rattle.demands.specs.ReadThenLoad.{answer, loaded}
 use Rattle.demands.proofs.Demand2.{zero-when-true}
 
@@ -46,7 +46,7 @@ counted-penalty true y h = load-penalty y h
 counted-penalty false y h = absurd (false≢true h)
 
 read-penalty : (v : ReadValues) (table ms cells : List ℕ) → isPenalty (readLine v table ms cells) ≡ true
-    → (v .number ≡ 0) × FromLoad (readLine v table ms cells) (loads (decode table) (tables ms cells) .0)
+    → (v .number ≡ 0) × FromLoad (readLine v table ms cells) (loads (decode table) (tables (noneInTest ms) cells) .0)
 unfolding isPenalty readLine
 read-penalty v table ms cells h = go (eqb (v .number) 0) refl h
   where
@@ -54,7 +54,7 @@ read-penalty v table ms cells h = go (eqb (v .number) 0) refl h
     counted = eqb (length ms) (setsField table)
 
     y : LoadValues
-    y = loads (decode table) (tables ms cells) .0
+    y = loads (decode table) (tables (noneInTest ms) cells) .0
 
     line : Bool → Line
     line t = pick t (pick counted (loadLine y) (Refusal 0)) (Refusal (v .number))
@@ -73,7 +73,7 @@ module _ (input : List ℕ) where
   abbrev cells : List ℕ
   cells = zeros cellRoom
 
-  penalty-loaded : isPenalty (inputLine input) ≡ true → (answer u (text input) before .number ≡ 0) × FromLoad (inputLine input) (loaded u (text input) before (masks input) cells)
+  penalty-loaded : isPenalty (inputLine input) ≡ true → (answer u (text input) before .number ≡ 0) × FromLoad (inputLine input) (loaded u (text input) before (noneInTest (masks input)) cells)
   unfolding isPenalty inputLine textLine answer loaded
   penalty-loaded h = go (sound input) h
     where
@@ -81,12 +81,12 @@ module _ (input : List ℕ) where
       line = readLine (reads u (text input) before .0) (reads u (text input) before .1) (masks input) cells
 
       go : (t : Bool) → isPenalty (pick t line (Refusal 0)) ≡ true
-          → (reads u (text input) before .0 .number ≡ 0) × FromLoad (pick t line (Refusal 0)) (loads (decode (reads u (text input) before .1)) (tables (masks input) cells) .0)
+          → (reads u (text input) before .0 .number ≡ 0) × FromLoad (pick t line (Refusal 0)) (loads (decode (reads u (text input) before .1)) (tables (noneInTest (masks input)) cells) .0)
       go true k = read-penalty (reads u (text input) before .0) (reads u (text input) before .1) (masks input) cells k
       go false k = absurd (false≢true k)
 
-  pub zero-printed : isPenalty (inputLine input) ≡ true → lineRoot (inputLine input) ≡ 0 ↔ TextTrue (ports input) (masks input) (text input)
+  pub zero-printed : isPenalty (inputLine input) ≡ true → lineRoot (inputLine input) ≡ 0 ↔ TextTrue (ports input) (noneInTest (masks input)) (text input)
   zero-printed h =
       let F = penalty-loaded h in
-      let Z = zero-when-true u (text input) before (F .0) (masks input) cells (F .1 .accepted) in
+      let Z = zero-when-true u (text input) before (F .0) (noneInTest (masks input)) cells (F .1 .accepted) in
       ((λ e. Z .0 (sym (F .1 .root-is) ∙ e)), (λ t. F .1 .root-is ∙ Z .1 t))

@@ -74,7 +74,7 @@ fn back(table: &[u8], masks: &mut [u64], cells: &mut [u32], count: &mut usize) {
 // Reads and loads plan A, then moves.
 pub fn all() {
     let mut table = [0u8; 121];
-    let mut masks = [3u64, 7, 1];
+    let mut masks = [3u64, 7, 1, 0];
     let mut cells = [0u32; 34];
     say_read(read(3, b"[STI] @x (x:I <-> x:S & x:T) & #I <= 1", &mut table));
     say_loaded(load(&table, &masks, &mut cells));

@@ -25,7 +25,7 @@ fn say_short(table: &[u8], n: usize, masks: &[u64], cells: &mut [u32]) {
 
 // Plan A: its 34 cells and two past them, then the cells of some nodes.
 fn plan_a(table: &[u8]) {
-    let masks = [3u64, 7, 1];
+    let masks = [3u64, 7, 1, 0];
     let mut cells = [9u32; 36];
     say(table, &masks, &mut cells);
     show(&cells);
@@ -37,13 +37,13 @@ fn plan_a(table: &[u8]) {
 
 // Each way to be refused: a cell too few, a mask too few, a port too many, a table one byte short.
 fn refusals(table: &[u8]) {
-    let masks = [3u64, 7, 1];
+    let masks = [3u64, 7, 1, 0];
     let mut few = [9u32; 33];
     say(table, &masks, &mut few);
     let mut cells = [9u32; 36];
-    let two = [3u64, 7];
-    say(table, &two, &mut cells);
-    let stray = [3u64, 15, 1];
+    let three = [3u64, 7, 1];
+    say(table, &three, &mut cells);
+    let stray = [3u64, 15, 1, 0];
     say(table, &stray, &mut cells);
     say_short(table, 120, &stray, &mut few);
     show(&few);
@@ -52,7 +52,7 @@ fn refusals(table: &[u8]) {
 // Three variables, the outermost counting most; then every kind of literal.
 fn small_plans() {
     let mut cells = [0u32; 40];
-    let one = [1u64];
+    let one = [1u64, 0];
     say(
         b"\x50\x4c\x4e\x01\x00\x02\x01\x08\x00\x00\x00\x00\x00\xff\xff\x08\x00\x01\x00\x00\x00\x00\x00\x08\x00\x01\x00\x00\x00\x01\x00\x08\x00\x01\x00\x00\x00\x02\x00\x08\x00\x03\x00\x00\x00\x03\x00\x08\x00\x05\x00\x00\x00\x04\x00\x06\x00\x05\x00\x01\x00\x04\x00\x07\x00\x05\x00\x02\x00\x04\x00\x08\x00",
         &one,
@@ -60,7 +60,7 @@ fn small_plans() {
     );
     show(&cells);
     let mut all = [0u32; 68];
-    let masks = [5u64, 3];
+    let masks = [5u64, 3, 0];
     say(
         b"\x50\x4c\x4e\x01\x00\x03\x02\x0a\x00\x00\x00\x00\x00\xff\xff\x0a\x00\x01\x00\x00\x00\x00\x00\x0a\x00\x02\x00\x00\x00\x01\x00\x0a\x00\x04\x00\x00\x00\x02\x00\x0a\x00\x07\x00\x00\x01\x03\x00\x05\x00\x07\x03\x01\x00\x03\x00\x06\x00\x08\x04\x01\x02\x03\x00\x07\x00\x03\x00\x00\x00\x03\x00\x0a\x00\x05\x00\x01\x00\x07\x00\x09\x00\x06\x00\x00\x01\x07\x00\x0a\x00",
         &masks,
@@ -71,7 +71,7 @@ fn small_plans() {
 
 // Loads a plan of one set, the set empty.
 fn large(table: &[u8], cells: &mut [u32]) {
-    let masks = [0u64];
+    let masks = [0u64, 0];
     say(table, &masks, cells);
 }
 

@@ -87,28 +87,28 @@ fn small(u: u64, text: &[u8], masks: &[u64]) {
 
 // A plan of one set.
 fn one_set(u: u64, text: &[u8], mask: u64) {
-    let masks = [mask];
+    let masks = [mask, 0];
     small(u, text, &masks);
 }
 
 // Plan A.
 fn plan_a() {
-    let masks = [3u64, 7, 1];
+    let masks = [3u64, 7, 1, 0];
     small(3, b"[STI] @x (x:I <-> x:S & x:T) & #I <= 1", &masks);
 }
 
-// A plan over two masks.
-fn two_masks(u: u64, text: &[u8]) {
-    let masks = [1u64, 1];
+// A plan of two sets.
+fn two_sets(u: u64, text: &[u8]) {
+    let masks = [1u64, 1, 0];
     small(u, text, &masks);
 }
 
 // The starred plans, in the paper's order.
 fn starred() {
     plan_a();
-    two_masks(2, b"[ST] @x (x/S | x:T) & ?x (x:T & x/S)");
+    two_sets(2, b"[ST] @x (x/S | x:T) & ?x (x:T & x/S)");
     one_set(1, b"[S] ?x x:S", 0);
-    two_masks(1, b"[S] ?x x:S");
+    two_sets(1, b"[S] ?x x:S");
     one_set(64, b"[S] #S < 0", 0);
     one_set(64, b"[S] #S > 64", 18446744073709551615);
     one_set(64, b"[S] #S = 2", 0);
@@ -228,7 +228,7 @@ fn tables() {
 
 // A plan over 64 ports, the set empty.
 fn large(text: &[u8], cells: &mut [u32]) {
-    let none = [0u64];
+    let none = [0u64, 0];
     run(64, text, &none, cells);
 }
 

@@ -3,11 +3,11 @@ use mathlib.Core.Path.{_≡_, sym, ap, _∙_}
 use mathlib.Core.Bool.{Bool}
 use mathlib.Core.List.{List, [], _∷_}
 use Prim.Native.Nat.{ℕ, zero, suc, _+_, _*_, _^_, _≤_}
-use native.Mathlib.Nat.{min-le-left, pow-suc, pow-zero, mul-left-comm}
+use native.Mathlib.Nat.{le-trans, min-le-left, pow-suc, pow-zero, mul-left-comm}
 use native.Mathlib.Omega.{arith}
 use Rattle.logic.specs.Formula.{Relation, lt, le, eq, ne, ge, gt, Test, isin, notin, port, size, Node, root, all, any, and, or, lit, Forest, none, tree, childDepth}
 use Rattle.logic.specs.inner.Literals.{Every, OfLiteral, OfTest, ConstantLow, ConstantsLow}
-use Rattle.logic.specs.Configuration.{Configuration, indicator, portsIn}
+use Rattle.logic.specs.Configuration.{Sets, Configuration, indicator, portsIn, outOfTest, configured}
 use Rattle.logic.specs.Truth.{Tuple}
 use Rattle.logic.specs.Penalty.{sizePenalty, testPenalty, literalPenalty, sum, least, copy, combine, eachPort, below, penalties, penalty}
 use Rattle.logic.specs.Cells.{cellCount}
@@ -135,10 +135,15 @@ size-le ne s c h k = indicator-65 _
 size-le ge s c h k = omega arith
 size-le gt s c h k = omega arith
 
-pub ports-in-le : (u : ℕ) (s : ℕ → Bool) → portsIn u s ≤ u
+ports-in-le : (u : ℕ) (s : ℕ → Bool) → portsIn u s ≤ u
 unfolding portsIn
 ports-in-le zero s = omega arith
 ports-in-le (suc u) s = omega (arith, ports-in-le u s, indicator-le (s u))
+
+-- no set over at most 64 ports is larger than 64
+pub sizes-64 : (u n : ℕ) (k : Sets) → u ≤ 64 → (S : ℕ) → configured u n k .size S ≤ 64
+unfolding configured
+sizes-64 u n k h S = le-trans (ports-in-le u (outOfTest (k S) (k n))) h
 
 module _ (k : Configuration) (small : (S : ℕ) → k .size S ≤ 64) where
   test-le : (t : Test) → ConstantLow t → (e : Tuple) → testPenalty k t e ≤ 65

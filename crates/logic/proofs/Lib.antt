@@ -1,6 +1,7 @@
 -- Laws of the definitions.
 pub mod Bound
 pub mod Changed
+pub mod InTest
 pub mod Known
 pub mod Lists
 pub mod Masks

@@ -1,17 +1,17 @@
 -- Masks: a port after enter, leave and flip; the size of a set; a mask within u ports. Assumes nothing.
 use mathlib.Core.Path.{_≡_, refl, sym, ap, ap₂, _∙_, fun-ext}
 use mathlib.Core.Logic.{_≢_, _↔_}
-use mathlib.Core.Bool.{Bool, true, false, cond, not, false≢true}
+use mathlib.Core.Bool.{Bool, true, false, cond, not, _&&_, false≢true}
 use Prim.Native.Nat.{ℕ, zero, suc, _+_, _-_, _*_, _^_, _/_, _%_, _≤_, _<_}
 use native.Mathlib.Nat.{mod-lt, div-self, div-eq-of-lt, div-lt-iff-lt-mul, mul-mod-left, pow-suc, pow-succ', div-one, div-div-eq-div-mul, one-mul, zero-mul, le-trans, lt-of-not-le}
 use native.Mathlib.Decide.{decLt, decLe}
 use native.Mathlib.Omega.{arith}
 use lib.Dec.{eqb, ltb}
 use lib.Count.{onesIn, ones, ones-step, leading-top}
-use lib.Bits.{bitAnd, bitOr, bitXor, xor-shr, xor-mod, xor-disjoint, or-disjoint, or-add-and, and-high, xor-lt}
+use lib.Bits.{bitAnd, bitOr, bitXor, and-shr, xor-shr, and-mod, xor-mod, xor-disjoint, or-disjoint, or-add-and, and-high, xor-lt}
 use lib.Pow.{pow-lt, pow-add, pow-pos, pow-mono, shl-shr, shl-exact, high}
 use borrow.Author.Tests.{eqb-true, eqb-false, eq-eqb, ne-eqb, ltb-true, lt-ltb, le-ltb}
-use Rattle.logic.specs.Configuration.{indicator, portsIn, inMask, withinPorts, enter, leave}
+use Rattle.logic.specs.Configuration.{indicator, portsIn, outOfTest, inMask, withinPorts, enter, leave}
 use Rattle.logic.specs.inner.Flip.{flipPort}
 
 -- the bits of a power of two
@@ -122,13 +122,6 @@ ones-in (suc u) m h = ap (λ (x : ℕ). m % 2 + x) (ones-in u (m / 2) (omega (ar
 pub ports-mask : (u mask : ℕ) → mask < 2 ^ u → portsIn u (inMask mask) ≡ ones mask
 ports-mask u mask h = ports-ones u mask ∙ ones-in u mask h
 
--- a mask within u ports has as many members among any more ports
-pub ports-within : (u w mask : ℕ) → u ≤ w → withinPorts u mask ≡ true → portsIn w (inMask mask) ≡ portsIn u (inMask mask)
-unfolding withinPorts
-ports-within u w mask l h =
-    let a = ltb-true mask (2 ^ u) h in
-    ports-mask w mask (le-trans a (pow-mono l)) ∙ sym (ports-mask u mask a)
-
 -- the highest port of a mask
 top-port : (mask j : ℕ) → 2 ^ j ≤ mask → mask < 2 ^ suc j → inMask mask j ≡ true
 unfolding inMask
@@ -159,6 +152,42 @@ within-ports u mask = (
         reach : (j : ℕ) → mask < 2 ^ suc j → Dec (u ≤ j) → u ≤ j
         reach j h (yes y) = y
         reach j h (no y) = let m : 2 ^ suc j ≤ 2 ^ u = pow-mono (lt-of-not-le y) in absurd (omega arith)
+
+-- a set with no port of u or more has as many members among any more ports
+ports-more : (u j : ℕ) (s : ℕ → Bool) → ((p : ℕ) → u ≤ p → s p ≡ false) → portsIn (j + u) s ≡ portsIn u s
+unfolding portsIn indicator
+ports-more u zero s h = ap (λ (x : ℕ). portsIn x s) (let e : 0 + u ≡ u = omega arith in e)
+ports-more u (suc j) s h =
+    let w : suc j + u ≡ suc (j + u) = omega arith in
+    let e = ap indicator (h (j + u) (omega arith)) in
+    ap (λ (x : ℕ). portsIn x s) w ∙ omega (arith, ports-more u j s h)
+
+-- a mask within u ports has as many members out of test among any more ports
+pub ports-within : (u w mask : ℕ) (test : ℕ → Bool) → u ≤ w → withinPorts u mask ≡ true
+    → portsIn w (outOfTest (inMask mask) test) ≡ portsIn u (outOfTest (inMask mask) test)
+unfolding outOfTest
+ports-within u w mask test l h =
+    let e : w ≡ w - u + u = omega arith in
+    ap (λ (x : ℕ). portsIn x (outOfTest (inMask mask) test)) e
+    ∙ ports-more u (w - u) (outOfTest (inMask mask) test) (λ p k. ap (λ (b : Bool). b && not (test p)) (within-ports u mask .0 h p k))
+
+out-digit : (x y : ℕ) → x < 2 → y < 2 → eqb (bitAnd x (bitXor x y)) 1 ≡ (eqb x 1 && not (eqb y 1))
+out-digit zero zero h k = refl
+out-digit zero (suc zero) h k = refl
+out-digit (suc zero) zero h k = refl
+out-digit (suc zero) (suc zero) h k = refl
+out-digit (suc (suc x)) y h k = absurd (omega arith)
+out-digit zero (suc (suc y)) h k = absurd (omega arith)
+out-digit (suc zero) (suc (suc y)) h k = absurd (omega arith)
+
+-- how the code spells the members out of test
+pub in-out-of-test : (mask test : ℕ) → inMask (bitAnd mask (bitXor mask test)) ≡ outOfTest (inMask mask) (inMask test)
+unfolding inMask outOfTest
+in-out-of-test mask test = fun-ext (λ p.
+    ap (λ (x : ℕ). eqb (x % 2) 1) (and-shr mask (bitXor mask test) p ∙ ap (bitAnd (mask / 2 ^ p)) (xor-shr mask test p))
+    ∙ ap (λ (x : ℕ). eqb x 1)
+    (and-mod (mask / 2 ^ p) (bitXor (mask / 2 ^ p) (test / 2 ^ p)) 1 ∙ ap (bitAnd (mask / 2 ^ p % 2)) (xor-mod (mask / 2 ^ p) (test / 2 ^ p) 1))
+    ∙ out-digit (mask / 2 ^ p % 2) (test / 2 ^ p % 2) (mod-lt (mask / 2 ^ p) (omega arith)) (mod-lt (test / 2 ^ p) (omega arith)))
 
 -- how the code tests and spells it: a shift, and a power of two that fits
 pub within-all : (u mask : ℕ) → mask < 2 ^ 64 → 64 ≤ u → withinPorts u mask ≡ true

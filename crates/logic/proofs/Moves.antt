@@ -1,6 +1,6 @@
 -- The masks that a legal move leaves spell the sets with the move's pairs flipped; sets and their flips agree off the pairs.
 -- Assumes nothing.
-use mathlib.Core.Path.{_≡_, refl, sym, ap, _∙_, subst, fun-ext}
+use mathlib.Core.Path.{_≡_, refl, sym, ap, ap₂, _∙_, subst, fun-ext}
 use mathlib.Core.Logic.{_≢_}
 use mathlib.Core.Bool.{Bool, true, false, cond, not, _&&_, true≢false}
 use mathlib.Core.List.{List, [], _∷_}
@@ -14,7 +14,7 @@ use borrow.Author.Tests.{eqb-false, eq-eqb, ne-eqb, ltb-true, not-true}
 use Rattle.logic.specs.declared.Move.{Move}
 use Rattle.logic.specs.Formula.{Plan}
 use Rattle.logic.specs.inner.Flip.{flipPort}
-use Rattle.logic.specs.Configuration.{Sets, portsIn, configuration, configured, inMask, inMasks, ownMasks, spelled, enter, leave}
+use Rattle.logic.specs.Configuration.{Sets, portsIn, outOfTest, configuration, configured, inMask, inMasks, ownMasks, spelled, enter, leave}
 use Rattle.logic.specs.Moves.{MoveKind, add, drop, transfer, swap, unknown, moveKind, fieldsKnown, fieldsFit, known, fits, legal, kindMasks, namedMasks, moveMasks, Pair, kindPairs, namedPairs, movePairs, flip, flips}
 use Rattle.logic.specs.Change.{someOf, pairsChange}
 use Rattle.logic.specs.inner.Agreement.{listed, AgreeOff}
@@ -132,7 +132,7 @@ pub move-masks : (P : Plan) (m : Move) (ms : List ℕ) → legal P (inMasks ms) 
     → inMasks (moveMasks P m ms) ≡ flips (movePairs P (inMasks ms) m) (inMasks ms)
 unfolding namedMasks moveMasks namedPairs movePairs legal known fits ownMasks
 move-masks P m ms h l =
-    kind-masks (moveKind (m .kind)) P m ms (kind-known (moveKind (m .kind)) P m (and-left _ _ h)) (and-right (known P m) _ h) l
+    kind-masks (moveKind (m .kind)) P m ms (kind-known (moveKind (m .kind)) P m (and-left _ _ h)) (and-right (known P m) _ h) (omega arith)
 
 pub move-spells : (P : Plan) (m : Move) (ms : List ℕ) → legal P (inMasks ms) m ≡ true → ownMasks P ≤ length ms
     → spelled P (moveMasks P m ms) ≡ configuration P (flips (movePairs P (inMasks ms) m) (inMasks ms))
@@ -155,9 +155,20 @@ unnamed (q ∷ qs) S p h =
     or-false _ _ (and-false (eqb S (q .0)) _ (λ e. absurd (true≢false (sym e ∙ or-left (eqb S (q .0)) _ h))))
     (unnamed qs S p (or-right (eqb S (q .0)) _ h))
 
-pub flips-agree : (P : Plan) (qs : List Pair) (k : Sets) → AgreeOff (pairsChange qs) (configuration P k) (configuration P (flips qs k))
+-- the mask of ports in test is no set of the plan: no pair names it
+in-test-unnamed : (P : Plan) (qs : List Pair) → PairsKnown P qs → someOf (λ (q : Pair). eqb (P .sets) (q .0)) qs ≡ false
+unfolding PairsKnown someOf
+in-test-unnamed P [] h = refl
+in-test-unnamed P (q ∷ qs) h =
+    or-false _ _ (ne-eqb (P .sets) (q .0) (λ e. omega (arith, h .0))) (in-test-unnamed P qs (h .2))
+
+pub flips-agree : (P : Plan) (qs : List Pair) → PairsKnown P qs → (k : Sets)
+    → AgreeOff (P .sets) (pairsChange qs) (configuration P k) (configuration P (flips qs k))
 unfolding pairsChange configuration configured
-flips-agree P qs k = record {
-  members = λ S p h. flips-off qs k S p h;
-  sizes = λ S h. ap (portsIn (P .ports)) (fun-ext (λ p. flips-off qs k S p (unnamed qs S p h)));
-}
+flips-agree P qs w k =
+    let same : (S : ℕ) → someOf (λ (q : Pair). eqb S (q .0)) qs ≡ false → flips qs k S ≡ k S =
+    λ S h. fun-ext (λ p. flips-off qs k S p (unnamed qs S p h)) in
+    record {
+      members = λ S p l h. flips-off qs k S p h;
+      sizes = λ S l h. ap₂ (λ (s t : ℕ → Bool). portsIn (P .ports) (outOfTest s t)) (same S h) (same (P .sets) (in-test-unnamed P qs w));
+    }

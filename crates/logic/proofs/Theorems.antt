@@ -9,18 +9,20 @@ use native.Mathlib.Omega.{arith}
 use lib.ListN.{length, getD}
 use Rattle.logic.specs.declared.Move.{Move}
 use Rattle.logic.specs.Formula.{Forest, none, tree, Plan, childDepth}
-use Rattle.logic.specs.inner.Literals.{Every, ConstantsLow}
-use Rattle.logic.specs.Configuration.{Sets, Configuration, configuration, configured, inMasks, ownMasks, spelled}
+use Rattle.logic.specs.inner.Literals.{Every, ConstantsLow, SetsBelow}
+use Rattle.logic.specs.Configuration.{Sets, Configuration, configuration, inMasks, ownMasks, spelled}
 use Rattle.logic.specs.Truth.{first, ForestTrue, PlanTrue}
 use Rattle.logic.specs.Penalty.{penalty}
 use Rattle.logic.specs.Cells.{cellCount, tupleAt, tabulate, siblingFirst, layout, ownCells, cells, rootPenalty}
 use Rattle.logic.specs.Moves.{legal, Pair, movePairs, moveMasks, flips}
 use Rattle.logic.specs.Change.{pairsChange, modulus, newCells}
+use Rattle.logic.proofs.Lists.{and-left}
 use Rattle.logic.proofs.Zero.{penalty-zero}
-use Rattle.logic.proofs.Bound.{LiteralsAtMost, literals-low, ports-in-le, spread, spread-pos, subtreeCells, subtree-count, penalty-le}
+use Rattle.logic.proofs.Bound.{LiteralsAtMost, literals-low, sizes-64, spread, spread-pos, subtreeCells, subtree-count, penalty-le}
 use Rattle.logic.proofs.Tables.{layout-first, length-layout, Stands, stands-self}
+use Rattle.logic.proofs.Untouched.{agree-on}
 use Rattle.logic.proofs.Update.{new-cells-true}
-use Rattle.logic.proofs.Moves.{flips-agree, move-spells}
+use Rattle.logic.proofs.Moves.{PairsKnown, known-pairs, flips-agree, move-spells}
 
 -- a formula has a node
 unfoldable pub Nonempty : Forest → Type 0
@@ -83,9 +85,8 @@ cells-at-most P u1 B B1 k low i =
 
 -- the sizes of sets over at most 64 ports
 pub literals-65 : (P : Plan) → P .ports ≤ 64 → ConstantsLow (P .formula) 0 → (k : Sets) → LiteralsAtMost 65 (configuration P k) (P .formula) 0
-unfolding configuration configured
-literals-65 P u64 low k =
-    literals-low (configuration P k) (λ S. le-trans (ports-in-le (P .ports) (k S)) u64) (P .formula) 0 low
+unfolding configuration
+literals-65 P u64 low k = literals-low (configuration P k) (sizes-64 (P .ports) (P .sets) k u64) (P .formula) 0 low
 
 -- With constants at most 64 and u at most 64 no penalty is above 65 × cells.
 pub cells-at-most-65 : (P : Plan) → 1 ≤ P .ports → P .ports ≤ 64 → ConstantsLow (P .formula) 0 → (k : Sets)
@@ -97,19 +98,20 @@ pub cells-at-most-total : (P : Plan) → 1 ≤ P .ports → P .ports ≤ 64 → 
     → (i : ℕ) → getD (cells P (configuration P k)) i 0 ≤ 68157440
 cells-at-most-total P u1 u64 low few k i = omega (arith, cells-at-most-65 P u1 u64 low k i)
 
--- True cells stay true under any flipped pairs, and so under every legal move.
-pub flips-true : (P : Plan) → 1 ≤ P .ports → P .ports ≤ 64 → ConstantsLow (P .formula) 0 → ownCells P ≤ 1048576
-    → (k : Sets) (qs : List Pair) (table : List ℕ) → Stands table 0 (cells P (configuration P k))
+-- True cells stay true under any flipped pairs of the plan's sets, and so under every legal move.
+pub flips-true : (P : Plan) → 1 ≤ P .ports → P .ports ≤ 64 → ConstantsLow (P .formula) 0 → SetsBelow (P .sets) (P .formula) 0 → ownCells P ≤ 1048576
+    → (k : Sets) (qs : List Pair) → PairsKnown P qs → (table : List ℕ) → Stands table 0 (cells P (configuration P k))
     → newCells P (configuration P (flips qs k)) (pairsChange qs) table ≡ cells P (configuration P (flips qs k))
 unfolding modulus
-flips-true P u1 u64 low few k qs table h =
+flips-true P u1 u64 low below few k qs w table h =
     new-cells-true P u1 65 (omega arith) (pairsChange qs) (configuration P k) (configuration P (flips qs k))
-    (flips-agree P qs k) (literals-65 P u64 low k) (literals-65 P u64 low (flips qs k)) (omega arith) table h
+    (agree-on (pairsChange qs) (configuration P k) (configuration P (flips qs k)) (P .sets) (flips-agree P qs w k) (P .formula) 0 below) (literals-65 P u64 low k) (literals-65 P u64 low (flips qs k)) (omega arith) table h
 
-pub move-true : (P : Plan) → 1 ≤ P .ports → P .ports ≤ 64 → ConstantsLow (P .formula) 0 → ownCells P ≤ 1048576
+pub move-true : (P : Plan) → 1 ≤ P .ports → P .ports ≤ 64 → ConstantsLow (P .formula) 0 → SetsBelow (P .sets) (P .formula) 0 → ownCells P ≤ 1048576
     → (m : Move) (ms : List ℕ) → legal P (inMasks ms) m ≡ true → ownMasks P ≤ length ms
     → newCells P (spelled P (moveMasks P m ms)) (pairsChange (movePairs P (inMasks ms) m)) (cells P (spelled P ms)) ≡ cells P (spelled P (moveMasks P m ms))
-unfolding spelled
-move-true P u1 u64 low few m ms h l =
+unfolding spelled legal
+move-true P u1 u64 low below few m ms h l =
     rw (move-spells P m ms h l)
-    (flips-true P u1 u64 low few (inMasks ms) (movePairs P (inMasks ms) m) (cells P (configuration P (inMasks ms))) (stands-self _))
+    (flips-true P u1 u64 low below few (inMasks ms) (movePairs P (inMasks ms) m)
+    (known-pairs P (inMasks ms) m (and-left _ _ h)) (cells P (configuration P (inMasks ms))) (stands-self _))

@@ -1,5 +1,5 @@
 -- True cells stay true: from the penalties under one configuration, the cells after a change are the penalties under any
--- other that agrees with it off the change. The sums modulo 2^32 are exact. Assumes nothing.
+-- other that agrees with it off the change on the plan's literals. The sums modulo 2^32 are exact. Assumes nothing.
 use mathlib.Core.Path.{_≡_, refl, sym, ap, ap₂, _∙_, subst}
 use mathlib.Core.Bool.{Bool, true, false, cond}
 use mathlib.Core.List.{List, [], _∷_, _++_, map}
@@ -8,13 +8,13 @@ use native.Mathlib.Nat.{mod-eq-of-lt, add-mul-mod-self-right, mul-le-mul-right, 
 use native.Mathlib.Omega.{arith}
 use lib.ListN.{length}
 use Rattle.logic.specs.Formula.{Node, root, all, any, and, or, lit, Forest, none, tree, Plan, childDepth}
-use Rattle.logic.specs.inner.Literals.{Every}
+use Rattle.logic.specs.inner.Literals.{Every, OfTest}
 use Rattle.logic.specs.Configuration.{Configuration, indicator}
 use Rattle.logic.specs.Truth.{Tuple}
 use Rattle.logic.specs.Penalty.{sum, combine, eachPort, below, penalties, penalty}
 use Rattle.logic.specs.Cells.{placeOf, tupleAt, tabulate, siblingFirst, layout, ownCells, cells}
 use Rattle.logic.specs.Change.{Change, touched, modulus, Renewal, differences, newNumbers, renew, OldCells, cellOf, renewals, newCell, newCells}
-use Rattle.logic.specs.inner.Agreement.{AgreeOff}
+use Rattle.logic.specs.inner.Agreement.{AgreeAt, AgreeOn}
 use Rattle.logic.proofs.Lists.{TupleOf, map-below-is}
 use Rattle.logic.proofs.Untouched.{untouched-same}
 use Rattle.logic.proofs.Bound.{LiteralsAtMost, spread, spread-pos, subtreeCells, subtree-count, below-penalties-le}
@@ -103,25 +103,25 @@ either : (b : Bool) (x y z : ℕ) → x ≡ z → (b ≡ false → y ≡ z) → 
 either true x y z h g = h
 either false x y z h g = g refl
 
-module _ (u : ℕ) (u1 : 1 ≤ u) (B : ℕ) (B1 : 1 ≤ B) (ch : Change) (k k′ : Configuration) (agree : AgreeOff ch k k′) (t : OldCells) where
+module _ (u : ℕ) (u1 : 1 ≤ u) (B : ℕ) (B1 : 1 ≤ B) (ch : Change) (k k′ : Configuration) (t : OldCells) where
   abbrev after : Forest → ℕ → ℕ → Tuple → List Renewal
   after = renewals u k′ ch t
 
   -- a cell, from what is known of the cells directly below it
-  new-cell-from : (n : Node) (c : Forest) (b d i : ℕ) (e : Tuple) → LiteralsAtMost B k c i → LiteralsAtMost B k′ c i
+  new-cell-from : (n : Node) (c : Forest) (b d i : ℕ) (e : Tuple) → OfTest (AgreeAt ch k k′) n → AgreeOn ch k k′ c i → LiteralsAtMost B k c i → LiteralsAtMost B k′ c i
       → spread u n * (B * subtreeCells u c) < modulus → t b e ≡ penalty u k n c e
       → oldNumbers (below u n e (after c (b + u ^ d) (childDepth n d))) ≡ below u n e (penalties u k c)
       → newNumbers (below u n e (after c (b + u ^ d) (childDepth n d))) ≡ below u n e (penalties u k′ c)
       → newCell u k′ ch t n c b d e ≡ penalty u k′ n c e
   unfolding newCell penalty
-  new-cell-from n c b d i e low low′ small old o w =
+  new-cell-from n c b d i e agree agrees low low′ small old o w =
       either (touched ch n c e) _ _ _
       (renew-is k k′ n e (t b e) _ (kept-below u n e (after c (b + u ^ d) (childDepth n d)) (kept-renewals u k′ ch t c (b + u ^ d) (childDepth n d)))
       (old ∙ ap (combine k n e) (sym o))
       (subst (λ (l : List ℕ). sum l < modulus) (sym o) (omega (arith, below-penalties-le u B B1 k n c i e low)))
       (subst (λ (l : List ℕ). sum l < modulus) (sym w) (omega (arith, below-penalties-le u B B1 k′ n c i e low′)))
       ∙ ap (combine k′ n e) w)
-      (λ h. old ∙ sym (untouched-same ch u k k′ agree n c e h))
+      (λ h. old ∙ sym (untouched-same ch u k k′ n c i e agree agrees h))
 
   smaller : (n : Node) (c s : Forest) → B * subtreeCells u (tree n c s) < modulus
       → (spread u n * (B * subtreeCells u c) < modulus) × (B * subtreeCells u c < modulus) × (B * subtreeCells u s < modulus)
@@ -132,45 +132,45 @@ module _ (u : ℕ) (u1 : 1 ≤ u) (B : ℕ) (B1 : 1 ≤ B) (ch : Change) (k k′
       (omega arith, omega arith, omega arith)
 
   -- the cells of the trees of a forest: their old and their new numbers
-  renewals-are : (f : Forest) (b d : ℕ) (e : Tuple) → LiteralsAtMost B k f d → LiteralsAtMost B k′ f d → B * subtreeCells u f < modulus
+  renewals-are : (f : Forest) (b d : ℕ) (e : Tuple) → AgreeOn ch k k′ f d → LiteralsAtMost B k f d → LiteralsAtMost B k′ f d → B * subtreeCells u f < modulus
       → HoldsPenalties u k t f b d → TupleOf u d e
       → (oldNumbers (after f b d e) ≡ penalties u k f e) × (newNumbers (after f b d e) ≡ penalties u k′ f e)
-  unfolding renewals newCell newNumbers LiteralsAtMost Every HoldsPenalties penalties penalty
-  renewals-are none b d e low low′ small holds te = (refl, refl)
-  renewals-are (tree n c s) b d e low low′ small holds te =
+  unfolding renewals newCell newNumbers AgreeOn LiteralsAtMost Every HoldsPenalties penalties penalty
+  renewals-are none b d e agree low low′ small holds te = (refl, refl)
+  renewals-are (tree n c s) b d e agree low low′ small holds te =
       let m = smaller n c s small in
-      let r = renewals-are s (siblingFirst u n c b d) d e (low .2) (low′ .2) (m .2) (holds .2) te in
+      let r = renewals-are s (siblingFirst u n c b d) d e (agree .2) (low .2) (low′ .2) (m .2) (holds .2) te in
       let g = after c (b + u ^ d) (childDepth n d) in
       let o = map-below-is (λ (x : Renewal). x .old) u n te g (penalties u k c)
-      (λ x tx. (renewals-are c (b + u ^ d) (childDepth n d) x (low .1) (low′ .1) (m .1) (holds .1) tx) .0) in
+      (λ x tx. (renewals-are c (b + u ^ d) (childDepth n d) x (agree .1) (low .1) (low′ .1) (m .1) (holds .1) tx) .0) in
       let w = map-below-is (λ (x : Renewal). x .new) u n te g (penalties u k′ c)
-      (λ x tx. (renewals-are c (b + u ^ d) (childDepth n d) x (low .1) (low′ .1) (m .1) (holds .1) tx) .1) in
-      (ap₂ _∷_ (holds .0 e te) (r .0), ap₂ _∷_ (new-cell-from n c b d (childDepth n d) e (low .1) (low′ .1) (m .0) (holds .0 e te) o w) (r .1))
+      (λ x tx. (renewals-are c (b + u ^ d) (childDepth n d) x (agree .1) (low .1) (low′ .1) (m .1) (holds .1) tx) .1) in
+      (ap₂ _∷_ (holds .0 e te) (r .0), ap₂ _∷_ (new-cell-from n c b d (childDepth n d) e (agree .0) (agree .1) (low .1) (low′ .1) (m .0) (holds .0 e te) o w) (r .1))
 
   -- of every cell
-  pub new-cell-is : (n : Node) (c s : Forest) (b d : ℕ) (e : Tuple) → LiteralsAtMost B k (tree n c s) d → LiteralsAtMost B k′ (tree n c s) d
+  pub new-cell-is : (n : Node) (c s : Forest) (b d : ℕ) (e : Tuple) → AgreeOn ch k k′ (tree n c s) d → LiteralsAtMost B k (tree n c s) d → LiteralsAtMost B k′ (tree n c s) d
       → B * subtreeCells u (tree n c s) < modulus → HoldsPenalties u k t (tree n c s) b d → TupleOf u d e
       → newCell u k′ ch t n c b d e ≡ penalty u k′ n c e
-  unfolding LiteralsAtMost Every HoldsPenalties newNumbers
-  new-cell-is n c s b d e low low′ small holds te =
+  unfolding AgreeOn LiteralsAtMost Every HoldsPenalties newNumbers
+  new-cell-is n c s b d e agree low low′ small holds te =
       let m = smaller n c s small in
       let g = after c (b + u ^ d) (childDepth n d) in
-      new-cell-from n c b d (childDepth n d) e (low .1) (low′ .1) (m .0) (holds .0 e te)
+      new-cell-from n c b d (childDepth n d) e (agree .0) (agree .1) (low .1) (low′ .1) (m .0) (holds .0 e te)
       (map-below-is (λ (x : Renewal). x .old) u n te g (penalties u k c)
-      (λ x tx. (renewals-are c (b + u ^ d) (childDepth n d) x (low .1) (low′ .1) (m .1) (holds .1) tx) .0))
+      (λ x tx. (renewals-are c (b + u ^ d) (childDepth n d) x (agree .1) (low .1) (low′ .1) (m .1) (holds .1) tx) .0))
       (map-below-is (λ (x : Renewal). x .new) u n te g (penalties u k′ c)
-      (λ x tx. (renewals-are c (b + u ^ d) (childDepth n d) x (low .1) (low′ .1) (m .1) (holds .1) tx) .1))
+      (λ x tx. (renewals-are c (b + u ^ d) (childDepth n d) x (agree .1) (low .1) (low′ .1) (m .1) (holds .1) tx) .1))
 
-  layout-is : (f : Forest) (b d : ℕ) → LiteralsAtMost B k f d → LiteralsAtMost B k′ f d → B * subtreeCells u f < modulus
+  layout-is : (f : Forest) (b d : ℕ) → AgreeOn ch k k′ f d → LiteralsAtMost B k f d → LiteralsAtMost B k′ f d → B * subtreeCells u f < modulus
       → HoldsPenalties u k t f b d → layout u (newCell u k′ ch t) f b d ≡ layout u (λ n c b d e. penalty u k′ n c e) f b d
-  unfolding layout LiteralsAtMost Every HoldsPenalties
-  layout-is none b d low low′ small holds = refl
-  layout-is (tree n c s) b d low low′ small holds =
+  unfolding layout AgreeOn LiteralsAtMost Every HoldsPenalties
+  layout-is none b d agree low low′ small holds = refl
+  layout-is (tree n c s) b d agree low low′ small holds =
       let m = smaller n c s small in
       ap₂ _++_
-      (tabulate-cong (u ^ d) _ _ (λ i l. new-cell-is n c s b d (tupleAt u d i) low low′ small holds (tuple-is u u1 d i l)))
-      (ap₂ _++_ (layout-is c (b + u ^ d) (childDepth n d) (low .1) (low′ .1) (m .1) (holds .1))
-      (layout-is s (siblingFirst u n c b d) d (low .2) (low′ .2) (m .2) (holds .2)))
+      (tabulate-cong (u ^ d) _ _ (λ i l. new-cell-is n c s b d (tupleAt u d i) agree low low′ small holds (tuple-is u u1 d i l)))
+      (ap₂ _++_ (layout-is c (b + u ^ d) (childDepth n d) (agree .1) (low .1) (low′ .1) (m .1) (holds .1))
+      (layout-is s (siblingFirst u n c b d) d (agree .2) (low .2) (low′ .2) (m .2) (holds .2)))
 
 -- a table that begins with a plan's penalties
 pub holds-of : (u : ℕ) → 1 ≤ u → (k : Configuration) (table : List ℕ) (f : Forest) (b d : ℕ)
@@ -192,10 +192,10 @@ holds-of u u1 k table (tree n c s) b d h =
     )
 
 -- True cells stay true.
-pub new-cells-true : (P : Plan) → 1 ≤ P .ports → (B : ℕ) → 1 ≤ B → (ch : Change) (k k′ : Configuration) → AgreeOff ch k k′
+pub new-cells-true : (P : Plan) → 1 ≤ P .ports → (B : ℕ) → 1 ≤ B → (ch : Change) (k k′ : Configuration) → AgreeOn ch k k′ (P .formula) 0
     → LiteralsAtMost B k (P .formula) 0 → LiteralsAtMost B k′ (P .formula) 0 → B * ownCells P < modulus
     → (table : List ℕ) → Stands table 0 (cells P k) → newCells P k′ ch table ≡ cells P k′
 unfolding newCells cells ownCells
 new-cells-true P u1 B B1 ch k k′ agree low low′ small table h =
-    layout-is (P .ports) u1 B B1 ch k k′ agree (cellOf (P .ports) table) (P .formula) 0 0 low low′
+    layout-is (P .ports) u1 B B1 ch k k′ (cellOf (P .ports) table) (P .formula) 0 0 agree low low′
     (rw (subtree-count (P .ports) (P .formula)) small) (holds-of (P .ports) u1 k table (P .formula) 0 0 h)

@@ -1,5 +1,5 @@
 -- Configurations: which ports are in which set, and the size of a set. Paper 01, sections Plan table and One move.
-use mathlib.Core.Bool.{Bool, cond, true, _&&_}
+use mathlib.Core.Bool.{Bool, cond, true, not, _&&_}
 use mathlib.Core.List.{List, [], _∷_}
 use Prim.Native.Nat.{ℕ, zero, suc, _+_, _/_, _%_, _^_}
 use lib.Bits.{bitOr, bitXor}
@@ -24,10 +24,14 @@ unfoldable pub portsIn : ℕ → (ℕ → Bool) → ℕ
 portsIn zero s = 0
 portsIn (suc u) s = portsIn u s + indicator (s u)
 
--- "The configuration is n masks of 64 bits", by the sets that they spell: of n sets over the ports below u, what is in a set and
--- how many ports are.
+-- "the size of a set becomes the number of its members not in test" (02, 2026-05): the members that count.
+unfoldable pub outOfTest : (ℕ → Bool) → (ℕ → Bool) → ℕ → Bool
+outOfTest s test p = s p && not (test p)
+
+-- "The configuration is n masks of 64 bits", and "one further mask, after the sets, names the ports in test" (02, 2026-05), by the
+-- sets that they spell: of n sets over the ports below u, what is in a set, in test or not, and how many of it are not in test.
 unfoldable pub configured : ℕ → ℕ → Sets → Configuration
-configured u n k = record { member = k; size = λ S. portsIn u (k S) }
+configured u n k = record { member = k; size = λ S. portsIn u (outOfTest (k S) (k n)) }
 
 -- The configuration of a plan's sets.
 unfoldable pub configuration : Plan → Sets → Configuration
@@ -40,9 +44,10 @@ inMask mask p = eqb (mask / 2 ^ p % 2) 1
 unfoldable pub inMasks : List ℕ → Sets
 inMasks masks S p = inMask (getD masks S 0) p
 
--- "The configuration is n masks of 64 bits": how many masks n sets have, a plan's own, and the configuration that they spell.
+-- "The configuration is n masks of 64 bits", and "one further mask" (02, 2026-05): how many masks n sets have, a plan's own, and the
+-- configuration that they spell.
 abbrev pub maskCount : ℕ → ℕ
-maskCount n = n
+maskCount n = n + 1
 
 unfoldable pub ownMasks : Plan → ℕ
 ownMasks P = maskCount (P .sets)

@@ -2,6 +2,7 @@ pub mod Cells
 pub mod Change
 pub mod Configuration
 pub mod Formula
+pub mod InTest
 pub mod Known
 pub mod Moves
 pub mod Penalty

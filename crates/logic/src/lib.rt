@@ -3,7 +3,7 @@
 ghost use mathlib.Core.Path.{_≡_};
 ghost use mathlib.Core.Bool.{not};
 ghost use Prim.Native.Nat.{_≤_, _<_, _^_, min};
-ghost use Rattle.logic.specs.Configuration.{indicator, portsIn, inMask, maskCount, withinPorts};
+ghost use Rattle.logic.specs.Configuration.{indicator, portsIn, outOfTest, inMask, maskCount, withinPorts};
 ghost use Rattle.logic.specs.Moves.{noMove};
 ghost use Rattle.logic.specs.inner.Flip.{flipPort};
 
@@ -39,11 +39,11 @@ pub fn has_port(mask: u64, p: u32) -> bool
     (mask >> p) % 2 == 1
 }
 
-// The number of ports in a mask.
-pub fn mask_size(mask: u64) -> u32
-    ensures { λ r. ⌜ (r ≡ portsIn 64 (inMask mask)) × (r ≤ 64) ⌝ }
+// The number of ports in a mask that are not in test.
+pub fn mask_size(mask: u64, test: u64) -> u32
+    ensures { λ r. ⌜ (r ≡ portsIn 64 (outOfTest (inMask mask) (inMask test))) × (r ≤ 64) ⌝ }
 {
-    u64::count_ones(mask)
+    u64::count_ones(mask & (mask ^ test))
 }
 
 // A mask with port p entered if it was out, and out if it was in.
@@ -59,9 +59,10 @@ pub const MASK_ROOM: usize = 17;
 
 // How many masks of its own a plan of so many sets has.
 pub fn own_masks(sets: usize) -> usize
+    requires { ⌜ sets ≤ 16 ⌝ }
     ensures { λ r. ⌜ r ≡ maskCount sets ⌝ }
 {
-    sets
+    sets + 1
 }
 
 // Whether a mask has no port of u or more.

@@ -7,7 +7,7 @@ use native.Mathlib.Omega.{arith}
 use lib.ListN.{take}
 use Rattle.logic.specs.declared.Move.{Move}
 use Rattle.logic.specs.Formula.{Plan}
-use Rattle.logic.specs.Configuration.{inMasks, ownMasks}
+use Rattle.logic.specs.Configuration.{inMasks, ownMasks, maskCount}
 use Rattle.logic.specs.Moves.{legal}
 use Rattle.table_format.specs.Decode.{sound, decode}
 use Rattle.table_format.proofs.Encoding.{decode-sound}
@@ -17,7 +17,7 @@ use Rattle.move_order.specs.declared.Next.{Next}
 use Rattle.logic.specs.inner.MoveFields.{Sized}
 use Rattle.move_order.specs.inner.Stepping.{Begins, BeginsOver, SizedOver, NextOr, GivesNext}
 use Rattle.move_order.proofs.Listing.{candidate-begins}
-use Rattle.move_try.proofs.OpenMove.{facts, same-plan, ports-fit, sets-fit, masks-long}
+use Rattle.call_open.proofs.OpenPlan.{facts, same-plan, ports-fit, sets-fit, masks-long}
 
 pub sized-of : (bytes : List ℕ) (P : Plan) → decode bytes ≡ sound P → Sized (P .ports) (P .sets)
 sized-of bytes P d = plan-sized P (decode-sound bytes P d .rules)
@@ -52,7 +52,7 @@ module _ {ports sets : ℕ} {bytes masks : List ℕ} {shortest : ℕ} {firsts en
       → NextOr (r .found) Q kinds (take (ownMasks Q) masks) m (r .m)
   unfolding GivesNext ownMasks
   gives-here kinds m r g Q d =
-      subst (λ (j : ℕ). NextOr (r .found) Q kinds (take j masks) m (r .m)) (sym (sets-of Q d)) (g Q (ports-of Q d) (sets-of Q d))
+      subst (λ (j : ℕ). NextOr (r .found) Q kinds (take (maskCount j) masks) m (r .m)) (sym (sets-of Q d)) (g Q (ports-of Q d) (sets-of Q d))
 
   pub begins-over : (m : Move) → legal P (inMasks own) m ≡ true → BeginsOver u n m masks
   begins-over m h = record {

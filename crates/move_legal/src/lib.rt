@@ -6,7 +6,7 @@ ghost use mathlib.Core.Path.{_≡_};
 ghost use mathlib.Core.Bool.{not, _&&_};
 ghost use Prim.Native.Nat.{_≤_, _<_};
 ghost use lib.ListN.{length, take};
-ghost use Rattle.logic.specs.Configuration.{inMasks};
+ghost use Rattle.logic.specs.Configuration.{inMasks, maskCount};
 ghost use Rattle.logic.specs.Moves.{fits};
 ghost use Rattle.logic.specs.inner.MoveFields.{Fields, tEnd, qEnd};
 ghost use Rattle.move_legal.specs.inner.Legal.{MoveNumber, MoveReady, Decides, SaysKnown, KnownOver};
@@ -89,7 +89,7 @@ fn in_and_out(here: bool, there: bool) -> bool
 // Whether ground 15 does not apply to a move that 14 does not apply to.
 pub fn fits_move(m: Move, ports: u32, sets: u32, masks: &[u64]) -> bool
     requires { ⌜ KnownOver ports sets m (now masks) ⌝ }
-    ensures { λ r. ⌜ r ≡ fits (inMasks (take sets (now (masks .entry)))) m ⌝ }
+    ensures { λ r. ⌜ r ≡ fits (inMasks (take (maskCount sets) (now (masks .entry)))) m ⌝ }
 {
     let inside = is_in(masks, m.s, m.p);
     if m.kind == 1 {

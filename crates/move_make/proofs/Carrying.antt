@@ -19,7 +19,8 @@ use Rattle.cells_write.specs.inner.Writing.{RootWrites}
 use Rattle.contracts.specs.MoveCall.{cellsAfter}
 use Rattle.contracts.proofs.Within.{named-length}
 use Rattle.move_try.specs.inner.Trying.{LegalMove}
-use Rattle.move_try.proofs.OpenMove.{same-plan, masks-long, masks-made, told, numbers-here}
+use Rattle.call_open.proofs.OpenPlan.{same-plan, masks-long}
+use Rattle.move_try.proofs.OpenMove.{masks-made, told, numbers-here}
 use Rattle.move_make.specs.inner.Carrying.{Carried, Carries}
 
 module _ {ports sets : ℕ} {bytes firsts ends uses masks cells : List ℕ} {m : Move} (move : LegalMove ports sets bytes firsts ends uses masks cells m) where
@@ -47,7 +48,7 @@ module _ {ports sets : ℕ} {bytes firsts ends uses masks cells : List ℕ} {m :
 
     past-is : drop j masks ≡ drop (ownMasks P) masks
     unfolding ownMasks
-    past-is = ap (λ (x : ℕ). drop x masks) (ej ∙ move .tables-open .opened .sets-are)
+    past-is = ap (λ (x : ℕ). drop x masks) (ej ∙ ap maskCount (move .tables-open .opened .sets-are))
 
     -- what the walk gives and writes is what the move does
     pub carried : (c : Changed) → Tells m c → (after : List ℕ) → after ≡ moveMasks P m own → (r : After) (new : List ℕ)

@@ -12,7 +12,7 @@ use lib.Seq.{getD-set-same, getD-set-other, set-set}
 use borrow.Author.Tests.{eqb-false, not-true}
 use Rattle.logic.specs.declared.Move.{Move}
 use Rattle.logic.specs.inner.Flip.{flipPort}
-use Rattle.logic.specs.Configuration.{Sets, inMask, inMasks, enter, leave}
+use Rattle.logic.specs.Configuration.{Sets, inMask, inMasks, enter, leave, maskCount}
 use Rattle.logic.specs.Moves.{moveKind, kindMasks, namedMasks}
 use Rattle.logic.proofs.Lists.{and-left, and-right}
 use Rattle.logic.proofs.Masks.{in-flip-other, enter-flip, leave-flip}
@@ -67,10 +67,10 @@ swap-flips ms S p q l i o =
 -- the masks after each kind of legal move are its pairs' flips
 module _ (ports sets : ℕ) (m : Move) (masks : List ℕ) (L : LegalOver ports sets m masks) where
   abbrev own-sets : Sets
-  own-sets = inMasks (take sets masks)
+  own-sets = inMasks (take (maskCount sets) masks)
 
   here : (p : ℕ) → inMasks masks (m .s) p ≡ own-sets (m .s) p
-  here p = sym (in-own sets masks (m .s) p (L .known-over .fields .s-below))
+  here p = sym (in-own (maskCount sets) masks (m .s) p (omega (arith, L .known-over .fields .s-below)))
 
   transfer-parts : (a b c : Bool) → (a && b && c) ≡ true → (a ≡ true) × (b ≡ true) × (c ≡ true)
   transfer-parts a b c h = let x = and-left (a && b) c h in (and-left a b x, and-right a b x, and-right (a && b) c h)
@@ -81,7 +81,7 @@ module _ (ports sets : ℕ) (m : Move) (masks : List ℕ) (L : LegalOver ports s
       let f = sym (fits-transfer own-sets m e) ∙ L .fitting in
       let r = transfer-parts (not (eqb (m .s) (m .t))) (own-sets (m .s) (m .p)) (not (own-sets (m .t) (m .p))) f in
       sym (transfer-flips masks (m .s) (m .t) (m .p) (eqb-false _ _ (not-true _ (r .0))) (here (m .p) ∙ r .1)
-      (sym (in-own sets masks (m .t) (m .p) (t-used ports sets m (L .known-over .fields) e)) ∙ not-true _ (r .2)))
+      (sym (in-own (maskCount sets) masks (m .t) (m .p) (omega (arith, t-used ports sets m (L .known-over .fields) e))) ∙ not-true _ (r .2)))
       ∙ sym (masks-transfer m masks e)
 
   pub after-swap : m .kind ≡ 4 → flipped (flipped masks (m .s) (m .p)) (m .s) (m .q) ≡ namedMasks m masks

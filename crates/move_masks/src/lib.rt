@@ -23,7 +23,7 @@ pub fn copy_masks(masks: &[u64], sets: usize, out: &mut [u64])
 }
 
 // Port p enters set s if it was out, and leaves it if it was in.
-fn flip_at(masks: &mut [u64], s: u32, p: u32)
+pub fn flip_at(masks: &mut [u64], s: u32, p: u32)
     requires { ⌜ (s < length (now masks)) × (p < 64) ⌝ }
     ensures { λ r. ⌜ now (masks .exit) ≡ set (now (masks .entry)) s (flipPort (getD (now (masks .entry)) s 0) p) ⌝ }
 {

@@ -14,11 +14,7 @@ use Rattle.logic.specs.Cells.{ownCells}
 use Rattle.logic.specs.Moves.{refusal, moveGrounds, namedMasks, moveMasks, movePairs, known, fits, legal}
 use Rattle.logic.specs.Change.{pairsChange, newCells, differing}
 use Rattle.logic.proofs.Lists.{and-left, and-right}
-use Rattle.logic.proofs.Within.{within-at}
 use Rattle.table_format.specs.Decode.{sound, decode}
-use Rattle.table_format.specs.inner.Facts.{PlanFacts}
-use Rattle.table_format.proofs.Encoding.{decode-sound, one-plan}
-use Rattle.table_format.proofs.Facts.{plan-facts}
 use Rattle.cells_touch.specs.declared.Changed.{Changed}
 use Rattle.cells_touch.specs.inner.Hits.{Describes, Tells}
 use Rattle.cells_sum.specs.declared.After.{After}
@@ -26,6 +22,7 @@ use Rattle.cells_walk.specs.inner.Visit.{MasksSettled, CellsFit, TablesLong}
 use Rattle.cells_walk.specs.inner.Root.{RootReady, RootGives}
 use Rattle.call_open.specs.inner.Opening.{OpenPlan}
 use Rattle.call_open.proofs.Opening.{open-longer}
+use Rattle.call_open.proofs.OpenPlan.{facts, own-length, same-plan, ports-fit, sets-fit, masks-long, own-is, masks-ready, change-ready}
 use Rattle.logic.specs.inner.MoveFields.{tEnd, Fields}
 use Rattle.move_legal.specs.inner.Legal.{LegalOver, MoveReady, MoveNumber}
 use Rattle.logic.proofs.MoveFields.{known-fields}
@@ -35,7 +32,7 @@ use Rattle.contracts.proofs.Grounds.{grounds-legal}
 use Rattle.contracts.proofs.Within.{move-within, move-length}
 use Rattle.move_try.specs.inner.Trying.{LegalMove, NumbersAre, GivesNumbers}
 
--- an open plan: its numbers, and a move's number of 14 and 15
+-- an open plan, and a move's number of 14 and 15
 module _ {ports sets : ℕ} {bytes masks : List ℕ} {shortest : ℕ} {firsts ends uses : List ℕ} (opened : OpenPlan ports sets bytes masks shortest firsts ends uses) where
   abbrev P : Plan
   P = opened .plan
@@ -43,35 +40,12 @@ module _ {ports sets : ℕ} {bytes masks : List ℕ} {shortest : ℕ} {firsts en
   abbrev own : List ℕ
   own = take (ownMasks P) masks
 
-  pub facts : PlanFacts P
-  facts = plan-facts P (decode-sound bytes P (opened .decodes) .rules)
-
-  pub own-length : length own ≡ ownMasks P
-  own-length = length-take-le (ownMasks P) masks (opened .own-masks)
-
-  pub same-plan : (Q : Plan) → decode bytes ≡ sound Q → P ≡ Q
-  same-plan Q d = one-plan bytes P Q (decode-sound bytes P (opened .decodes)) (decode-sound bytes Q d)
-
-  pub ports-fit : ports ≤ 64
-  ports-fit = omega (arith, opened .ports-are, facts .ports64)
-
-  pub sets-fit : sets ≤ 16
-  sets-fit = omega (arith, opened .sets-are, facts .sets16)
-
-  pub masks-long : maskCount sets ≤ length masks
-  unfolding ownMasks
-  masks-long = omega (arith, opened .sets-are, opened .own-masks)
-
-  pub own-is : take (maskCount sets) masks ≡ own
-  unfolding ownMasks
-  own-is = ap (λ (j : ℕ). take j masks) (opened .sets-are)
-
   pub move-ready : MoveReady ports sets masks
-  move-ready = record { ports64 = ports-fit; sets16 = sets-fit; own-masks = masks-long }
+  move-ready = record { ports64 = ports-fit opened; sets16 = sets-fit opened; own-masks = omega (arith, masks-long opened) }
 
   pub number-is : (m : Move) (n : ℕ) → MoveNumber ports sets m masks n → n ≡ refusal (moveGrounds P (inMasks own) m)
   unfolding MoveNumber
-  number-is m n number = number P (sym (opened .ports-are)) (sym (opened .sets-are)) ∙ ap (λ (xs : List ℕ). refusal (moveGrounds P (inMasks xs) m)) own-is
+  number-is m n number = number P (sym (opened .ports-are)) (sym (opened .sets-are)) ∙ ap (λ (xs : List ℕ). refusal (moveGrounds P (inMasks xs) m)) (own-is opened)
 
 -- neither 14 nor 15 applies to the move of open tables
 pub legal-move : {ports sets : ℕ} {bytes masks cells : List ℕ} {shortest : ℕ} {firsts ends uses : List ℕ} {m : Move} {n : ℕ}
@@ -106,39 +80,30 @@ module _ {ports sets : ℕ} {bytes firsts ends uses masks cells : List ℕ} {m :
   pub legal-over : (u n : ℕ) → u ≡ ports → n ≡ sets → (xs : List ℕ) → xs ≡ take (maskCount sets) masks → LegalOver u n m xs
   unfolding legal
   legal-over u n eu en xs h =
-      let l : length xs ≡ sets = ap length h ∙ length-take-le sets masks (masks-long opened) in
+      let l : length xs ≡ maskCount sets = ap length h ∙ length-take-le (maskCount sets) masks (masks-long opened) in
       record {
         known-over = record {
           fields = rw (eu ∙ opened .ports-are, en ∙ opened .sets-are) fields;
           ports-high = omega (arith, eu, ports-fit opened);
           masks-enough = omega (arith, en, l);
         };
-        fitting = ap (λ (ys : List ℕ). fits (inMasks ys) m) (take-all n xs (omega (arith, en, l)) ∙ h ∙ own-is opened) ∙ and-right (known Q m) _ (move .is-legal);
+        fitting = ap (λ (ys : List ℕ). fits (inMasks ys) m) (take-all (maskCount n) xs (omega (arith, en, l)) ∙ h ∙ own-is opened) ∙ and-right (known Q m) _ (move .is-legal);
       }
 
   -- its sets, as the words of a change take them
-  pub change-ready : (m .s < 16) × (m .t < 16)
+  pub sets-ready : (m .s < 16) × (m .t < 16)
   unfolding tEnd
-  change-ready = (omega (arith, fields .s-below, facts opened .sets16), below (eqb (m .kind) 3) (fields .t-below))
+  sets-ready = (omega (arith, fields .s-below, facts opened .sets16), below (eqb (m .kind) 3) (fields .t-below))
     where
       below : (b : Bool) → m .t < cond b (Q .sets) 1 → m .t < 16
       below true h = omega (arith, facts opened .sets16)
       below false h = omega arith
 
   -- the masks after the move, as the walk is lent them
-  masks-ready : (after : List ℕ) → after ≡ moveMasks Q m mine → MasksSettled ports sets after
-  unfolding ownMasks
-  masks-ready after h =
-      let l : length after ≡ Q .sets = ap length h ∙ move-length Q m mine ∙ own-length opened in
-      let w : allWithin (Q .ports) after ≡ true =
-      ap (allWithin (Q .ports)) h ∙ move-within Q m mine (move .is-legal) (omega (arith, own-length opened)) (opened .within) in
-      record {
-        ports1 = omega (arith, opened .ports-are, facts opened .ports1);
-        ports64 = ports-fit opened;
-        sets16 = sets-fit opened;
-        masks-long = omega (arith, opened .sets-are, l);
-        within = λ S q. rw (opened .ports-are) (within-at (Q .ports) after w S (omega (arith, opened .sets-are, l)));
-      }
+  masks-settled : (after : List ℕ) → after ≡ moveMasks Q m mine → MasksSettled ports sets after
+  masks-settled after h =
+      masks-ready opened after (ap length h ∙ move-length Q m mine ∙ own-length opened)
+      (ap (allWithin (Q .ports)) h ∙ move-within Q m mine (move .is-legal) (omega (arith, own-length opened)) (opened .within))
 
   -- what the code tells of the move's change
   pub told : (c : Changed) → Tells m c → Describes ports (pairsChange (movePairs Q (inMasks mine) m)) c
@@ -154,19 +119,7 @@ module _ {ports sets : ℕ} {bytes firsts ends uses masks cells : List ℕ} {m :
 
   module _ (c : Changed) (tells : Tells m c) (after : List ℕ) (h : after ≡ moveMasks Q m mine) where
     pub root-ready : RootReady ports sets c bytes firsts ends uses after cells
-    root-ready = record {
-      plan = Q;
-      decodes = opened .decodes;
-      ports-are = opened .ports-are;
-      sets-are = opened .sets-are;
-      indexed = opened .indexed;
-      long = move .tables-open .long;
-      change = pairsChange (movePairs Q (inMasks mine) m);
-      says = told c tells;
-      masks-settled = masks-ready after h;
-      cells-fit = move .tables-open .cells-fit;
-      own-cells = opened .own-cells;
-    }
+    root-ready = change-ready (move .tables-open) (pairsChange (movePairs Q (inMasks mine) m)) c (told c tells) after (masks-settled after h)
 
     -- the walk's three numbers are those of the move
     pub numbers-here : (r : After) → RootGives ports c bytes after cells r → NumbersAre Q mine (take (ownCells Q) cells) m r

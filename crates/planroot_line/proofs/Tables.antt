@@ -25,7 +25,7 @@ use Rattle.call_read.proofs.Reading.{sets-encoded}
 use Rattle.planroot_print.specs.declared.Line.{Line}
 use Rattle.planroot_print.specs.declared.Line.the-variants.{Refusal}
 use Rattle.planroot_line.specs.Loading.{loadLine}
-use Rattle.planroot_line.specs.Line.{readLine, textLine, tableRoom, cellRoom, zeros}
+use Rattle.planroot_line.specs.Line.{noneInTest, readLine, textLine, tableRoom, cellRoom, zeros}
 
 -- a text that is admitted into one table is admitted into every table that has room for its plan
 admitted-into : {u : ℕ} {s : List ℕ} {n : ℕ} (A : Admitted u s n) (m : ℕ) → tableLength (planOf u (A .sets) (A .tree)) ≤ m → Admitted u s m
@@ -80,7 +80,7 @@ same-loaded P ms cells cells′ e = go (ground (length cells)) ∙ ap (λ (n : �
 
 module _ (u : ℕ) (ms s : List ℕ) where
   planLine : Plan → List ℕ → Line
-  planLine P cells = pick (eqb (length ms) (P .sets)) (loadLine (loads (sound P) (tables ms cells) .0)) (Refusal 0)
+  planLine P cells = pick (eqb (length ms) (P .sets)) (loadLine (loads (sound P) (tables (noneInTest ms) cells) .0)) (Refusal 0)
 
   text-accepted : (B cells : List ℕ) (A : Admitted u s (length B)) → textLine u ms s B cells ≡ planLine (admittedPlan A) cells
   unfolding textLine readLine planLine
@@ -89,8 +89,8 @@ module _ (u : ℕ) (ms s : List ℕ) where
       let O = reads u s B .1 in
       let sets : setsField O ≡ P .sets = ap (λ (q : ReadValues × List ℕ). setsField (q .1)) (admitted-read u s B A) ∙ sets-encoded P (drop (tableLength P) B) in
       ap (λ (q : ReadValues × List ℕ). readLine (q .0) O ms cells) (admitted-read u s B A)
-      ∙ ap (λ (n : ℕ). pick (eqb (length ms) n) (loadLine (loads (decode O) (tables ms cells) .0)) (Refusal 0)) sets
-      ∙ ap (λ (d : Decoded). pick (eqb (length ms) (P .sets)) (loadLine (loads d (tables ms cells) .0)) (Refusal 0)) (read-decodes u s B A)
+      ∙ ap (λ (n : ℕ). pick (eqb (length ms) n) (loadLine (loads (decode O) (tables (noneInTest ms) cells) .0)) (Refusal 0)) sets
+      ∙ ap (λ (d : Decoded). pick (eqb (length ms) (P .sets)) (loadLine (loads d (tables (noneInTest ms) cells) .0)) (Refusal 0)) (read-decodes u s B A)
 
   pub same-text-line : (B B′ cells cells′ : List ℕ) → length B ≡ length B′ → length cells ≡ length cells′ → textLine u ms s B cells ≡ textLine u ms s B′ cells′
   unfolding textLine planLine admittedPlan admitted-into
@@ -106,7 +106,7 @@ module _ (u : ℕ) (ms s : List ℕ) where
           let A′ = admitted-into A (length B′) (rw (← b) (A .fits)) in
           let P = admittedPlan A in
           text-accepted B cells A
-          ∙ ap (λ (x : LoadValues). pick (eqb (length ms) (P .sets)) (loadLine x) (Refusal 0)) (same-loaded P ms cells cells′ c)
+          ∙ ap (λ (x : LoadValues). pick (eqb (length ms) (P .sets)) (loadLine x) (Refusal 0)) (same-loaded P (noneInTest ms) cells cells′ c)
           ∙ sym (text-accepted B′ cells′ A′)
 
 -- Tables of these lengths that hold anything give the line of the definition.

@@ -1,5 +1,5 @@
 -- What planroot prints for an input: paper 01, section Known plans.
-use mathlib.Core.List.{List}
+use mathlib.Core.List.{List, [], _∷_, _++_}
 use Prim.Native.Nat.{ℕ}
 use lib.Dec.{eqb}
 use lib.ListN.{length, replicate}
@@ -14,12 +14,16 @@ use Rattle.planroot_print.specs.declared.Line.{Line}
 use Rattle.planroot_print.specs.declared.Line.the-variants.{Refusal}
 use Rattle.planroot_line.specs.Loading.{loadLine}
 
+-- "`planroot` takes that mask as 0" (paper 02, request 2026-05): the input's masks, and no port in test.
+unfoldable pub noneInTest : List ℕ → List ℕ
+noneInTest ms = ms ++ 0 ∷ []
+
 -- "N is 0 [..], after the reading's own refusals, if the masks aren't one a set": the line for what reading answers, by its
 -- number, and the table that reading left, with the masks and the cells.
 unfoldable pub readLine : ReadValues → List ℕ → List ℕ → List ℕ → Line
 readLine v table ms cells =
     pick (eqb (v .number) 0)
-    (pick (eqb (length ms) (setsField table)) (loadLine (loads (decode table) (tables ms cells) .0)) (Refusal 0))
+    (pick (eqb (length ms) (setsField table)) (loadLine (loads (decode table) (tables (noneInTest ms) cells) .0)) (Refusal 0))
     (Refusal (v .number))
 
 -- The line for a text: it is read into the table, and what that answers and leaves decides.

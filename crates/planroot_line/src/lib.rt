@@ -3,6 +3,9 @@ use call_load::load;
 use call_read::read;
 use contracts::Answer;
 use contracts::Loaded;
+use logic::MASK_ROOM;
+use logic::own_masks;
+use move_masks::copy_masks;
 use planroot_input::Scan;
 use planroot_input::close;
 use planroot_print::Line;
@@ -26,7 +29,7 @@ fn load_line(answer: Loaded) -> Line
     }
 }
 
-// Loads a plan that was read, if the masks, of which there are `count`, are one a set.
+// Loads a plan that was read, if the masks, of which there are `count`, are one a set; no port is in test.
 fn plan_line(count: usize, masks: &[u64], table: &[u8], cells: &mut [u32]) -> Line
     requires { ⌜ PlanTables (now masks) (now table) ⌝ }
     ensures { λ r. ⌜ LinesPlan count (now (masks .entry)) (now (table .entry)) (now (cells .entry)) r ⌝ }
@@ -35,7 +38,10 @@ fn plan_line(count: usize, masks: &[u64], table: &[u8], cells: &mut [u32]) -> Li
     if count != n {
         return Line::Refusal(0);
     }
-    load_line(load(table, &masks[0..n], cells))
+    let mut own = [0u64; MASK_ROOM];
+    copy_masks(masks, n, &mut own);
+    let end = own_masks(n);
+    load_line(load(table, &own[0..end], cells))
 }
 
 // Reads the text and loads its plan.

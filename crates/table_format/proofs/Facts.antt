@@ -7,10 +7,10 @@ use lib.Dec.{ltb}
 use borrow.Author.Tests.{leb-true, ltb-true}
 use Rattle.logic.specs.inner.MoveFields.{Sized}
 use Rattle.logic.specs.Formula.{Test, isin, notin, port, size, Node, root, all, any, and, or, lit, Forest, none, tree, Plan, childDepth}
-use Rattle.logic.specs.inner.Literals.{Every, OfLiteral, OfTest, VariablesBelow, VariablesBound, ConstantLow, ConstantsLow}
+use Rattle.logic.specs.inner.Literals.{Every, OfLiteral, OfTest, VariablesBelow, VariablesBound, ConstantLow, ConstantsLow, SetBelow, SetsBelow}
 use Rattle.logic.proofs.Lists.{and-left, and-right}
 use Rattle.table_format.specs.Rules.{everyNode, testRule, literalRule, innerRule, nodeRule, planRule}
-use Rattle.table_format.specs.inner.Facts.{SetBelow, SetsBelow, PlanFacts}
+use Rattle.table_format.specs.inner.Facts.{PlanFacts}
 use Rattle.table_format.proofs.Rooted.{every-node, rooted, RootedIs, rooted-nodes, rooted-cells, is-rooted, rooted-is}
 
 -- a rule that follows from each test's holds of every node below the root, and of the root

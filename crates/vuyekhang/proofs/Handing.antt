@@ -14,7 +14,7 @@ use Rattle.contracts.specs.declared.Moved.{Moved}
 use Rattle.contracts.specs.declared.Improved.{Improved}
 use Rattle.contracts.specs.declared.Counted.{Counted}
 use Rattle.contracts.specs.Load.{LoadValues, loadValues, LoadPromise}
-use Rattle.contracts.specs.MoveCall.{MoveValues, moveValues, MovedAs, moves, movesJournaled, MovePromise}
+use Rattle.contracts.specs.MoveCall.{MoveValues, moveValues, MovedAs, MadeAs, moves, movesJournaled, MovePromise}
 use Rattle.contracts.specs.TrialCall.{ScratchAfter}
 use Rattle.contracts.specs.ImproveCall.{ImproveValues, improveValues, improves, improvesJournaled, ImprovePromise}
 use Rattle.contracts.specs.UndoCall.{undoes, undoesJournaled}
@@ -30,7 +30,7 @@ use Rattle.answers.specs.declared.MoveAnswer.{MoveAnswer}
 use Rattle.answers.specs.declared.ImproveAnswer.{ImproveAnswer}
 use Rattle.answers.specs.declared.CountAnswer.{CountAnswer}
 use Rattle.answers.specs.Boundary.{ReadFields, ReadGives, LoadFields, LoadGives, CountFields, WriteGives}
-use Rattle.answers.specs.Moving.{MoveFields, MoveGives, TrialGives, ImproveFields, ImproveGives, ListGives}
+use Rattle.answers.specs.Moving.{MoveFields, MoveGives, TestGives, TrialGives, ImproveFields, ImproveGives, ListGives}
 
 -- an answer handed on field by field
 pub read-gives : (a : Answer) (t : List ℕ) (given : ReadValues × List ℕ) (r : ReadAnswer)
@@ -61,6 +61,9 @@ pub undo-gives : (d : Decoded) (m : Move) (s s′ : State) (records : List Move)
 undo-gives d m s s′ records count count′ a r e p f =
     let q = undo-held d s s′ records (length records) count count′ refl m a (sym e) p in
     record { fields = subst (λ (v : MoveValues). MoveFields v r) (q .0) f; lent-are = q .1 }
+
+pub test-gives : (given : MoveValues × State) (a : Moved) (s′ : State) (r : MoveAnswer) → MadeAs given a s′ → MoveFields (moveValues a) r → TestGives given r s′
+test-gives given a s′ r p f = record { fields = subst (λ (v : MoveValues). MoveFields v r) (p .answers .values-are) f; tables-are = p .tables-are }
 
 -- the number that scratch is held to is the struct's own
 pub trial-gives : (d : Decoded) (given : MoveValues) (scratch scratch′ : List ℕ) (a : Moved) (r : MoveAnswer)

@@ -18,6 +18,7 @@ use call_load::load;
 use call_move::make_move;
 use call_node::node_bounds;
 use call_read::read;
+use call_test::port_test;
 use call_trial::trial;
 use call_undo::undo;
 use call_write::write;
@@ -28,6 +29,7 @@ use journal_rules::chosen_of;
 use journal_rules::newest_place;
 use journal_rules::record_place;
 use logic::Move;
+ghost use mathlib.Core.Bool.{true, false};
 ghost use lib.ListN.{length};
 ghost use Rattle.table_format.specs.Decode.{decode};
 ghost use Rattle.contracts.specs.Read.{reads};
@@ -40,9 +42,10 @@ ghost use Rattle.contracts.specs.TrialCall.{trials};
 ghost use Rattle.contracts.specs.ImproveCall.{improvesJournaled};
 ghost use Rattle.contracts.specs.BestCall.{lists};
 ghost use Rattle.contracts.specs.UndoCall.{undoesJournaled};
+ghost use Rattle.contracts.specs.TestCall.{tests};
 ghost use Rattle.contracts.specs.NodeCells.{PartGives};
 ghost use Rattle.answers.specs.Boundary.{ReadGives, LoadGives, WriteGives};
-ghost use Rattle.answers.specs.Moving.{MoveGives, TrialGives, ImproveGives, ListGives};
+ghost use Rattle.answers.specs.Moving.{MoveGives, TestGives, TrialGives, ImproveGives, ListGives};
 
 // Reads a plan text and writes its plan table.
 #[no_mangle]
@@ -109,6 +112,34 @@ pub extern "C" fn vk_trial(
     ensures { λ r. ⌜ TrialGives (decode (now (table .entry))) (trials (decode (now (table .entry))) m (tables (now (masks .entry)) (now (cells .entry))) (length (now (scratch .entry)))) r (now (scratch .entry)) (now (scratch .exit)) ⌝ }
 {
     let a = trial(table, masks, cells, scratch, m);
+    move_fields(a)
+}
+
+// Puts a port in test.
+#[no_mangle]
+pub extern "C" fn vk_test_begin(
+    table: &[u8],
+    masks: &mut [u64],
+    cells: &mut [u32],
+    port: u32,
+) -> MoveAnswer
+    ensures { λ r. ⌜ TestGives (tests (decode (now (table .entry))) true port (tables (now (masks .entry)) (now (cells .entry)))) r (tables (now (masks .exit)) (now (cells .exit))) ⌝ }
+{
+    let a = port_test(table, masks, cells, true, port);
+    move_fields(a)
+}
+
+// Takes a port out of test.
+#[no_mangle]
+pub extern "C" fn vk_test_end(
+    table: &[u8],
+    masks: &mut [u64],
+    cells: &mut [u32],
+    port: u32,
+) -> MoveAnswer
+    ensures { λ r. ⌜ TestGives (tests (decode (now (table .entry))) false port (tables (now (masks .entry)) (now (cells .entry)))) r (tables (now (masks .exit)) (now (cells .exit))) ⌝ }
+{
+    let a = port_test(table, masks, cells, false, port);
     move_fields(a)
 }
 

@@ -3,7 +3,7 @@
 use vuyekhang::raw::{self, CountAnswer, ImproveAnswer, LoadAnswer, MoveAnswer, ReadAnswer};
 use vuyekhang::{Kinds, Moved, Refusal};
 
-use crate::calls::{Calls, Improved, Journal, Loaded, Move, Numbers, Read};
+use crate::calls::{Calls, Improved, Journal, Loaded, Move, Numbers, Read, Test};
 use crate::lent::{only_read, written};
 
 pub fn read(u: u64, text: &[u8], table: &mut [u8]) -> Result<Read, u32> {
@@ -35,6 +35,17 @@ pub fn make_move(
     numbers(vuyekhang::make_move(table, masks, cells, journal, count, record(m)))
 }
 
+pub fn undo(table: &[u8], masks: &mut [u64], cells: &mut [u32], journal: &Records, count: &mut usize) -> Result<Numbers, u32> {
+    numbers(vuyekhang::undo(table, masks, cells, journal, count))
+}
+
+pub fn test(table: &[u8], masks: &mut [u64], cells: &mut [u32], call: Test, port: u32) -> Result<Numbers, u32> {
+    numbers(match call {
+        Test::Begin => vuyekhang::test_begin(table, masks, cells, port),
+        Test::End => vuyekhang::test_end(table, masks, cells, port),
+    })
+}
+
 pub fn trial(table: &[u8], masks: &[u64], cells: &[u32], scratch: &mut [u32], m: &Move) -> Result<Numbers, u32> {
     numbers(vuyekhang::trial(table, masks, cells, scratch, record(m)))
 }
@@ -55,7 +66,8 @@ pub fn improve(
     }
 }
 
-fn record(m: &Move) -> vuyekhang::Move {
+/// A move as the binding has it.
+pub fn record(m: &Move) -> vuyekhang::Move {
     vuyekhang::Move { kind: m.kind, s: m.s, t: m.t, p: m.p, q: m.q }
 }
 
@@ -150,10 +162,21 @@ impl Calls for Archive {
 
     fn undo(&self, table: &[u8], masks: &mut [u64], cells: &mut [u32], journal: &mut Journal) -> Result<Numbers, u32> {
         let (mut ms, mut cs, own, mut raw_count) = (masks.to_vec(), cells.to_vec(), records(&journal.records), journal.count);
-        let mut over = |j: &Records, count: &mut usize| lend(table, masks, cells, |t, ms, cs| vuyekhang::undo(t, ms, cs, j, count));
-        let answer = numbers(lend_count(&mut journal.count, |count| only_read(&own, RECORD, |j| over(j, count))));
+        let mut over = |j: &Records, count: &mut usize| lend(table, masks, cells, |t, ms, cs| undo(t, ms, cs, j, count));
+        let answer = lend_count(&mut journal.count, |count| only_read(&own, RECORD, |j| over(j, count)));
         let fields = raw::undo(table, &mut ms, &mut cs, &own, &mut raw_count);
         assert_eq!(fields, move_fields(answer), "the fields of undo");
+        answer
+    }
+
+    fn test(&self, table: &[u8], masks: &mut [u64], cells: &mut [u32], call: Test, port: u32) -> Result<Numbers, u32> {
+        let (mut ms, mut cs) = (masks.to_vec(), cells.to_vec());
+        let answer = lend(table, masks, cells, |t, ms, cs| test(t, ms, cs, call, port));
+        let fields = match call {
+            Test::Begin => raw::test_begin(table, &mut ms, &mut cs, port),
+            Test::End => raw::test_end(table, &mut ms, &mut cs, port),
+        };
+        assert_eq!(fields, move_fields(answer), "the fields of {call:?} of port {port}");
         answer
     }
 

@@ -46,7 +46,14 @@ pub enum Improved {
     NoBetter(u32),
 }
 
-/// The calls over tables that a list is made of.
+/// Which of the two calls of request 2026-05: a port is put in test, or taken out.
+#[derive(Debug, Clone, Copy, PartialEq, Eq)]
+pub enum Test {
+    Begin,
+    End,
+}
+
+/// The calls over tables that a list is made of. Masks are one for each set, then that of the ports in test.
 pub trait Calls {
     fn make_move(&self, table: &[u8], masks: &mut [u64], cells: &mut [u32], journal: &mut Journal, m: &Move) -> Result<Numbers, u32>;
     fn undo(&self, table: &[u8], masks: &mut [u64], cells: &mut [u32], journal: &mut Journal) -> Result<Numbers, u32>;
@@ -60,6 +67,7 @@ pub trait Calls {
         journal: &mut Journal,
         kinds: u32,
     ) -> Result<Improved, u32>;
+    fn test(&self, table: &[u8], masks: &mut [u64], cells: &mut [u32], call: Test, port: u32) -> Result<Numbers, u32>;
     /// Answers how many moves it has listed.
     fn best_moves(
         &self,

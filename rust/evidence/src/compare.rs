@@ -4,12 +4,13 @@ use vuyekhang::raw::{self, Part};
 
 use crate::archive::{load, load_fields, Archive};
 use crate::best::{compare_best, wanted_ties, Given};
-use crate::calls::Loaded;
+use crate::calls::{Calls, Loaded};
 use crate::counts::Counts;
 use crate::damage::{Damage, Target};
 use crate::forest::{any_plan, damage_plan};
+use crate::in_test::{self, any_call, any_test, compare_test, edge_ports, wanted_tests, Asked};
 use crate::lent::{same, Compared, Lent};
-use crate::random::{any_bytes, any_kinds, damage_table, masks, Random};
+use crate::random::{any_bytes, any_kinds, damage_table, masks, put_outside, too_few_masks, Random};
 use crate::reading::{compare_read, one_text};
 use crate::second::formula::RELATIONS;
 use crate::second::moves::{legal_moves, tables};
@@ -30,13 +31,12 @@ struct Tables {
 fn tables_for(plan: &Plan, table: Vec<u8>, r: &mut Random) -> Tables {
     let mut own = masks(r, plan.u, plan.n);
     if plan.u < 64 && r.chance(8) {
-        let set = r.below(plan.n);
-        own[set] |= 1 << (plan.u + r.below(64 - plan.u));
+        put_outside(r, &mut own, plan.u, plan.n);
     }
     // Past the plan's own masks even a port of u or more plays no part.
     own.extend((0..r.below(3)).map(|_| r.word()));
     if r.chance(4) {
-        own.truncate(r.below(plan.n));
+        own.truncate(too_few_masks(r, plan.n));
     }
     let total = plan.cells();
     let length = if r.chance(4) { r.below(total) } else { total + r.below(4) };
@@ -64,7 +64,30 @@ fn one_load(t: &Tables, r: &mut Random, counts: &mut Counts, damage: &mut Damage
     }
     counts.met(expected.as_ref().map_or_else(|n| format!("load {n}"), |_| "load accepted".to_string()));
     (0..3).try_for_each(|_| one_part(&t.table, cells.part(), r, counts))?;
+    tests(t, r, counts, damage)?;
     one_best(t, r, counts)
+}
+
+/// Puts ports in test or takes them out, over the tables as they were before the load: the cells hold anything. A call of a port at the
+/// edge, and one of any port, where there is a plan to choose it for.
+fn tests(t: &Tables, r: &mut Random, counts: &mut Counts, damage: &mut Damage) -> Compared<()> {
+    let plan = decode(&t.table);
+    if plan.as_ref().is_some_and(|plan| plan.cells() > OFTEN) {
+        return Ok(());
+    }
+    let at_edge = (any_call(r), edge_ports(plan.as_ref().map_or(64, |plan| plan.u))[r.below(7)]);
+    let any = plan.map(|plan| any_test(&plan, &t.masks, r));
+    any.into_iter().chain([at_edge]).try_for_each(|asked| one_test(t, asked, r, counts, damage))
+}
+
+fn one_test(t: &Tables, asked: Asked, r: &mut Random, counts: &mut Counts, damage: &mut Damage) -> Compared<()> {
+    let (mut masks, mut cells) = (t.masks.clone(), t.cells.clone());
+    let mut given = in_test::Given { table: &t.table, masks: &mut masks, cells: &mut cells, over: " over any cells" };
+    let by = |g: &mut in_test::Given, (call, port): Asked| {
+        let answer = Archive.test(g.table, g.masks, g.cells, call, port);
+        damage.test(g, port, answer, r)
+    };
+    compare_test(&mut given, asked, by, counts)
 }
 
 /// The most cells, over all moves that it tries, which the second evaluator works out for a list of best moves.
@@ -237,6 +260,7 @@ pub fn missed(counts: &Counts) -> Vec<String> {
     wanted.push(("loads of many cells".to_string(), 20));
     wanted.extend((11..=14).chain([16]).map(|n| (format!("best moves over any cells: refused {n}"), 100)));
     wanted.push(("best moves over any cells: listed".to_string(), 100));
+    wanted.extend(wanted_tests(" over any cells", &[11, 12, 13, 14, 20]));
     wanted.extend(wanted_ties());
     wanted.extend(wanted_writings());
     wanted.extend(["broken table", "short cells", "no such node", "a part"].map(|c| (format!("node cells: {c}"), 100)));

@@ -2,8 +2,8 @@
 use crate::calls::{Journal, Move};
 use crate::forest::damage_plan;
 use crate::journals;
-use crate::random::{damage_table, masks as random_masks, spare, text, twin, Random};
-use crate::second::moves::legal_moves;
+use crate::random::{damage_table, masks as random_masks, put_outside, spare, text, too_few_masks, twin, Random};
+use crate::second::moves::{legal_moves, own_masks};
 use crate::second::penalty::cells as cells_of;
 use crate::second::plan::Plan;
 use crate::second::table::{decode, encode};
@@ -61,7 +61,7 @@ pub fn desk(r: &mut Random, sizes: std::ops::RangeInclusive<usize>) -> Desk {
         let mut cells = cells_of(&plan, &masks);
         let foreign = r.chance(30);
         if foreign {
-            cells.iter_mut().for_each(|c| *c = if r.chance(50) { r.word() as u32 } else { *c });
+            scatter(&mut cells, r);
         }
         masks.extend((0..r.below(3)).map(|_| r.word()));
         cells.extend((0..r.below(4)).map(|_| r.word() as u32));
@@ -105,22 +105,34 @@ pub fn lend_scratch(d: &mut Desk, r: &mut Random) {
     d.scratch = (0..length).map(|_| r.word() as u32).collect();
 }
 
-/// The tables of a list with damage done: too short, a port of u or more, or a plan table with any change, which may leave it sound.
+/// Where a list's cells are foreign, half of them hold any number again at times: else a literal does so only until it is first
+/// touched, and what a call touches shows nowhere else.
+pub fn lend_foreign(d: &mut Desk, r: &mut Random) {
+    if d.foreign && r.chance(30) {
+        scatter(&mut d.cells, r);
+    }
+}
+
+fn scatter(cells: &mut [u32], r: &mut Random) {
+    cells.iter_mut().for_each(|c| *c = if r.chance(50) { r.word() as u32 } else { *c });
+}
+
+/// The tables of a list with damage done: too short, a port of u or more in a set or in test, or a plan table with any change, which may leave it sound.
 /// Half of them come with a journal that no list has made.
 pub fn damaged(d: &Desk, r: &mut Random) -> Desk {
     let mut b = Desk { foreign: true, over: " over damaged tables", ..d.clone() };
     match r.below(7) {
         0 => b.table.truncate(r.below(b.table.len())),
-        1 => b.masks.truncate(r.below(d.plan.n)),
+        1 => b.masks.truncate(too_few_masks(r, d.plan.n)),
         2 => b.cells.truncate(r.below(d.plan.cells())),
-        3 | 4 if d.plan.u < 64 => b.masks[r.below(d.plan.n)] |= 1 << (d.plan.u + r.below(64 - d.plan.u)),
+        3 | 4 if d.plan.u < 64 => put_outside(r, &mut b.masks, d.plan.u, d.plan.n),
         5 => b.table = encode(&damage_plan(&d.plan, r)),
         _ => damage_table(&mut b.table, r),
     }
     if let Some(plan) = decode(&b.table) {
         // Half of the plans that came of it get the masks and cells that they ask for.
         if r.chance(50) && plan.cells() <= 2 * MOST_CELLS {
-            b.masks.resize(b.masks.len().max(plan.n), 0);
+            b.masks.resize(b.masks.len().max(own_masks(&plan)), 0);
             b.cells.resize(b.cells.len().max(plan.cells()), 7);
         }
         b.plan = plan;

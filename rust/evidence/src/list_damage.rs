@@ -1,14 +1,16 @@
 //! Lists of calls with damage done: one bit that a call leaves is changed, and the comparison must report it.
 use std::cell::{Cell, RefCell};
 
-use crate::calls::{Calls, Improved, Journal, Move, Numbers};
+use crate::calls::{Calls, Improved, Journal, Move, Numbers, Test};
 use crate::counts::Counts;
+use crate::damage::other_answer;
 use crate::lists::{one_list, SHORT};
 use crate::random::Random;
 use crate::second::table::decode;
 
 /// What the damaging mode changes after one call of a list. Of the best moves: a record that was listed, one that must stay as it
-/// was, or the count. Of the journal: a record, above the count or below, or the record count.
+/// was, or the count. Of the journal: a record, above the count or below, or the record count. `InTest`: the mask in test after an undo
+/// or a call that changes it. `TestCell`, `TestAnswer`: what such a call leaves and answers.
 #[derive(Debug, Clone, Copy, PartialEq)]
 pub enum Hit {
     Cell,
@@ -20,11 +22,26 @@ pub enum Hit {
     Count,
     Record,
     RecordCount,
+    InTest,
+    TestCell,
+    TestAnswer,
 }
 
 /// Every one of them.
-pub const HITS: [Hit; 9] =
-    [Hit::Cell, Hit::Mask, Hit::Scratch, Hit::Answer, Hit::Listed, Hit::Kept, Hit::Count, Hit::Record, Hit::RecordCount];
+pub const HITS: [Hit; 12] = [
+    Hit::Cell,
+    Hit::Mask,
+    Hit::Scratch,
+    Hit::Answer,
+    Hit::Listed,
+    Hit::Kept,
+    Hit::Count,
+    Hit::Record,
+    Hit::RecordCount,
+    Hit::InTest,
+    Hit::TestCell,
+    Hit::TestAnswer,
+];
 
 /// The calls of `inner`, with one bit changed after the first call from number `from` on that leaves such a thing to change.
 pub struct Damaging<'a> {
@@ -47,24 +64,34 @@ impl Damaging<'_> {
         self.left.set(self.left.get().saturating_sub(1));
     }
 
-    fn tables(&self, masks: &mut [u64], cells: &mut [u32]) {
-        let mut r = self.random.borrow_mut();
-        if self.turn(Hit::Cell, cells.len()) {
-            cells[r.below(cells.len())] ^= 1 << r.below(32);
-        }
-        if self.turn(Hit::Mask, masks.len()) {
+    fn mask(&self, hit: Hit, masks: &mut [u64]) {
+        if self.turn(hit, masks.len()) {
+            let mut r = self.random.borrow_mut();
             masks[r.below(masks.len())] ^= 1 << r.below(64);
         }
+    }
+
+    fn cell(&self, hit: Hit, cells: &mut [u32]) {
+        if self.turn(hit, cells.len()) {
+            let mut r = self.random.borrow_mut();
+            cells[r.below(cells.len())] ^= 1 << r.below(32);
+        }
+    }
+
+    fn tables(&self, masks: &mut [u64], cells: &mut [u32]) {
+        self.cell(Hit::Cell, cells);
+        self.mask(Hit::Mask, masks);
+    }
+
+    fn in_test(&self, table: &[u8], masks: &mut [u64]) {
+        let own = decode(table).and_then(|plan| masks.get_mut(plan.n..=plan.n));
+        self.mask(Hit::InTest, own.unwrap_or_default());
     }
 
     /// What an accepted call leaves in the plan's own part of scratch is free.
     fn scratch(&self, table: &[u8], scratch: &mut [u32], accepted: bool) {
         let from = if accepted { decode(table).map_or(0, |p| p.cells()) } else { 0 };
-        let kept = &mut scratch[from..];
-        if self.turn(Hit::Scratch, kept.len()) {
-            let mut r = self.random.borrow_mut();
-            kept[r.below(kept.len())] ^= 1 << r.below(32);
-        }
+        self.cell(Hit::Scratch, &mut scratch[from..]);
     }
 
     fn bit(&self) -> u32 {
@@ -91,18 +118,16 @@ impl Damaging<'_> {
         }
     }
 
+    fn answer(&self, hit: Hit, answer: Result<Numbers, u32>) -> Result<Numbers, u32> {
+        if self.turn(hit, 1) {
+            other_answer(answer, &mut self.random.borrow_mut())
+        } else {
+            answer
+        }
+    }
+
     fn numbers(&self, answer: Result<Numbers, u32>) -> Result<Numbers, u32> {
-        if !self.turn(Hit::Answer, 1) {
-            return answer;
-        }
-        let mut r = self.random.borrow_mut();
-        let bit = 1 << r.below(32);
-        match (answer, r.below(3)) {
-            (Err(number), _) => Err(number ^ bit),
-            (Ok(n), 0) => Ok(Numbers { before: n.before ^ bit, ..n }),
-            (Ok(n), 1) => Ok(Numbers { after: n.after ^ bit, ..n }),
-            (Ok(n), _) => Ok(Numbers { changed: n.changed ^ bit, ..n }),
-        }
+        self.answer(Hit::Answer, answer)
     }
 }
 
@@ -119,8 +144,18 @@ impl Calls for Damaging<'_> {
         self.called();
         let answer = self.inner.undo(table, masks, cells, journal);
         self.tables(masks, cells);
+        self.in_test(table, masks);
         self.journal(journal);
         self.numbers(answer)
+    }
+
+    fn test(&self, table: &[u8], masks: &mut [u64], cells: &mut [u32], call: Test, port: u32) -> Result<Numbers, u32> {
+        self.called();
+        let answer = self.inner.test(table, masks, cells, call, port);
+        self.tables(masks, cells);
+        self.in_test(table, masks);
+        self.cell(Hit::TestCell, cells);
+        self.answer(Hit::TestAnswer, self.numbers(answer))
     }
 
     fn trial(&self, table: &[u8], masks: &[u64], cells: &[u32], scratch: &mut [u32], m: &Move) -> Result<Numbers, u32> {

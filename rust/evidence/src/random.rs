@@ -365,16 +365,42 @@ pub fn any_bytes(r: &mut Random, count: usize) -> Vec<u8> {
     (0..count).map(|_| r.word() as u8).collect()
 }
 
-/// Masks of n sets within u ports, sparse, dense or even.
+/// A plan's own masks: n sets within u ports, sparse, dense or even, then the ports in test: none, one, all or any.
 pub fn masks(r: &mut Random, u: usize, n: usize) -> Vec<u64> {
     let within = if u == 64 { u64::MAX } else { (1 << u) - 1 };
-    let mut one = || match r.below(4) {
+    let mut all: Vec<u64> = (0..n).map(|_| any_mask(r)).collect();
+    all.push(match r.below(6) {
+        0 => 0,
+        1 => 1 << r.below(u),
+        2 => u64::MAX,
+        _ => any_mask(r),
+    });
+    all.iter_mut().for_each(|mask| *mask &= within);
+    all
+}
+
+/// Fewer masks than n sets and the ports in test have; often those of the sets alone.
+pub fn too_few_masks(r: &mut Random, n: usize) -> usize {
+    if r.chance(50) {
+        n
+    } else {
+        r.below(n)
+    }
+}
+
+/// Puts a port of u or more into a set or, as often, among the ports in test.
+pub fn put_outside(r: &mut Random, masks: &mut [u64], u: usize, n: usize) {
+    let mask = if r.chance(50) { n } else { r.below(n) };
+    masks[mask] |= 1 << (u + r.below(64 - u));
+}
+
+fn any_mask(r: &mut Random) -> u64 {
+    match r.below(4) {
         0 => r.word() & r.word() & r.word(),
         1 => r.word() | r.word() | r.word(),
         2 => 0,
         _ => r.word(),
-    };
-    (0..n).map(|_| one() & within).collect()
+    }
 }
 
 /// One change to a plan table: a field of a record or of the header, its length, or the order of its records.

@@ -1,6 +1,6 @@
 //! The binding's own part: each ground by its name, moves and kinds with any fields, and answers that no version gives today.
 use vuyekhang::raw::{CountAnswer, ImproveAnswer, LoadAnswer, MoveAnswer, ReadAnswer};
-use vuyekhang::{best_moves, improve, load, make_move, read, trial, undo, write};
+use vuyekhang::{best_moves, improve, load, make_move, read, test_begin, test_end, trial, undo, write};
 use vuyekhang::{Improved, Kinds, Loaded, Move, Moved, Read, Refusal, MOST_RECORDS, MOST_TABLE, MOST_TEXT, READ_STACK};
 
 const PLAN_A: &[u8] = b"[STI] @x (x:I <-> x:S & x:T) & #I <= 1";
@@ -42,10 +42,11 @@ fn grounds_of_the_host() {
     assert_eq!(refused(65, "[S] #S < 1"), Refusal::WrongPortCount);
     assert_eq!(read(3, PLAN_A, &mut [0; 120]), Err(Refusal::TooShort));
     let table = plan_a();
-    assert_eq!(load(&table[1..], &[3, 7, 1], &mut [0; CELLS]), Err(Refusal::BrokenTable));
-    assert_eq!(load(&table, &[3, 7, 1], &mut [0; CELLS - 1]), Err(Refusal::TooShort));
-    assert_eq!(load(&table, &[3, 7], &mut [0; CELLS]), Err(Refusal::TooShort));
-    assert_eq!(load(&table, &[3, 8, 1], &mut [0; CELLS]), Err(Refusal::PortOutsidePlan));
+    assert_eq!(load(&table[1..], &[3, 7, 1, 0], &mut [0; CELLS]), Err(Refusal::BrokenTable));
+    assert_eq!(load(&table, &[3, 7, 1, 0], &mut [0; CELLS - 1]), Err(Refusal::TooShort));
+    assert_eq!(load(&table, &[3, 7, 1], &mut [0; CELLS]), Err(Refusal::TooShort));
+    assert_eq!(load(&table, &[3, 8, 1, 0], &mut [0; CELLS]), Err(Refusal::PortOutsidePlan));
+    assert_eq!(load(&table, &[3, 7, 1, 8], &mut [0; CELLS]), Err(Refusal::PortOutsidePlan));
     assert_eq!(write(&table[1..], &mut [0; MOST_TEXT]), Err(Refusal::BrokenTable));
     assert_eq!(write(&table, &mut [0; 57]), Err(Refusal::TooShort));
     assert_eq!(write(&table, &mut [0; 58]), Ok(58));
@@ -66,7 +67,7 @@ fn a_plan_without_a_text() {
 
 #[test]
 fn grounds_of_the_operator() {
-    let (table, mut masks, mut cells, mut scratch) = (plan_a(), [3, 7, 1], [0; CELLS], [0; CELLS]);
+    let (table, mut masks, mut cells, mut scratch) = (plan_a(), [3, 7, 1, 0], [0; CELLS], [0; CELLS]);
     assert_eq!(load(&table, &masks, &mut cells), Ok(Loaded { root: 1, cells: CELLS }));
     let (mut journal, mut count) = ([Move::default(); 2], 0);
     let mut made = |m: Move| make_move(&table, &mut masks, &mut cells, &mut journal, &mut count, m);
@@ -91,7 +92,7 @@ fn grounds_of_the_operator() {
 /// A journal of one record, full and empty by turns.
 #[test]
 fn grounds_of_the_journal() {
-    let (table, mut masks, mut cells, mut scratch) = (plan_a(), [3, 7, 1], [0; CELLS], [0; CELLS]);
+    let (table, mut masks, mut cells, mut scratch) = (plan_a(), [3, 7, 1, 0], [0; CELLS], [0; CELLS]);
     load(&table, &masks, &mut cells).expect("plan A is sound");
     let (mut journal, mut count) = ([Move::default()], 0);
     assert_eq!(undo(&table, &mut masks, &mut cells, &journal, &mut count), Err(Refusal::JournalEmpty));
@@ -99,7 +100,7 @@ fn grounds_of_the_journal() {
     assert_eq!(make_move(&table, &mut masks, &mut cells, &mut journal, &mut count, Move::drop(1, 1)), Err(Refusal::JournalFull));
     let answer = improve(&table, &mut masks, &mut cells, &mut scratch, &mut journal, &mut count, Kinds::DROP);
     assert_eq!(answer, Err(Refusal::JournalFull));
-    assert_eq!((masks, journal, count), ([3, 7, 5], [Move::add(2, 2)], 1));
+    assert_eq!((masks, journal, count), ([3, 7, 5, 0], [Move::add(2, 2)], 1));
     for past in [2, MOST_RECORDS + 1, usize::MAX] {
         count = past;
         assert_eq!(make_move(&table, &mut masks, &mut cells, &mut journal, &mut count, Move::drop(1, 1)), Err(Refusal::TooShort));
@@ -108,20 +109,41 @@ fn grounds_of_the_journal() {
     }
     count = 1;
     assert!(undo(&table, &mut masks, &mut cells, &journal, &mut count).is_ok());
-    assert_eq!((masks, journal, count), ([3, 7, 1], [Move::add(2, 2)], 0));
+    assert_eq!((masks, journal, count), ([3, 7, 1, 0], [Move::add(2, 2)], 0));
     assert_eq!([Refusal::JournalFull, Refusal::JournalEmpty].map(|refusal| refusal.number()), [18, 19]);
+}
+
+/// A port goes into test and out of it, with each ground in between.
+#[test]
+fn grounds_of_a_test() {
+    let (table, mut masks, mut cells) = (plan_a(), [3, 7, 3, 0], [0; CELLS]);
+    assert_eq!(load(&table, &masks, &mut cells), Ok(Loaded { root: 1, cells: CELLS }));
+    assert_eq!(test_end(&table, &mut masks, &mut cells, 1), Err(Refusal::AlreadyInCondition));
+    assert_eq!(test_begin(&table, &mut masks, &mut cells, 1), Ok(Moved { before: 1, after: 0, changed: 3 }));
+    assert_eq!(masks, [3, 7, 3, 2]);
+    assert_eq!(test_begin(&table, &mut masks, &mut cells, 1), Err(Refusal::AlreadyInCondition));
+    assert_eq!(test_begin(&table[1..], &mut masks, &mut cells, 1), Err(Refusal::BrokenTable));
+    assert_eq!(test_begin(&table, &mut masks[..3], &mut cells, 1), Err(Refusal::TooShort));
+    assert_eq!(test_begin(&table, &mut [3, 7, 3, 10], &mut cells, 1), Err(Refusal::PortOutsidePlan));
+    for unknown in [3, 64, u32::MAX] {
+        assert_eq!(test_begin(&table, &mut masks, &mut cells, unknown), Err(Refusal::UnknownMove));
+        assert_eq!(test_end(&table, &mut masks, &mut cells, unknown), Err(Refusal::UnknownMove));
+    }
+    assert_eq!(test_end(&table, &mut masks, &mut cells, 1), Ok(Moved { before: 0, after: 1, changed: 3 }));
+    assert_eq!(masks, [3, 7, 3, 0]);
+    assert_eq!(Refusal::AlreadyInCondition.number(), 20);
 }
 
 #[test]
 fn a_move_of_each_kind() {
     let (table, mut scratch) = (plan_a(), [0; CELLS]);
     for (m, after) in [
-        (Move::add(2, 2), [3, 7, 5]),
-        (Move::drop(1, 1), [3, 5, 1]),
-        (Move::transfer(1, 2, 1), [3, 5, 3]),
-        (Move::swap(0, 1, 2), [5, 7, 1]),
+        (Move::add(2, 2), [3, 7, 5, 0]),
+        (Move::drop(1, 1), [3, 5, 1, 0]),
+        (Move::transfer(1, 2, 1), [3, 5, 3, 0]),
+        (Move::swap(0, 1, 2), [5, 7, 1, 0]),
     ] {
-        let (mut masks, mut cells) = ([3, 7, 1], [0; CELLS]);
+        let (mut masks, mut cells) = ([3, 7, 1, 0], [0; CELLS]);
         load(&table, &masks, &mut cells).expect("plan A is sound");
         let tried = trial(&table, &masks, &cells, &mut scratch, m);
         let (mut journal, mut count) = ([Move::default(); 1], 0);
@@ -132,7 +154,7 @@ fn a_move_of_each_kind() {
         assert_eq!((masks, moved.before, moved.after, made), (after, 1, loaded.root, cells), "{m:?}");
         let undone = undo(&table, &mut masks, &mut cells, &journal, &mut count);
         assert_eq!(undone, Ok(Moved { before: moved.after, after: 1, changed: moved.changed }));
-        assert_eq!((masks, journal, count), ([3, 7, 1], [m], 0));
+        assert_eq!((masks, journal, count), ([3, 7, 1, 0], [m], 0));
     }
 }
 
@@ -140,7 +162,7 @@ fn a_move_of_each_kind() {
 fn sums_of_kinds() {
     let table = plan_a();
     let improved = |kinds: Kinds| {
-        let (mut masks, mut cells, mut scratch) = ([3, 7, 1], [0; CELLS], [0; CELLS]);
+        let (mut masks, mut cells, mut scratch) = ([3, 7, 1, 0], [0; CELLS], [0; CELLS]);
         load(&table, &masks, &mut cells).expect("plan A is sound");
         let (mut journal, mut count) = ([Move::default(); 1], 0);
         improve(&table, &mut masks, &mut cells, &mut scratch, &mut journal, &mut count, kinds).expect("the kinds are known")
@@ -156,7 +178,7 @@ fn sums_of_kinds() {
 /// The order of moves is that of the list.
 #[test]
 fn best_moves_in_order() {
-    let (table, masks, mut cells, mut scratch) = (plan_a(), [1, 7, 1], [0; CELLS], [0; CELLS]);
+    let (table, masks, mut cells, mut scratch) = (plan_a(), [1, 7, 1, 0], [0; CELLS], [0; CELLS]);
     load(&table, &masks, &mut cells).expect("plan A is sound");
     let mut list = [Move::default(); 8];
     let count = best_moves(&table, &masks, &cells, &mut scratch, Kinds::ALL, &mut list).expect("8 are enough");
@@ -169,19 +191,19 @@ fn best_moves_in_order() {
 #[test]
 fn numbers_and_meanings() {
     let refusal = |number: u32| ReadAnswer { number, nodes: 0, cells: 0 }.typed().expect_err("a number other than 0");
-    let meanings: std::collections::BTreeSet<String> = (1..=19).map(|n| refusal(n).to_string()).collect();
-    assert_eq!(meanings.len(), 19);
+    let meanings: std::collections::BTreeSet<String> = (1..=20).map(|n| refusal(n).to_string()).collect();
+    assert_eq!(meanings.len(), 20);
     for number in (1..40).chain([u32::MAX]) {
         assert_eq!(refusal(number).number(), number);
         assert!(refusal(number).to_string().starts_with(&format!("refused ({number}): ")));
-        assert_eq!(matches!(refusal(number), Refusal::Other { .. }), number > 19);
+        assert_eq!(matches!(refusal(number), Refusal::Other { .. }), number > 20);
     }
-    assert_eq!(refusal(20).to_string(), "refused (20): a ground that this version does not name");
-    assert_eq!(LoadAnswer { number: 20, root: 0, cells: 0 }.typed(), Err(refusal(20)));
-    assert_eq!(MoveAnswer { number: 20, before: 0, after: 0, changed: 0 }.typed(), Err(refusal(20)));
+    assert_eq!(refusal(21).to_string(), "refused (21): a ground that this version does not name");
+    assert_eq!(LoadAnswer { number: 21, root: 0, cells: 0 }.typed(), Err(refusal(21)));
+    assert_eq!(MoveAnswer { number: 21, before: 0, after: 0, changed: 0 }.typed(), Err(refusal(21)));
     let chosen = Move::default();
-    assert_eq!(ImproveAnswer { number: 20, found: 0, chosen, before: 0, after: 0, changed: 0 }.typed(), Err(refusal(20)));
-    assert_eq!(CountAnswer { number: 20, count: 0 }.typed(), Err(refusal(20)));
+    assert_eq!(ImproveAnswer { number: 21, found: 0, chosen, before: 0, after: 0, changed: 0 }.typed(), Err(refusal(21)));
+    assert_eq!(CountAnswer { number: 21, count: 0 }.typed(), Err(refusal(21)));
     assert_eq!(CountAnswer { number: 0, count: 21_504 }.typed(), Ok(21_504));
 }
 
@@ -190,8 +212,8 @@ fn a_table_may_be_cut_to_its_length() {
     let mut table = [0; MOST_TABLE];
     let plan = read(3, PLAN_A, &mut table).expect("plan A is read");
     assert_eq!(plan.table_len(), 121);
-    assert!(load(&table[..121], &[3, 7, 1], &mut [0; CELLS]).is_ok());
-    assert_eq!(load(&table[..120], &[3, 7, 1], &mut [0; CELLS]), Err(Refusal::BrokenTable));
+    assert!(load(&table[..121], &[3, 7, 1, 0], &mut [0; CELLS]).is_ok());
+    assert_eq!(load(&table[..120], &[3, 7, 1, 0], &mut [0; CELLS]), Err(Refusal::BrokenTable));
 }
 
 /// The deepest texts of each sign, on a thread that has only the stack that `read` asks for.

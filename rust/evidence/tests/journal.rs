@@ -61,11 +61,16 @@ fn plan() -> Plan {
     read(3, TEXT.as_bytes(), usize::MAX).expect("the text is sound").plan
 }
 
-/// The tables with these masks and a journal of some length with so many records, of which none fits the masks.
-fn tables(masks: [u64; 2], length: usize, count: usize) -> Tables {
-    let plan = plan();
+/// The masks of two sets, with no port in test.
+fn masks_of([s, t]: [u64; 2]) -> Vec<u64> {
+    vec![s, t, 0]
+}
+
+/// The tables with these sets and a journal of some length with so many records, of which none fits them.
+fn tables(sets: [u64; 2], length: usize, count: usize) -> Tables {
+    let (plan, masks) = (plan(), masks_of(sets));
     let journal = Journal { records: vec![STOOD; length], count };
-    Tables { table: encode(&plan), cells: cells(&plan, &masks), masks: masks.to_vec(), journal }
+    Tables { table: encode(&plan), cells: cells(&plan, &masks), masks, journal }
 }
 
 /// A plan that is true, and one that a move mends.
@@ -143,7 +148,7 @@ fn full_comes_last() {
             assert!(matches!(room.improve(calls, 15), Ok(Improved::Made(m, Numbers { before: 1, after: 0, .. })) if m == better));
             assert_eq!((room.journal.records[count - 1], room.journal.count), (better, count));
             assert_eq!(room.undo(calls).map(|numbers| numbers.after), Ok(1));
-            assert_eq!((room.masks, room.journal.count), (MENDED.to_vec(), count - 1));
+            assert_eq!((room.masks, room.journal.count), (masks_of(MENDED), count - 1));
         }
     }
 }
@@ -157,7 +162,7 @@ fn counts_past_the_journal() {
         let past = tables(TRUE, length, count);
         assert_eq!(past.refusals(calls, &DROP, 15), [12; 3], "{count} records in {length}");
         assert_eq!(past.refusals(calls, &UNKNOWN, 0), [12; 3]);
-        let outside = Tables { masks: vec![1, 8], ..past.clone() };
+        let outside = Tables { masks: vec![1, 8, 0], ..past.clone() };
         assert_eq!(outside.refusals(calls, &DROP, 15), [12; 3]);
         let broken = Tables { table: past.table[1..].to_vec(), ..past };
         assert_eq!(broken.refusals(calls, &DROP, 15), [11; 3]);
@@ -174,8 +179,8 @@ fn empty_comes_after_the_masks() {
         let mut fits = empty.clone();
         fits.journal.records.iter_mut().for_each(|m| *m = Move { kind: 1, ..DROP });
         assert_eq!(undone(&fits), Err(19));
-        assert_eq!(undone(&Tables { masks: vec![8, 1], ..empty.clone() }), Err(13));
-        assert_eq!(undone(&Tables { masks: vec![1], ..empty.clone() }), Err(12));
+        assert_eq!(undone(&Tables { masks: vec![8, 1, 0], ..empty.clone() }), Err(13));
+        assert_eq!(undone(&Tables { masks: vec![1, 1], ..empty.clone() }), Err(12));
         assert_eq!(undone(&Tables { cells: empty.cells[1..].to_vec(), ..empty.clone() }), Err(12));
         assert_eq!(undone(&Tables { table: empty.table[1..].to_vec(), ..empty.clone() }), Err(11));
     }
@@ -190,10 +195,10 @@ fn foreign_records() {
         .flat_map(|kind| fields(2).flat_map(move |s| fields(2).map(move |t| (kind, s, t))))
         .flat_map(|(kind, s, t)| fields(3).flat_map(move |p| fields(3).map(move |q| Move { kind, s, t, p, q })))
         .collect();
-    for masks in [TRUE, MENDED, [0, 0], [7, 7], [6, 3]] {
+    for sets in [TRUE, MENDED, [0, 0], [7, 7], [6, 3]] {
         let mut met = [0; 3];
         for record in &all {
-            let mut foreign = tables(masks, 4, 2);
+            let mut foreign = tables(sets, 4, 2);
             foreign.journal.records[1] = *record;
             let [by_archive, by_second] = BOTH.map(|calls| {
                 let mut t = foreign.clone();
@@ -207,7 +212,7 @@ fn foreign_records() {
             assert_eq!(after == foreign, answer.is_err());
             met[answer.map_or_else(|number| number as usize - 13, |_| 0)] += 1;
         }
-        let legal = legal_moves(&plan(), &masks, 15).len();
+        let legal = legal_moves(&plan(), &masks_of(sets), 15).len();
         // Of the known records the adds and drops are 6 each, the transfers 12 and the swaps 18.
         assert_eq!(met, [legal, all.len() - 42, 42 - legal], "accepted, 14 and 15");
     }
@@ -222,13 +227,13 @@ fn moves_of_improve_are_taken_back() {
         let transfer = Move { kind: 3, s: 1, t: 0, p: 2, q: 0 };
         let swap = Move { kind: 4, s: 0, t: 0, p: 2, q: 1 };
         assert!(t.make(calls, &transfer).is_ok() && t.make(calls, &swap).is_ok());
-        assert_eq!(t.masks, [2, 1]);
+        assert_eq!(t.masks, [2, 1, 0]);
         let Ok(Improved::Made(chosen, _)) = t.improve(calls, 15) else { panic!("some move is better") };
         assert_eq!(t.journal, Journal { records: vec![transfer, swap, chosen], count: 3 });
         assert!(t.undo(calls).is_ok());
-        assert_eq!(t.masks, [2, 1]);
+        assert_eq!(t.masks, [2, 1, 0]);
         assert!(t.undo(calls).is_ok());
-        assert_eq!(t.masks, [4, 1]);
+        assert_eq!(t.masks, [4, 1, 0]);
         assert!(t.undo(calls).is_ok());
         assert_eq!((t.masks, t.cells, t.journal.count), (start.masks, start.cells, 0));
     }

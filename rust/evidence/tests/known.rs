@@ -41,10 +41,10 @@ fn number(u: u64, text: &str) -> u32 {
 
 #[test]
 fn plan_a() {
-    assert_eq!(root(3, PLAN_A, &[3, 7, 1]), (1, 34));
+    assert_eq!(root(3, PLAN_A, &[3, 7, 1, 0]), (1, 34));
     let plan = accepted(3, PLAN_A).plan;
     assert_eq!(plan.nodes.len(), 14);
-    let own = cells(&plan, &[3, 7, 1]);
+    let own = cells(&plan, &[3, 7, 1, 0]);
     assert_eq!(own[3..6], [0, 1, 0]);
     assert_eq!(own[30..34], [1, 1, 1, 0]);
     assert_eq!(node_cells(&encode(&plan), &own, 10), [0, 1, 1]);
@@ -59,7 +59,7 @@ fn room() -> Journal {
 #[test]
 fn plan_b() {
     let plan = accepted(3, PLAN_A).plan;
-    let mut masks = [3, 7, 1];
+    let mut masks = [3, 7, 1, 0];
     let mut own = cells(&plan, &masks);
     let drop = Move { kind: 2, s: 1, t: 0, p: 1, q: 0 };
     let is_touched = |node: usize, t: &Vec<usize>| pairs(&drop).iter().any(|pair| touched(&plan, node, t, *pair));
@@ -68,7 +68,7 @@ fn plan_b() {
     let mut journal = room();
     let answer = make_move(&encode(&plan), &mut masks, &mut own, &mut journal, &drop);
     assert_eq!(answer, Ok(Numbers { before: 1, after: 0, changed: 8 }));
-    assert_eq!((masks, journal.count, journal.records), ([3, 5, 1], 1, vec![drop, STOOD, STOOD, STOOD]));
+    assert_eq!((masks, journal.count, journal.records), ([3, 5, 1, 0], 1, vec![drop, STOOD, STOOD, STOOD]));
     assert_eq!(own, cells(&plan, &masks));
 }
 
@@ -76,7 +76,7 @@ fn plan_b() {
 fn plan_b_by_the_archive() {
     let plan = accepted(3, PLAN_A).plan;
     let table = encode(&plan);
-    let mut masks = [3, 7, 1];
+    let mut masks = [3, 7, 1, 0];
     let mut own = cells(&plan, &masks);
     let mut scratch = vec![9; own.len()];
     let drop = Move { kind: 2, s: 1, t: 0, p: 1, q: 0 };
@@ -85,13 +85,13 @@ fn plan_b_by_the_archive() {
     assert_eq!(Archive.trial(&table, &masks, &own, &mut scratch[1..], &drop), Err(12));
     let mut journal = room();
     assert_eq!(Archive.make_move(&table, &mut masks, &mut own, &mut journal, &drop), Ok(numbers));
-    assert_eq!((masks, &own), ([3, 5, 1], &cells(&plan, &masks)));
+    assert_eq!((masks, &own), ([3, 5, 1, 0], &cells(&plan, &masks)));
     assert_eq!(Archive.make_move(&table, &mut masks, &mut own, &mut journal, &drop), Err(15));
     assert_eq!(Archive.improve(&table, &mut masks, &mut own, &mut scratch, &mut journal, 15), Ok(Improved::NoBetter(0)));
     assert_eq!(Archive.improve(&table, &mut masks, &mut own, &mut scratch, &mut journal, 16), Err(14));
     let undone = Numbers { before: 0, after: 1, changed: 8 };
     assert_eq!(Archive.undo(&table, &mut masks, &mut own, &mut journal), Ok(undone));
-    assert_eq!((masks, &own), ([3, 7, 1], &cells(&plan, &masks)));
+    assert_eq!((masks, &own), ([3, 7, 1, 0], &cells(&plan, &masks)));
     assert_eq!(Archive.undo(&table, &mut masks, &mut own, &mut journal), Err(19));
 }
 
@@ -140,7 +140,7 @@ fn best_of(u: u64, text: &str, masks: &[u64], kinds: u32, expected: &[Move], roo
 /// In plan A's masks port 1 is in S and T and not in I. Where no move of a kind mends that, those that do no harm are listed.
 #[test]
 fn best_moves_of_plan_a() {
-    let best = |kinds: u32, expected: &[Move], root: u32| best_of(3, PLAN_A, &[3, 7, 1], kinds, expected, root);
+    let best = |kinds: u32, expected: &[Move], root: u32| best_of(3, PLAN_A, &[3, 7, 1, 0], kinds, expected, root);
     best(15, &[drop(0, 1), drop(1, 1)], 0);
     best(1, &[add(2, 1)], 1);
     best(4, &[transfer(1, 0, 2)], 1);
@@ -151,37 +151,37 @@ fn best_moves_of_plan_a() {
 /// The state that examples/plan.c lists: the plan is true and stays so. With every port everywhere none can be added.
 #[test]
 fn best_moves_of_a_true_plan() {
-    best_of(3, PLAN_A, &[1, 7, 1], 15, &[drop(1, 1), drop(1, 2), transfer(1, 0, 1), transfer(1, 0, 2)], 0);
-    best_of(3, PLAN_A, &[7, 7, 7], 1, &[], 0);
+    best_of(3, PLAN_A, &[1, 7, 1, 0], 15, &[drop(1, 1), drop(1, 2), transfer(1, 0, 1), transfer(1, 0, 2)], 0);
+    best_of(3, PLAN_A, &[7, 7, 7, 0], 1, &[], 0);
 }
 
 /// Moves of two kinds mend a plan; the kind comes first in the order. Sets that occur alike are told apart by their number.
 #[test]
 fn equally_good_moves_of_two_kinds() {
-    best_of(2, "[ST] #S >= 1", &[0, 1], 15, &[add(0, 0), add(0, 1), transfer(1, 0, 0)], 0);
-    best_of(2, "[ST] #S >= 1", &[0, 1], 12, &[transfer(1, 0, 0)], 0);
-    best_of(2, "[STI] #S < 1 & #T < 1", &[2, 2, 1], 15, &[drop(0, 1), drop(1, 1), transfer(0, 2, 1), transfer(1, 2, 1)], 1);
+    best_of(2, "[ST] #S >= 1", &[0, 1, 0], 15, &[add(0, 0), add(0, 1), transfer(1, 0, 0)], 0);
+    best_of(2, "[ST] #S >= 1", &[0, 1, 0], 12, &[transfer(1, 0, 0)], 0);
+    best_of(2, "[STI] #S < 1 & #T < 1", &[2, 2, 1, 0], 15, &[drop(0, 1), drop(1, 1), transfer(0, 2, 1), transfer(1, 2, 1)], 1);
 }
 
 /// "Improve makes the first of the best."
 #[test]
 fn improve_makes_the_first() {
     let plan = accepted(3, PLAN_A).plan;
-    let (table, mut masks) = (encode(&plan), [3, 7, 1]);
+    let (table, mut masks) = (encode(&plan), [3, 7, 1, 0]);
     let mut own = cells(&plan, &masks);
     let best = best_moves(&table, &masks, &own, own.len(), 15).expect("plan A is sound");
     let expected = Improved::Made(drop(0, 1), Numbers { before: 1, after: 0, changed: 8 });
     assert_eq!(improved(&best, own[0]), expected);
     assert_eq!(improved(&best, 0), Improved::NoBetter(0));
     assert_eq!(Archive.improve(&table, &mut masks, &mut own.clone(), &mut own, &mut room(), 15), Ok(expected));
-    assert_eq!(masks, [1, 7, 1]);
+    assert_eq!(masks, [1, 7, 1, 0]);
 }
 
 /// "Moves are ordered by kind, S, T, p, q, smaller first."
 #[test]
 fn legal_moves_rise() {
     let plan = accepted(5, "[STI] #S < 1").plan;
-    let all = legal_moves(&plan, &[3, 21, 14], 15);
+    let all = legal_moves(&plan, &[3, 21, 14, 0], 15);
     let key = |m: &Move| [m.kind, m.s, m.t, m.p, m.q];
     assert!(all.windows(2).all(|two| key(&two[0]) < key(&two[1])));
     assert_eq!([1, 2, 3, 4].map(|kind| all.iter().filter(|m| m.kind == kind).count()), [7, 8, 10, 18]);
@@ -192,7 +192,7 @@ fn legal_moves_rise() {
 fn most_moves() {
     let plan = accepted(64, "[ABCDEFGHIJKLMNOP] #A <= 64").plan;
     let (even, odd) = (u64::MAX / 3, u64::MAX / 3 * 2);
-    let masks: Vec<u64> = (0..16).map(|s| if s % 2 == 0 { even } else { odd }).collect();
+    let masks: Vec<u64> = (0..16).map(|s| if s % 2 == 0 { even } else { odd }).chain([0]).collect();
     let (table, own) = (encode(&plan), cells(&plan, &masks));
     let all = legal_moves(&plan, &masks, 15);
     assert_eq!(all.len(), MOST_MOVES);
@@ -208,7 +208,7 @@ fn most_moves() {
 fn wide_fields_are_not_cut() {
     let plan = accepted(3, PLAN_A).plan;
     let table = encode(&plan);
-    let mut masks = [3, 7, 1];
+    let mut masks = [3, 7, 1, 0];
     let mut own = cells(&plan, &masks);
     let drop = Move { kind: 2, s: 1, t: 0, p: 1, q: 0 };
     for more in [1 << 8, 1 << 16, 1 << 31] {
@@ -230,21 +230,21 @@ fn wide_fields_are_not_cut() {
 
 #[test]
 fn plans_c_to_i() {
-    assert_eq!(root(2, "[ST] @x (x/S | x:T) & ?x (x:T & x/S)", &[1, 1]).0, 1);
-    assert_eq!(root(1, "[S] ?x x:S", &[0]).0, 1);
-    assert_eq!(root(1, "[S] ?x x:S", &[1]).0, 0);
-    assert_eq!(root(64, "[S] #S < 0", &[0]).0, 1);
-    assert_eq!(root(64, "[S] #S > 64", &[u64::MAX]).0, 1);
-    assert_eq!(root(64, "[S] #S = 2", &[0]).0, 2);
-    assert_eq!(root(64, "[S] #S = 2", &[15]).0, 2);
-    assert_eq!(root(64, "[S] #S != 2", &[3]).0, 1);
+    assert_eq!(root(2, "[ST] @x (x/S | x:T) & ?x (x:T & x/S)", &[1, 1, 0]).0, 1);
+    assert_eq!(root(1, "[S] ?x x:S", &[0, 0]).0, 1);
+    assert_eq!(root(1, "[S] ?x x:S", &[1, 0]).0, 0);
+    assert_eq!(root(64, "[S] #S < 0", &[0, 0]).0, 1);
+    assert_eq!(root(64, "[S] #S > 64", &[u64::MAX, 0]).0, 1);
+    assert_eq!(root(64, "[S] #S = 2", &[0, 0]).0, 2);
+    assert_eq!(root(64, "[S] #S = 2", &[15, 0]).0, 2);
+    assert_eq!(root(64, "[S] #S != 2", &[3, 0]).0, 1);
 }
 
 #[test]
 fn large_plans() {
     let sixteen = format!("[S] @x @y ({})", ["x:S"; 16].join(" & "));
-    assert_eq!(root(64, &sixteen, &[0]).0, 65_536);
-    assert_eq!(root(64, "[S] @x @y @z (x:S & z:S)", &[1]).1, 790_594);
+    assert_eq!(root(64, &sixteen, &[0, 0]).0, 65_536);
+    assert_eq!(root(64, "[S] @x @y @z (x:S & z:S)", &[1, 0]).1, 790_594);
     assert_eq!(number(64, "[S] @x @y @z (x:S & y:S & z:S)"), 9);
 }
 
@@ -263,7 +263,7 @@ fn refusals() {
 #[test]
 fn outermost_counts_most() {
     let plan = accepted(3, "[S] @x @y (x < y | x:S)").plan;
-    let own = cells(&plan, &[0]);
+    let own = cells(&plan, &[0, 0]);
     let compare = plan.nodes.iter().position(|n| n.kind == 7).expect("it compares ports");
     assert_eq!(node_cells(&encode(&plan), &own, compare), [1, 0, 0, 1, 1, 0, 1, 1, 1]);
 }

@@ -1,6 +1,6 @@
 //! The driver of lists of calls reports a journal that is not kept by the rules of request 2026-03 of paper 02: each mistake stands in
 //! the place of the second evaluator, and so does none.
-use evidence::calls::{Calls, Improved, Journal, Move, Numbers};
+use evidence::calls::{Calls, Improved, Journal, Move, Numbers, Test};
 use evidence::counts::Counts;
 use evidence::lists::{run, Second};
 use evidence::second::journal::{full, opposite, past, MOST};
@@ -133,6 +133,10 @@ impl Calls for Wrong {
             _ => {}
         }
         answer
+    }
+
+    fn test(&self, table: &[u8], masks: &mut [u64], cells: &mut [u32], call: Test, port: u32) -> Result<Numbers, u32> {
+        Second.test(table, masks, cells, call, port)
     }
 
     fn trial(&self, table: &[u8], masks: &[u64], cells: &[u32], scratch: &mut [u32], m: &Move) -> Result<Numbers, u32> {

@@ -1,7 +1,7 @@
 //! The driver of lists of calls: no difference where the second evaluator stands on both sides, and a difference for each mistake
 //! that paper 01 says must be shut out, and for what request 2026-01 of paper 02 no longer leaves free. Mistakes of the journal are in
-//! `list_journal.rs`.
-use evidence::calls::{Calls, Improved, Journal, Move, Numbers};
+//! `list_journal.rs`, those of ports in test in `list_in_test.rs`.
+use evidence::calls::{Calls, Improved, Journal, Move, Numbers, Test};
 use evidence::counts::Counts;
 use evidence::lists::{run, Second};
 use evidence::second::moves::{best_moves, improved};
@@ -48,6 +48,10 @@ impl Calls for Wrong {
 
     fn undo(&self, table: &[u8], masks: &mut [u64], cells: &mut [u32], journal: &mut Journal) -> Result<Numbers, u32> {
         Second.undo(table, masks, cells, journal)
+    }
+
+    fn test(&self, table: &[u8], masks: &mut [u64], cells: &mut [u32], call: Test, port: u32) -> Result<Numbers, u32> {
+        Second.test(table, masks, cells, call, port)
     }
 
     fn trial(&self, table: &[u8], masks: &[u64], cells: &[u32], scratch: &mut [u32], m: &Move) -> Result<Numbers, u32> {

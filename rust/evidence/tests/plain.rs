@@ -1,8 +1,12 @@
 //! The plain engine answers as the archive does, and leaves the same masks and cells: over the measured plans and random ones.
 use evidence::archive::{load, load_fields, read, read_fields, Archive};
 use evidence::bench::plans::{opposite, plans};
-use evidence::calls::{Calls, Journal, Loaded, Move};
+use evidence::calls::{Calls, Journal, Loaded, Move, Test};
+use evidence::in_test::any_test;
 use evidence::random::{any_text, damage_table, masks as random_masks, text, Random};
+use evidence::second::in_test::resized;
+use evidence::second::plan::Plan;
+use evidence::second::table::decode;
 use evidence::{plain, with_stack};
 use vuyekhang::{raw, MOST_TABLE};
 
@@ -50,6 +54,28 @@ impl Both {
         self.same();
     }
 
+    fn test(&mut self, call: Test, port: u32) {
+        let answer = Archive.test(&self.table, &mut self.masks[0], &mut self.cells[0], call, port);
+        let plain = plain::test(&self.table, &mut self.masks[1], &mut self.cells[1], call, port);
+        assert_eq!(answer, plain, "{call:?} of port {port}");
+        self.same();
+    }
+
+    /// Where a call is accepted, it touches every cell of the nodes that the rule names.
+    fn touched_by_test(&self, plan: &Plan, call: Test, port: u32) {
+        if let Some(count) = plain::touched_by_test(&self.table, &self.masks[1], &self.cells[1], call, port) {
+            let named = (0..plan.nodes.len()).filter(|node| resized(plan, &self.masks[1], port as usize, *node));
+            assert_eq!(count, named.map(|node| plan.width(node)).sum::<usize>(), "{call:?} of port {port}");
+        }
+    }
+
+    /// The plain engine's cells are Definition 5's.
+    fn are_penalties(&mut self) {
+        let now = self.cells[1].clone();
+        plain::Checked::of(&self.table).expect("a sound table").recompute(&self.masks[1], &mut self.cells[1]);
+        assert!(now == self.cells[1], "cells after a call are penalties");
+    }
+
     fn improve(&mut self, kinds: u32) {
         let answer = Archive.improve(&self.table, &mut self.masks[0], &mut self.cells[0], &mut self.scratch, &mut self.journal, kinds);
         let plain = plain::improve(&self.table, &mut self.masks[1], &mut self.cells[1], &self.scratch, kinds);
@@ -65,15 +91,18 @@ fn measured_plans() {
             let mut table = vec![0; MOST_TABLE];
             let answer = read(plan.u, plan.text.as_bytes(), &mut table).expect(plan.name);
             table.truncate(9 + 8 * answer.nodes);
-            let mut both = Both::new(table, plan.masks, answer.cells);
+            let held = plan.held_port();
+            let mut both = Both::new(table, plan.masks(), answer.cells);
             both.load().expect(plan.name);
             for m in plan.moves {
                 both.trial(m);
                 both.make(m);
-                let now = both.cells[1].clone();
-                plain::Checked::of(&both.table).expect("a sound table").recompute(&both.masks[1], &mut both.cells[1]);
-                assert!(now == both.cells[1], "cells after a move are penalties");
+                both.are_penalties();
                 both.make(opposite(m));
+            }
+            for call in [Test::Begin, Test::End] {
+                both.test(call, held);
+                both.are_penalties();
             }
             both.improve(2);
         }
@@ -97,7 +126,8 @@ fn one_plan(r: &mut Random) {
         return;
     };
     table.truncate(9 + 8 * answer.nodes);
-    let (u, n) = (usize::from(table[5]), usize::from(table[6]));
+    let plan = decode(&table).expect("what is read is sound");
+    let (u, n) = (plan.u, plan.n);
     let mut both = Both::new(table, random_masks(r, u, n), answer.cells);
     if r.chance(75) {
         both.load().expect("a sound plan");
@@ -109,6 +139,9 @@ fn one_plan(r: &mut Random) {
         let m = any_move(r, u, n);
         both.trial(m);
         both.make(m);
+        let (call, port) = any_test(&plan, &both.masks[0], r);
+        both.touched_by_test(&plan, call, port);
+        both.test(call, port);
     }
     if answer.cells < 2_000 {
         both.improve(r.below(17) as u32);

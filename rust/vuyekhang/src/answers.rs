@@ -26,12 +26,13 @@ pub struct Loaded {
     pub cells: usize,
 }
 
-/// What an accepted [`make_move`](crate::make_move), [`trial`](crate::trial) or [`undo`](crate::undo) answers.
+/// What an accepted [`make_move`](crate::make_move), [`trial`](crate::trial), [`undo`](crate::undo),
+/// [`test_begin`](crate::test_begin) or [`test_end`](crate::test_end) answers.
 #[derive(Debug, Clone, Copy, PartialEq, Eq, Hash)]
 pub struct Moved {
-    /// The root before the move.
+    /// The root before the call.
     pub before: u32,
-    /// The root after it.
+    /// The root after it; for a trial, as if the move were made.
     pub after: u32,
     /// How many cells differ from before.
     pub changed: usize,

@@ -4,7 +4,8 @@
 //! [`load`] fills a penalty for every node and every tuple of ports (a cell), and the root's penalty is 0 exactly when the formula
 //! is true. [`make_move`] changes the sets and the cells that this touches, [`trial`] says what a move would do, [`improve`] makes
 //! the best move and [`best_moves`] lists those that are equally good. Moves that are made go into a journal, and [`undo`] takes
-//! the newest of them back.
+//! the newest of them back. [`test_begin`] puts a port in test and [`test_end`] takes it out: in between it keeps its place in
+//! every set and counts in no size.
 //!
 //! The caller owns every table and lends it for one call; the engine keeps nothing between two calls. A refused call writes
 //! nothing, and nothing past a plan's own bytes, masks or cells is read or written.
@@ -17,8 +18,8 @@
 //! let mut table = [0; MOST_TABLE];
 //! let plan = read(3, text, &mut table)?;
 //!
-//! // S has ports 0 and 1, T has 0 to 2, I has 0: port 1 is missing in I.
-//! let mut masks = [3, 7, 1];
+//! // S has ports 0 and 1, T has 0 to 2, I has 0: port 1 is missing in I. The last mask is that of the ports in test: none.
+//! let mut masks = [3, 7, 1, 0];
 //! let mut cells = vec![0; plan.cells];
 //! let loaded = load(&table, &masks, &mut cells)?;
 //! assert_eq!((loaded.root, loaded.cells), (1, 34));
@@ -27,12 +28,12 @@
 //! let (mut journal, mut count) = ([Move::default(); MOST_RECORDS], 0);
 //! let moved = make_move(&table, &mut masks, &mut cells, &mut journal, &mut count, Move::drop(1, 1))?;
 //! assert_eq!((moved.before, moved.after, moved.changed), (1, 0, 8));
-//! assert_eq!((masks, &journal[..count]), ([3, 5, 1], &[Move::drop(1, 1)][..]));
+//! assert_eq!((masks, &journal[..count]), ([3, 5, 1, 0], &[Move::drop(1, 1)][..]));
 //!
 //! // Taken back.
 //! let undone = undo(&table, &mut masks, &mut cells, &journal, &mut count)?;
 //! assert_eq!((undone.before, undone.after, undone.changed), (0, 1, 8));
-//! assert_eq!((masks, count), ([3, 7, 1], 0));
+//! assert_eq!((masks, count), ([3, 7, 1, 0], 0));
 //! # Ok::<(), vuyekhang::Refusal>(())
 //! ```
 //!
@@ -119,8 +120,9 @@ pub fn write(table: &[u8], text: &mut [u8]) -> Result<usize, Refusal> {
 
 /// Checks a plan table and the masks, and writes every cell of the plan: its penalty.
 ///
-/// Bit p of mask s says whether port p is in set s. Tries 11, then 12 (fewer masks than sets, or fewer cells than the plan's
-/// total), then 13.
+/// Bit p of mask s says whether port p is in set s. One mask more, after those of the sets, says which ports are in test; the size of
+/// a set is the number of its members that are not, and membership does not look at it. Tries 11, then 12 (fewer masks than
+/// one more than the sets, or fewer cells than the plan's total), then 13, of the mask in test too.
 pub fn load(table: &[u8], masks: &[u64], cells: &mut [u32]) -> Result<Loaded, Refusal> {
     raw::load(table, masks, cells).typed()
 }
@@ -135,7 +137,7 @@ pub fn load(table: &[u8], masks: &[u64], cells: &mut [u32]) -> Result<Loaded, Re
 /// let mut table = [0; MOST_TABLE];
 /// let plan = read(3, b"[S] @x x:S", &mut table)?;
 /// let mut cells = vec![0; plan.cells];
-/// load(&table, &[0b101], &mut cells)?;
+/// load(&table, &[0b101, 0], &mut cells)?;
 /// // Node 0 is the root, 1 "for all x", 2 "x in S".
 /// assert_eq!(node_cells(&table, &cells, 2), [0, 1, 0]);
 /// assert!(node_cells(&table, &cells, 3).is_empty());
@@ -152,9 +154,9 @@ pub fn node_cells<'a>(table: &[u8], cells: &'a [u32], node: usize) -> &'a [u32] 
 /// with 0 and lends both on to every call. The move is written at the old count, the count is then one more, and every other record
 /// stays.
 ///
-/// Tries 11, then 12 (fewer masks than sets, fewer cells than the plan's total, or a count past the journal's length or past
-/// [`MOST_RECORDS`]), then 13, 14, 15, then 18: the count is the journal's length or [`MOST_RECORDS`]. The cells are taken as they
-/// are: after a [`load`] and nothing but these calls each is its penalty.
+/// Tries 11, then 12 (fewer masks or cells than [`load`] asks for, or a count past the journal's length or past [`MOST_RECORDS`]),
+/// then 13, 14, 15, then 18: the count is the journal's length or [`MOST_RECORDS`]. The cells are taken as they are: after a [`load`]
+/// and nothing but these calls each is its penalty.
 pub fn make_move(
     table: &[u8],
     masks: &mut [u64],
@@ -170,7 +172,8 @@ pub fn make_move(
 /// one. No record is written.
 ///
 /// The opposite of an add is a drop and that of a drop an add, that of a transfer goes from t to s, and that of a swap has p and q
-/// exchanged. After a [`load`] and nothing but these calls, masks and cells are those before the move.
+/// exchanged. After a [`load`] and nothing but these calls, the sets are those before the move. Ports in test stay in test, and each
+/// cell is its penalty with these: where none went in or out since, the cells are those before the move, too.
 ///
 /// Tries 11 to 13 as [`make_move`] does, then 19 (the count is 0), then 14 of the record and 15 of its opposite.
 ///
@@ -178,18 +181,49 @@ pub fn make_move(
 /// # use vuyekhang::{load, make_move, read, undo, Move, Refusal, MOST_TABLE};
 /// # let mut table = [0; MOST_TABLE];
 /// # let plan = read(3, b"[S] #S = 2", &mut table)?;
-/// # let (mut masks, mut cells) = ([0b011], vec![0; plan.cells]);
+/// # let (mut masks, mut cells) = ([0b011, 0], vec![0; plan.cells]);
 /// # load(&table, &masks, &mut cells)?;
 /// let (mut journal, mut count) = ([Move::default(); 4], 0);
 /// make_move(&table, &mut masks, &mut cells, &mut journal, &mut count, Move::swap(0, 1, 2))?;
-/// assert_eq!((masks, count), ([0b101], 1));
+/// assert_eq!((masks, count), ([0b101, 0], 1));
 /// undo(&table, &mut masks, &mut cells, &journal, &mut count)?;
-/// assert_eq!((masks, count), ([0b011], 0));
+/// assert_eq!((masks, count), ([0b011, 0], 0));
 /// assert_eq!(undo(&table, &mut masks, &mut cells, &journal, &mut count), Err(Refusal::JournalEmpty));
 /// # Ok::<(), vuyekhang::Refusal>(())
 /// ```
 pub fn undo(table: &[u8], masks: &mut [u64], cells: &mut [u32], journal: &[Move], count: &mut usize) -> Result<Moved, Refusal> {
     raw::undo(table, masks, cells, journal, count).typed()
+}
+
+/// Puts a port in test: it keeps its place in every set and counts in no size. Writes its bit of the mask after those of the sets and
+/// the touched cells, which are those of the size literals of every set that holds it, and of the nodes above them.
+///
+/// It goes into no journal: [`undo`] takes moves back and leaves the ports in test as they are. Tries 11 to 13 as [`load`] does, then
+/// 14 (a port of u or more), then 20: the port is in test already.
+///
+/// ```
+/// # use vuyekhang::{load, read, test_begin, test_end, Moved, Refusal, MOST_TABLE};
+/// # let mut table = [0; MOST_TABLE];
+/// // A group of four of six ports. With one under line test it delivers three.
+/// let plan = read(6, b"[G] #G >= 4", &mut table)?;
+/// let (mut masks, mut cells) = ([0b011110, 0], vec![0; plan.cells]);
+/// assert_eq!(load(&table, &masks, &mut cells)?.root, 0);
+/// assert_eq!(test_begin(&table, &mut masks, &mut cells, 2)?, Moved { before: 0, after: 1, changed: 2 });
+/// assert_eq!(masks, [0b011110, 0b000100]);
+/// assert_eq!(test_begin(&table, &mut masks, &mut cells, 2), Err(Refusal::AlreadyInCondition));
+///
+/// assert_eq!(test_end(&table, &mut masks, &mut cells, 2)?, Moved { before: 1, after: 0, changed: 2 });
+/// assert_eq!(masks, [0b011110, 0]);
+/// # Ok::<(), vuyekhang::Refusal>(())
+/// ```
+pub fn test_begin(table: &[u8], masks: &mut [u64], cells: &mut [u32], port: u32) -> Result<Moved, Refusal> {
+    raw::test_begin(table, masks, cells, port).typed()
+}
+
+/// Takes a port out of test: it counts again in the size of every set that holds it. Writes and tries what [`test_begin`] does; 20
+/// where the port is not in test.
+pub fn test_end(table: &[u8], masks: &mut [u64], cells: &mut [u32], port: u32) -> Result<Moved, Refusal> {
+    raw::test_end(table, masks, cells, port).typed()
 }
 
 /// What [`make_move`] would answer with room in its journal, with masks and cells kept.
@@ -209,7 +243,7 @@ pub fn trial(table: &[u8], masks: &[u64], cells: &[u32], scratch: &mut [u32], m:
 /// # use vuyekhang::{improve, load, read, Improved, Kinds, Move, Moved, MOST_TABLE};
 /// # let mut table = [0; MOST_TABLE];
 /// # let plan = read(3, b"[S] #S = 2 & @x (x/S | ?y (y:S & x != y))", &mut table)?;
-/// # let (mut masks, mut cells, mut scratch) = ([0b111], vec![0; plan.cells], vec![0; plan.cells]);
+/// # let (mut masks, mut cells, mut scratch) = ([0b111, 0], vec![0; plan.cells], vec![0; plan.cells]);
 /// # load(&table, &masks, &mut cells)?;
 /// # let (mut journal, mut count) = ([Move::default(); 4], 0);
 /// let answer = improve(&table, &mut masks, &mut cells, &mut scratch, &mut journal, &mut count, Kinds::ADD | Kinds::DROP)?;
@@ -245,7 +279,7 @@ pub fn improve(
 /// # let mut table = [0; MOST_TABLE];
 /// // Port 1 is in S and T and not in I: to drop it from S mends the plan, and to drop it from T.
 /// let plan = read(3, b"[STI] @x (x:I <-> x:S & x:T) & #I <= 1", &mut table)?;
-/// let (masks, mut cells, mut scratch) = ([3, 7, 1], vec![0; plan.cells], vec![0; plan.cells]);
+/// let (masks, mut cells, mut scratch) = ([3, 7, 1, 0], vec![0; plan.cells], vec![0; plan.cells]);
 /// load(&table, &masks, &mut cells)?;
 /// let mut list = [Move::default(); 8];
 /// let count = best_moves(&table, &masks, &cells, &mut scratch, Kinds::ALL, &mut list)?;

@@ -111,6 +111,24 @@ extern "C" {
         journal_len: usize,
         journal_count: *mut usize,
     ) -> MoveAnswer;
+    fn vk_test_begin(
+        table: *const u8,
+        table_len: usize,
+        masks: *mut u64,
+        masks_len: usize,
+        cells: *mut u32,
+        cells_len: usize,
+        port: u32,
+    ) -> MoveAnswer;
+    fn vk_test_end(
+        table: *const u8,
+        table_len: usize,
+        masks: *mut u64,
+        masks_len: usize,
+        cells: *mut u32,
+        cells_len: usize,
+        port: u32,
+    ) -> MoveAnswer;
     fn vk_trial(
         table: *const u8,
         table_len: usize,
@@ -189,6 +207,19 @@ pub fn undo(table: &[u8], masks: &mut [u64], cells: &mut [u32], journal: &[Move]
     // SAFETY: each pointer comes from a slice of the length beside it, that of the count from a reference, and `masks`, `cells` and
     // `count`, which are written, are borrowed here alone.
     unsafe { vk_undo(t, table.len(), ms, masks.len(), cs, cells.len(), j, journal.len(), count) }
+}
+
+/// `vk_test_begin`; see [`crate::test_begin`].
+pub fn test_begin(table: &[u8], masks: &mut [u64], cells: &mut [u32], port: u32) -> MoveAnswer {
+    // SAFETY: each pointer comes from a slice of the length beside it, and `masks` and `cells`, which are written, are borrowed here
+    // alone.
+    unsafe { vk_test_begin(table.as_ptr(), table.len(), masks.as_mut_ptr(), masks.len(), cells.as_mut_ptr(), cells.len(), port) }
+}
+
+/// `vk_test_end`; see [`crate::test_end`].
+pub fn test_end(table: &[u8], masks: &mut [u64], cells: &mut [u32], port: u32) -> MoveAnswer {
+    // SAFETY: as for `test_begin`.
+    unsafe { vk_test_end(table.as_ptr(), table.len(), masks.as_mut_ptr(), masks.len(), cells.as_mut_ptr(), cells.len(), port) }
 }
 
 /// `vk_trial`; see [`crate::trial`].

@@ -55,6 +55,8 @@ pub enum Refusal {
     JournalFull,
     /// 19: there is no move to take back: the record count is 0.
     JournalEmpty,
+    /// 20: the port is already in that condition: in test where a test is to begin, or not in test where one is to end.
+    AlreadyInCondition,
     /// A ground that this version does not name. Only the engine's own answers make one, so that it never stands for a ground
     /// that has a name.
     #[non_exhaustive]
@@ -65,7 +67,7 @@ pub enum Refusal {
 }
 
 /// Each ground with its meaning; ground n stands at n - 1.
-const GROUNDS: [(Refusal, &str); 19] = [
+const GROUNDS: [(Refusal, &str); 20] = [
     (Refusal::TextTooLong, "text over 4,096 bytes"),
     (Refusal::UnknownByte, "a byte of no token, space or line end"),
     (Refusal::OutsideGrammar, "text outside the grammar"),
@@ -85,6 +87,7 @@ const GROUNDS: [(Refusal, &str); 19] = [
     (Refusal::Unwritable, "the plan's text would be over 4,096 bytes or have more than 64 of `(` and quantifiers around one token"),
     (Refusal::JournalFull, "journal full"),
     (Refusal::JournalEmpty, "no move in the journal to take back"),
+    (Refusal::AlreadyInCondition, "port already in test, or already not in test"),
 ];
 
 impl Refusal {
@@ -115,6 +118,7 @@ impl Refusal {
             Refusal::Unwritable => 17,
             Refusal::JournalFull => 18,
             Refusal::JournalEmpty => 19,
+            Refusal::AlreadyInCondition => 20,
             Refusal::Other { number } => *number,
         }
     }

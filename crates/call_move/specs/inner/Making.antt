@@ -1,5 +1,4 @@
 -- A move as move and undo make it: the grounds of both in one list, of which each leaves one out.
-use mathlib.Core.Path.{_≡_}
 use mathlib.Core.Bool.{Bool}
 use mathlib.Core.List.{List, [], _∷_, _++_}
 use Prim.Native.Nat.{ℕ}
@@ -10,8 +9,7 @@ use Rattle.logic.specs.Moves.{Ground, moveGrounds}
 use Rattle.table_format.specs.Decode.{Decoded}
 use Rattle.contracts.specs.State.{State}
 use Rattle.contracts.specs.Call.{journalGrounds, call}
-use Rattle.contracts.specs.declared.Moved.{Moved}
-use Rattle.contracts.specs.MoveCall.{MoveValues, MovedAs, moveRefused, movesOwn}
+use Rattle.contracts.specs.MoveCall.{MoveValues, moveRefused, movesOwn}
 
 -- 19 where no record is left to take back, 14 and 15, and 18 where no place is free.
 unfoldable pub makingGrounds : Bool → Bool → Move → Plan → Sets → List Ground
@@ -24,8 +22,3 @@ tryGrounds d s room count empty full m = journalGrounds d s room count [] (makin
 -- The answer, every mask and every cell afterwards.
 unfoldable pub made : Decoded → Move → State → ℕ → ℕ → Bool → Bool → MoveValues × State
 made d m s room count empty full = call moveRefused (tryGrounds d s room count empty full m) d (movesOwn m) s
-
--- What `move_with` promises.
-pub record MadeAs (given : MoveValues × State) (r : Moved) (s′ : State) : Type 0 where
-  pub answers : MovedAs (given .0) r
-  pub tables-are : s′ ≡ given .1

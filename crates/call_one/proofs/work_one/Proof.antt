@@ -1,13 +1,14 @@
-use mathlib.Core.Path.{ap, _∙_}
+use mathlib.Core.Path.{ap, _∙_, sym}
 use Prim.Native.Nat.{_-_}
 use native.Mathlib.Omega.{arith}
 use Rattle.logic.specs.declared.Move.{Move}
 use Rattle.call_numbers.specs.Encoding.{tag, moveOf, kindsOf, cellsLent, recordsLent}
 use Rattle.call_one.proofs.Lending.{part-lent}
-use Rattle.call_one.proofs.OneCall.{one-move, one-trial, one-improve, one-best, one-undo, none-over}
+use Rattle.call_one.proofs.OneCall.{one-move, one-trial, one-improve, one-best, one-undo, one-test, none-over}
 use borrow.Author.Needs.{needs}
 use Rattle.call_one.proofs.work_one.Statement.{statement}
 use Rattle.call_one.proofs.work_one.Tie as tie
+use Rattle.call_numbers.proofs.Tags.{test-tag, no-test-tag}
 
 shared-slice-read-tag : tie.Need-shared-slice-read-tag
 shared-slice-read-tag c = search needs
@@ -196,10 +197,36 @@ unfolding tag
 returns-5 c =
     one-undo _ _ _ _ _ _ _ _ _ _ _ _ _ _ _ (c .worked5 .ensures) (c .before .before .before .before .before .before .before .before .before .before .before .before .before .if5 .taken) (c .before .before .before .before .before .before .before .before .before .undo .ensures) (c .before .before .before .tell-moved3 .ensures)
 
+is-test-requires : tie.Need-is-test-requires
+is-test-requires c κs = search needs
+
+port-test-requires : tie.Need-port-test-requires
+port-test-requires c κs = search needs
+
+tell-moved-requires-4 : tie.Need-tell-moved-requires-4
+tell-moved-requires-4 c κs = search needs
+
+worked-requires-6 : tie.Need-worked-requires-6
+worked-requires-6 c κs = search needs
+
+same-length-20 : tie.Need-same-length-20
+same-length-20 c = search needs
+
+same-length-21 : tie.Need-same-length-21
+same-length-21 c = search needs
+
+same-length-22 : tie.Need-same-length-22
+same-length-22 c = search needs
+
 returns-6 : tie.Need-returns-6
-unfolding tag
+unfolding tag moveOf
 returns-6 c =
-    none-over _ _ _ _ _ _ _ _ _ _ record { no-move = c .before .before .before .before .if1 .left; no-trial = c .before .before .before .if2 .left; no-improve = c .before .before .if3 .left; no-best = c .before .if4 .left; no-undo = c .if5 .left }
+    one-test _ _ _ _ _ _ _ _ _ _ _ _ _ _ _ _ (c .worked6 .ensures) (test-tag _ (sym (c .before .before .before .before .before .before .before .before .before .before .before .before .before .is-test .ensures) ∙ c .before .before .before .before .before .before .before .before .before .before .before .before .if6 .taken)) (ap (λ (m : Move). m .p) (c .before .before .before .before .before .before .before .before .before .before .before .before .before .before .before .before .before .before .before .before .before .before .move-of .ensures)) (c .before .before .before .before .before .before .before .before .before .port-test .ensures) (c .before .before .before .tell-moved4 .ensures)
+
+returns-7 : tie.Need-returns-7
+unfolding tag
+returns-7 c =
+    none-over _ _ _ _ _ _ _ _ _ _ record { no-move = c .before .before .before .before .before .before .if1 .left; no-trial = c .before .before .before .before .before .if2 .left; no-improve = c .before .before .before .before .if3 .left; no-best = c .before .before .before .if4 .left; no-undo = c .before .before .if5 .left; no-test = no-test-tag _ (sym (c .before .is-test .ensures) ∙ c .if6 .left) }
 
 pub work-one-spec : {M : Type 1} → statement M
 work-one-spec =
@@ -264,4 +291,12 @@ work-one-spec =
     same-length-18
     same-length-19
     returns-5
-    returns-6)
+    is-test-requires
+    port-test-requires
+    tell-moved-requires-4
+    worked-requires-6
+    same-length-20
+    same-length-21
+    same-length-22
+    returns-6
+    returns-7)

@@ -4,7 +4,8 @@ use Rattle.logic.specs.Change.{modulus}
 use Rattle.cells_walk.specs.inner.Visit.{CellsFit}
 use Rattle.contracts.proofs.Scratch.{scratch-kept}
 use Rattle.call_open.proofs.Opening.{shut}
-use Rattle.move_try.proofs.OpenMove.{move-ready, number-is, sets-fit, legal-move}
+use Rattle.call_open.proofs.OpenPlan.{sets-fit}
+use Rattle.move_try.proofs.OpenMove.{move-ready, number-is, legal-move}
 use Rattle.call_trial.proofs.Answering.{tries-trial, trial-refused, trial-made}
 use borrow.Author.Needs.{needs}
 use Rattle.call_trial.proofs.trial.Statement.{statement}
@@ -39,7 +40,8 @@ returns-2 c =
     (trial-refused _ _ _ _ _ (c .if2 .taken) (tries-trial _ _ _ _ .passed (o .plan) (o .decodes) (sym (rw (c .before .before .before .before .before .before .before .before .before .before .before .lesser .ensures) at (c .before .before .before .before .before .before .before .open-tables .ensures .number-is)) ∙ c .before .before .if1 .left) ∙ sym (number-is o _ _ (c .before .move-number .ensures))), scratch-kept _ _ _)
 
 own-masks-requires : tie.Need-own-masks-requires
-own-masks-requires c κs = search needs
+own-masks-requires c κs =
+    sets-fit (c .before .before .before .before .before .before .before .open-tables .ensures .opens (c .before .before .if1 .left))
 
 slice-aggregate-try-move : tie.Need-slice-aggregate-try-move
 slice-aggregate-try-move c = search needs

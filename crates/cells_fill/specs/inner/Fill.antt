@@ -5,7 +5,7 @@ use mathlib.Core.List.{List, [], _∷_, _++_}
 use Prim.Native.Nat.{ℕ, _+_, _*_, _^_, _≤_}
 use lib.ListN.{length, getD, take}
 use Rattle.logic.specs.Formula.{Node, root, all, any, and, or, lit, Forest, none, tree, Plan, kindNumber, nodeCount, childDepth}
-use Rattle.logic.specs.Configuration.{Configuration, configured, inMasks, ownMasks, spelled, allWithin}
+use Rattle.logic.specs.Configuration.{Configuration, configured, inMasks, maskCount, ownMasks, spelled, allWithin}
 use Rattle.logic.specs.Truth.{Tuple}
 use Rattle.logic.specs.Penalty.{literalPenalty, below, penalty}
 use Rattle.logic.specs.Cells.{cellCount, tupleAt, tabulate, layout, ownCells, cells as planCells}
@@ -44,7 +44,7 @@ pub record StartPlaced (kind relation a b sets ports depth width : ℕ) (masks c
   pub depth3 : depth ≤ 3
   pub width-is : width ≡ ports ^ depth
   pub own-cells : length cells ≡ width
-  pub sets-masks : sets ≤ length masks
+  pub sets-masks : maskCount sets ≤ length masks
   pub within : allWithin ports masks ≡ true
 
 unfoldable pub started : ℕ → ℕ → ℕ → ℕ → ℕ → ℕ → ℕ → ℕ → List ℕ → List ℕ
@@ -69,7 +69,7 @@ pub record FillPlaced (l : List ℕ) (i above ports sets depth width over at : �
   pub ports1 : 1 ≤ ports
   pub ports64 : ports ≤ 64
   pub depth4 : depth ≤ 4
-  pub sets-masks : sets ≤ length masks
+  pub sets-masks : maskCount sets ≤ length masks
   pub within : allWithin ports masks ≡ true
   pub after : over ≤ at
   pub room : at + cellCount ports forest depth ≤ length cells
@@ -94,8 +94,8 @@ pub record FillReady (bytes : List ℕ) (ports sets nodes : ℕ) (masks cells : 
   pub ports-are : ports ≡ plan .ports
   pub sets-are : sets ≡ plan .sets
   pub nodes-are : nodes ≡ nodeCount (plan .formula)
-  pub own-masks : sets ≤ length masks
-  pub within : allWithin ports (take sets masks) ≡ true
+  pub own-masks : maskCount sets ≤ length masks
+  pub within : allWithin ports (take (maskCount sets) masks) ≡ true
   pub own-cells : length cells ≡ ownCells plan
 
 -- Every cell is Definition 5's penalty under the plan's own masks.

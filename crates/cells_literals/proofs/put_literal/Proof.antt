@@ -1,6 +1,6 @@
 use native.Mathlib.Omega.{arith}
-use borrow.Author.Needs.{needs}
 use Rattle.cells_literals.proofs.Penalties.{member-fields, port-fields, size-fields, runs, blocks, member-cells, port-cells, size-cells}
+use borrow.Author.Needs.{needs}
 use Rattle.cells_literals.proofs.put_literal.Statement.{statement}
 use Rattle.cells_literals.proofs.put_literal.Tie as tie
 
@@ -31,17 +31,14 @@ same-length c = search needs
 
 returns : tie.Need-returns
 returns c =
-    port-cells (c .before .before .before .before .before .before .before .before .before .before .before .pre) (c .before .before .before .before .before .before .before .before .if1 .taken) _ _ _
-    (cc)
-    (cc)
-    (c .before .before .put-comparison .ensures)
+    port-cells (c .before .before .before .before .before .before .before .before .before .before .before .pre) (c .before .before .before .before .before .before .before .before .if1 .taken) _ _ _ (cc) (cc) (c .before .before .put-comparison .ensures)
 
 wide-requires-3 : tie.Need-wide-requires-3
 wide-requires-3 c κs = search needs
 
-mask-at-requires : tie.Need-mask-at-requires
-mask-at-requires c κs =
-    omega (arith, c .wide3 .ensures .0, size-fields (c .before .before .before .before .before .pre) (c .before .if2 .taken) .0, c .before .before .before .before .before .pre .all-masks)
+set-size-requires : tie.Need-set-size-requires
+set-size-requires c κs =
+    (omega (arith, c .wide3 .ensures .0, size-fields (c .before .before .before .before .before .pre) (c .before .if2 .taken) .0), omega (arith, c .before .before .before .before .before .pre .all-masks))
 
 put-size-requires : tie.Need-put-size-requires
 put-size-requires c κs = search needs
@@ -51,15 +48,13 @@ same-length-2 c = search needs
 
 returns-2 : tie.Need-returns-2
 returns-2 c =
-    size-cells (c .before .before .before .before .before .before .before .before .before .before .pre) (c .before .before .before .before .before .before .if2 .taken) _ _
-    (cc)
-    (c .before .before .put-size .ensures)
+    size-cells (c .before .before .before .before .before .before .before .before .before .before .pre) (c .before .before .before .before .before .before .if2 .taken) _ _ (cc) (c .before .before .put-size .ensures)
 
 wide-requires-4 : tie.Need-wide-requires-4
 wide-requires-4 c κs = search needs
 
-mask-at-requires-2 : tie.Need-mask-at-requires-2
-mask-at-requires-2 c κs =
+mask-at-requires : tie.Need-mask-at-requires
+mask-at-requires c κs =
     omega (arith, c .wide4 .ensures .0, member-fields (c .before .before .before .before .before .pre) (c .before .before .if1 .left) (c .before .if2 .left) .1, c .before .before .before .before .before .pre .all-masks)
 
 wide-requires-5 : tie.Need-wide-requires-5
@@ -78,10 +73,7 @@ same-length-3 c = search needs
 
 returns-3 : tie.Need-returns-3
 returns-3 c =
-    member-cells (c .before .before .before .before .before .before .before .before .before .before .before .before .pre) (c .before .before .before .before .before .before .before .before .before .if1 .left) (c .before .before .before .before .before .before .before .before .if2 .left) _ _ _
-    (cc)
-    (cc)
-    (c .before .before .put-members .ensures)
+    member-cells (c .before .before .before .before .before .before .before .before .before .before .before .before .pre) (c .before .before .before .before .before .before .before .before .before .if1 .left) (c .before .before .before .before .before .before .before .before .if2 .left) _ _ _ (cc) (cc) (c .before .before .put-members .ensures)
 
 pub put-literal-spec : {M : Type 1} → statement M
 put-literal-spec =
@@ -96,12 +88,12 @@ put-literal-spec =
     same-length
     returns
     wide-requires-3
-    mask-at-requires
+    set-size-requires
     put-size-requires
     same-length-2
     returns-2
     wide-requires-4
-    mask-at-requires-2
+    mask-at-requires
     wide-requires-5
     block-of-requires-3
     put-members-requires

@@ -1,11 +1,8 @@
 use mathlib.Core.Path.{_∙_}
-use borrow.Author.Needs.{needs}
 use Rattle.logic.proofs.Written.{from-first}
+use borrow.Author.Needs.{needs}
 use Rattle.cells_literals.proofs.put_size.Statement.{statement}
 use Rattle.cells_literals.proofs.put_size.Tie as tie
-
-mask-size-requires : tie.Need-mask-size-requires
-mask-size-requires c κs = search needs
 
 literal-penalty-requires : tie.Need-literal-penalty-requires
 literal-penalty-requires c κs = search needs
@@ -18,9 +15,7 @@ same-length c = search needs
 
 returns : tie.Need-returns
 returns c =
-    rw (← c .before .before .before .before .before .mask-size .ensures .0, ← c .before .before .before .before .literal-penalty .ensures) (c .before .before .put-run .ensures ∙ from-first _ _ _)
+    rw (← c .before .before .before .before .literal-penalty .ensures) (c .before .before .put-run .ensures ∙ from-first _ _ _)
 
 pub put-size-spec : {M : Type 1} → statement M
-put-size-spec =
-    tie.close
-    (tie.spec mask-size-requires literal-penalty-requires put-run-requires same-length returns)
+put-size-spec = tie.close (tie.spec literal-penalty-requires put-run-requires same-length returns)

@@ -4,7 +4,7 @@ use mathlib.Core.Bool.{true}
 use mathlib.Core.List.{List}
 use Prim.Native.Nat.{ℕ, _^_, _≤_, _<_}
 use lib.ListN.{length, getD}
-use Rattle.logic.specs.Configuration.{withinPorts}
+use Rattle.logic.specs.Configuration.{maskCount, withinPorts}
 use Rattle.table_format.specs.inner.Tests.{fieldRule}
 
 -- A literal's record at its depth, the masks that it reads, and the cells, of which the first `width` are its own.
@@ -12,7 +12,7 @@ pub record LiteralPlaced (sets kind relation a b ports depth width : ℕ) (masks
   pub kind5 : 5 ≤ kind
   pub kind8 : kind ≤ 8
   pub fields : fieldRule sets depth kind relation a b ≡ true
-  pub all-masks : sets ≤ length masks
+  pub all-masks : maskCount sets ≤ length masks
   pub within : (S : ℕ) → S < sets → withinPorts ports (getD masks S 0) ≡ true
   pub ports1 : 1 ≤ ports
   pub ports64 : ports ≤ 64

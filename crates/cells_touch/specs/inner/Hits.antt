@@ -1,4 +1,4 @@
--- Which cells a change touches, in words of four bits a set, as plan/Index keeps them: bits 0 to 2 for the variables by which
+-- Which cells a change touches, in words of four bits a set, as the index keeps them: bits 0 to 2 for the variables by which
 -- membership literals test the set, bit 3 for a size literal. Paper 01, section One move.
 use mathlib.Core.Path.{_≡_}
 use mathlib.Core.Logic.{_≢_}

@@ -5,7 +5,7 @@ use mathlib.Core.List.{List, [], _∷_}
 use Prim.Native.Nat.{ℕ, suc, _+_, _*_, _^_, _%_, _≤_, _<_}
 use lib.ListN.{length, getD}
 use Rattle.logic.specs.Formula.{Test, Literal, Node, Forest, tree, none, testKind, nodeCount}
-use Rattle.logic.specs.Configuration.{Configuration, configured, inMasks, withinPorts}
+use Rattle.logic.specs.Configuration.{Configuration, configured, inMasks, maskCount, withinPorts}
 use Rattle.logic.specs.Truth.{Tuple}
 use Rattle.logic.specs.Penalty.{literalPenalty, eachPort, sum}
 use Rattle.logic.specs.Cells.{placeOf, cellCount}
@@ -41,7 +41,7 @@ pub record MasksSettled (u sets : ℕ) (masks : List ℕ) : Type 0 where
   pub ports1 : 1 ≤ u
   pub ports64 : u ≤ 64
   pub sets16 : sets ≤ 16
-  pub masks-long : sets ≤ length masks
+  pub masks-long : maskCount sets ≤ length masks
   pub within : (S : ℕ) → S < sets → withinPorts u (getD masks S 0) ≡ true
 
 unfoldable pub CellsFit : List ℕ → Type 0

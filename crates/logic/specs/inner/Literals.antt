@@ -39,3 +39,13 @@ ConstantLow (size r S c) = c ≤ 64
 
 unfoldable pub ConstantsLow : Forest → ℕ → Type 0
 ConstantsLow f d = Every (λ n c i. OfTest ConstantLow n) f d
+
+-- "n is the number of sets, 1 to 16, numbered from 0": a set's number is below n.
+unfoldable pub SetBelow : ℕ → Test → Type 0
+SetBelow sets (isin v S) = S < sets
+SetBelow sets (notin v S) = S < sets
+SetBelow sets (port r v w) = Unit {0}
+SetBelow sets (size r S c) = S < sets
+
+unfoldable pub SetsBelow : ℕ → Forest → ℕ → Type 0
+SetsBelow sets f d = Every (λ n c i. OfTest (SetBelow sets) n) f d

@@ -1,11 +1,11 @@
 use native.Mathlib.Omega.{arith}
-use Rattle.move_try.proofs.OpenMove.{sets-fit}
+use Rattle.call_open.proofs.OpenPlan.{sets-fit}
 use borrow.Author.Needs.{needs}
 use Rattle.move_best.proofs.choose.Statement.{statement}
 use Rattle.move_best.proofs.choose.Tie as tie
 
 own-masks-requires : tie.Need-own-masks-requires
-own-masks-requires c κs = search needs
+own-masks-requires c κs = sets-fit (c .before .before .before .before .before .before .before .pre .opened)
 
 sub-search : tie.Need-sub-search
 sub-search c = search needs

@@ -3,7 +3,7 @@ use mathlib.Core.Path.{sym, _∙_}
 use native.Mathlib.Omega.{arith}
 use lib.ListN.{length}
 use Rattle.move_order.specs.inner.Stepping.{place}
-use Rattle.move_try.proofs.OpenMove.{ports-fit, sets-fit}
+use Rattle.call_open.proofs.OpenPlan.{ports-fit, sets-fit}
 use Rattle.move_best.proofs.Candidates.{sized-over}
 use Rattle.move_best.proofs.Searching.{left, Searching, search-starts, search-tries, search-few, search-place, search-begins, search-goes-on, search-less, search-ends}
 use Rattle.move_best.proofs.search.Statement.{statement}

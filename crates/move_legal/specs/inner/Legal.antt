@@ -6,7 +6,7 @@ use Prim.Native.Nat.{ℕ, _≤_}
 use lib.ListN.{length, take}
 use Rattle.logic.specs.declared.Move.{Move}
 use Rattle.logic.specs.Formula.{Plan}
-use Rattle.logic.specs.Configuration.{inMasks}
+use Rattle.logic.specs.Configuration.{inMasks, maskCount}
 use Rattle.logic.specs.Moves.{refusal, moveGrounds, known, fits}
 use Rattle.logic.specs.inner.MoveFields.{Fields}
 
@@ -23,7 +23,7 @@ pub record KnownOver (ports sets : ℕ) (m : Move) (masks : List ℕ) : Type 0 w
 -- A legal move over the masks.
 pub record LegalOver (ports sets : ℕ) (m : Move) (masks : List ℕ) : Type 0 where
   pub known-over : KnownOver ports sets m masks
-  pub fitting : fits (inMasks (take sets masks)) m ≡ true
+  pub fitting : fits (inMasks (take (maskCount sets) masks)) m ≡ true
 
 -- What a test says of what it tests.
 unfoldable pub Decides : Bool → Type 0 → Type 0
@@ -38,4 +38,4 @@ pub record MoveReady (ports sets : ℕ) (masks : List ℕ) : Type 0 where
 -- The number of the first that applies, of every plan with so many ports and sets.
 unfoldable pub MoveNumber : ℕ → ℕ → Move → List ℕ → ℕ → Type 0
 MoveNumber ports sets m masks r =
-    (P : Plan) → P .ports ≡ ports → P .sets ≡ sets → r ≡ refusal (moveGrounds P (inMasks (take sets masks)) m)
+    (P : Plan) → P .ports ≡ ports → P .sets ≡ sets → r ≡ refusal (moveGrounds P (inMasks (take (maskCount sets) masks)) m)

@@ -3,21 +3,15 @@ use Prim.Native.Nat.{ℕ}
 use native.Mathlib.Nat.{sub-zero}
 use native.Mathlib.Omega.{arith}
 use lib.ListN.{take}
-use Rattle.move_try.proofs.OpenMove.{ports-fit, sets-fit, masks-long, legal-over, change-ready, root-ready}
+use Rattle.call_open.proofs.OpenPlan.{ports-fit, sets-fit, masks-long}
+use Rattle.move_try.proofs.OpenMove.{legal-over, sets-ready, root-ready}
 use Rattle.move_make.proofs.Carrying.{back-fits, lent-again, carried}
 use borrow.Author.Needs.{needs}
 use Rattle.move_make.proofs.carry.Statement.{statement}
 use Rattle.move_make.proofs.carry.Tie as tie
-use Rattle.move_make.proofs.carry.Reads as reads
-use Rattle.move_make.proofs.carry.Lts as lts
-use Rattle.cells_touch.proofs.change_of.Reads as change-of-reads
-use Rattle.cells_write.proofs.root_written.Reads as root-written-reads
-use Rattle.logic.proofs.own_masks.Reads as own-masks-reads
-use Rattle.move_legal.proofs.narrow.Reads as narrow-reads
-use Rattle.move_masks.proofs.masks_after.Reads as masks-after-reads
 
 own-masks-requires : tie.Need-own-masks-requires
-own-masks-requires c κs = search needs
+own-masks-requires c κs = sets-fit (c .before .before .before .before .before .before .pre .tables-open .opened)
 
 narrow-requires : tie.Need-narrow-requires
 narrow-requires c κs =
@@ -53,7 +47,7 @@ part-root-written-end c =
 
 change-of-requires : tie.Need-change-of-requires
 change-of-requires c κs =
-    change-ready (c .before .before .before .before .before .before .before .before .before .before .before .before .before .before .before .before .pre)
+    sets-ready (c .before .before .before .before .before .before .before .before .before .before .before .before .before .before .before .before .pre)
 
 root-written-requires : tie.Need-root-written-requires
 root-written-requires c κs =

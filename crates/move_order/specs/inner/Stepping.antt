@@ -6,7 +6,7 @@ use Prim.Native.Nat.{ℕ, _+_, _*_, _≤_, _<_}
 use lib.ListN.{length, take}
 use Rattle.logic.specs.declared.Move.{Move}
 use Rattle.logic.specs.Formula.{Plan}
-use Rattle.logic.specs.Configuration.{inMasks}
+use Rattle.logic.specs.Configuration.{inMasks, maskCount}
 use Rattle.logic.specs.Moves.{noMove, fits, ofKinds}
 use Rattle.contracts.specs.MoveOrder.{Candidate}
 use Rattle.move_order.specs.declared.Next.{Next}
@@ -27,7 +27,7 @@ pub record Low (m : Move) : Type 0 where
 pub record Suits (ports sets kinds : ℕ) (masks : List ℕ) (m : Move) : Type 0 where
   pub of-kinds : ofKinds kinds m ≡ true
   pub fields : Fields ports sets m
-  pub fitting : fits (inMasks (take sets masks)) m ≡ true
+  pub fitting : fits (inMasks (take (maskCount sets) masks)) m ≡ true
 
 -- A position in the order, from before the first move (kind 0) to past the last (kind 5).
 pub record Position (ports sets : ℕ) (m : Move) : Type 0 where
@@ -68,7 +68,7 @@ NextOr false P kinds own m r = NoneLater P kinds own m
 -- What a step to the next candidate gives, of every plan with so many ports and sets.
 unfoldable pub GivesNext : ℕ → ℕ → ℕ → List ℕ → Move → Next → Type 0
 GivesNext ports sets kinds masks m r =
-    (P : Plan) → P .ports ≡ ports → P .sets ≡ sets → NextOr (r .found) P kinds (take sets masks) m (r .m)
+    (P : Plan) → P .ports ≡ ports → P .sets ≡ sets → NextOr (r .found) P kinds (take (maskCount sets) masks) m (r .m)
 
 -- One step through the known moves of the kinds: none of them lies between m and r.
 pub record StepsOn (ports sets kinds : ℕ) (m r : Move) : Type 0 where

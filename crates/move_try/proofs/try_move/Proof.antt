@@ -2,22 +2,16 @@ use mathlib.Core.Path.{_∙_, ap, sym}
 use native.Mathlib.Omega.{arith}
 use Prim.Native.Nat.{ℕ}
 use lib.ListN.{take}
-use Rattle.move_try.proofs.OpenMove.{ports-fit, sets-fit, masks-long, legal-over, change-ready, masks-made, root-ready, numbers-are}
+use Rattle.call_open.proofs.OpenPlan.{ports-fit, sets-fit, masks-long}
+use Rattle.move_try.proofs.OpenMove.{legal-over, sets-ready, masks-made, root-ready, numbers-are}
 use Rattle.move_masks.proofs.Copying.{copied-whole}
 use borrow.Author.Needs.{needs}
 use Rattle.move_try.proofs.try_move.Statement.{statement}
 use Rattle.move_try.proofs.try_move.Tie as tie
-use Rattle.move_try.proofs.try_move.Reads as reads
-use Rattle.move_try.proofs.try_move.Lts as lts
-use Rattle.cells_touch.proofs.change_of.Reads as change-of-reads
-use Rattle.cells_try.proofs.root_after.Reads as root-after-reads
-use Rattle.logic.proofs.own_masks.Reads as own-masks-reads
-use Rattle.move_legal.proofs.narrow.Reads as narrow-reads
-use Rattle.move_masks.proofs.copy_masks.Reads as copy-masks-reads
-use Rattle.move_masks.proofs.masks_after.Reads as masks-after-reads
 
 own-masks-requires : tie.Need-own-masks-requires
-own-masks-requires c κs = search needs
+own-masks-requires c κs =
+    sets-fit (c .before .before .before .before .before .before .before .pre .legal-move .tables-open .opened)
 
 copy-masks-requires : tie.Need-copy-masks-requires
 copy-masks-requires c κs =
@@ -38,7 +32,7 @@ masks-after-requires c κs =
 
 change-of-requires : tie.Need-change-of-requires
 change-of-requires c κs =
-    change-ready (c .before .before .before .before .before .before .before .before .before .before .before .before .before .before .before .before .before .before .before .pre .legal-move)
+    sets-ready (c .before .before .before .before .before .before .before .before .before .before .before .before .before .before .before .before .before .before .before .pre .legal-move)
 
 root-after-requires : tie.Need-root-after-requires
 root-after-requires c κs =

@@ -1,5 +1,10 @@
-use borrow.Author.Needs.{needs}
+use mathlib.Core.Path.{ap, ap₂, _∙_}
+use mathlib.Core.List.{List, _++_}
+use Prim.Native.Nat.{ℕ}
+use native.Mathlib.Nat.{sub-zero}
+use lib.ListN.{take}
 use Rattle.planroot_line.proofs.Answers.{plan-other, plan-loaded}
+use borrow.Author.Needs.{needs}
 use Rattle.planroot_line.proofs.plan_line.Statement.{statement}
 use Rattle.planroot_line.proofs.plan_line.Tie as tie
 
@@ -9,6 +14,15 @@ sets-of-requires c κs = search needs
 returns : tie.Need-returns
 returns c =
     plan-other _ _ _ _ _ (c .before .sets-of .ensures) (c .before .before .before .before .before .pre .few-sets) (c .if1 .taken)
+
+slice-aggregate-copy-masks : tie.Need-slice-aggregate-copy-masks
+slice-aggregate-copy-masks c = search needs
+
+copy-masks-requires : tie.Need-copy-masks-requires
+copy-masks-requires c κs = search needs
+
+own-masks-requires : tie.Need-own-masks-requires
+own-masks-requires c κs = search needs
 
 sub-load : tie.Need-sub-load
 sub-load c = search needs
@@ -30,7 +44,8 @@ same-length c = search needs
 
 returns-2 : tie.Need-returns-2
 returns-2 c =
-    plan-loaded _ _ _ _ _ (c .before .before .before .before .before .before .before .sets-of .ensures) (c .before .before .before .before .before .before .before .before .before .before .before .pre .few-sets) _ _ _ (c .before .before .before .before .before .before .if1 .left) (c .before .before .before .load .ensures) (c .load-line .ensures)
+    plan-loaded _ _ _ _ _ (c .before .before .before .before .before .before .before .before .before .before .before .before .sets-of .ensures) (c .before .before .before .before .before .before .before .before .before .before .before .before .before .before .before .before .pre .few-sets) _ _ _ _ (c .before .before .before .before .before .before .before .before .before .before .before .if1 .left) (c .before .before .before .before .before .before .before .before .before .before .before .before .before .before .before .before .pre .masks-room)
+    (ap₂ (λ (j : ℕ) (l : List ℕ). take j l) (sub-zero (c .before .before .before .before .before .before .before .own-masks .result) ∙ c .before .before .before .before .before .before .before .own-masks .ensures) (c .before .before .before .before .before .before .before .before .before .copy-masks .ensures)) (c .before .before .before .load .ensures) (c .load-line .ensures)
 
 pub plan-line-spec : {M : Type 1} → statement M
 plan-line-spec =
@@ -38,6 +53,9 @@ plan-line-spec =
     (tie.spec
     sets-of-requires
     returns
+    slice-aggregate-copy-masks
+    copy-masks-requires
+    own-masks-requires
     sub-load
     part-load-start
     part-load-end

@@ -16,7 +16,7 @@ use Rattle.planroot_print.specs.declared.Line.{Line}
 use Rattle.planroot_print.specs.declared.Line.the-variants.{Refusal}
 use Rattle.planroot_print.specs.Line.{Shows}
 use Rattle.planroot_line.specs.Loading.{loadLine}
-use Rattle.planroot_line.specs.Line.{textLine, inputLine}
+use Rattle.planroot_line.specs.Line.{noneInTest, textLine, inputLine}
 
 -- The lent tables.
 pub record Tables (ms table : List ℕ) : Type 0 where
@@ -35,7 +35,7 @@ LinesLoad x r = LoadTold x → r ≡ loadLine (loadValues x)
 -- The first 16 of the masks are at hand, and they are counted as far as 17.
 unfoldable pub LinesPlan : ℕ → List ℕ → List ℕ → List ℕ → Line → Type 0
 LinesPlan count ms table cells r = (vs : List ℕ) → count ≡ min 17 (length vs) → take (min 16 count) ms ≡ take 16 vs
-    → r ≡ pick (eqb (length vs) (setsField table)) (loadLine (loads (decode table) (tables vs cells) .0)) (Refusal 0)
+    → r ≡ pick (eqb (length vs) (setsField table)) (loadLine (loads (decode table) (tables (noneInTest vs) cells) .0)) (Refusal 0)
 
 -- The first 16 of the masks and the first 4,097 bytes of the text are at hand, and the masks are counted as far as 17.
 unfoldable pub LinesText : ℕ → ℕ → List ℕ → List ℕ → List ℕ → List ℕ → Line → Type 0

@@ -7,7 +7,7 @@ use vuyekhang::MOST_TABLE;
 use super::clock::{medians, now, timed};
 use super::plans::{opposite, Plan, KINDS};
 use super::state::State;
-use crate::calls::{Improved, Move, Numbers};
+use crate::calls::{Improved, Move, Numbers, Test};
 use crate::{archive, plain};
 
 /// Times in nanoseconds; zero where a call has no such time.
@@ -39,6 +39,10 @@ pub fn measure(plan: &Plan, state: &State, each: &mut dyn FnMut(&Line)) {
     for (m, kind) in plan.moves.into_iter().zip(KINDS) {
         each(&moving(state, m, kind));
     }
+    for (m, kind) in plan.moves.into_iter().zip(KINDS) {
+        each(&undoing(state, m, kind));
+    }
+    each(&testing(state, plan.held_port()));
     for (m, kind) in plan.moves.into_iter().zip(KINDS) {
         each(&trying(state, m, kind));
     }
@@ -132,6 +136,59 @@ fn moving(state: &State, m: Move, kind: &str) -> Line {
     let [archive, plain, by_rows, by_recursion] = medians([&mut archive, &mut plain, &mut by_rows, &mut by_recursion]);
     a.same(&p);
     Line { by_rows, by_recursion, touched, changed, ..line(format!("move {kind}"), [archive, plain]) }
+}
+
+/// Undo of a move and of its opposite in turn, beside the plain engine that makes the same moves; the time is that of one of them.
+fn undoing(state: &State, m: Move, kind: &str) -> Line {
+    let (mut a, mut p) = (state.clone(), state.clone());
+    let back = opposite(m);
+    let filled = |s: &mut State| s.fill_journal(archive::record(&m), archive::record(&back));
+    filled(&mut a);
+    let undone_by_archive = |a: &mut State| {
+        if a.count == 0 {
+            filled(a);
+        }
+        archive::undo(&a.table, &mut a.masks, &mut a.cells, &a.journal, &mut a.count)
+    };
+    let (touched, changed) = compared(&mut state.clone(), &mut p, m);
+    // The newest record is the opposite, so that the move itself is made first.
+    let both = [m, back];
+    for m in both {
+        assert_eq!(undone_by_archive(&mut a), made_by_plain(&mut p, m));
+        a.same(&p);
+    }
+    let mut archive = |times| timed(times, || both.iter().for_each(|_| keep(undone_by_archive(&mut a)))) / 2;
+    let mut plain = |times| timed(times, || both.iter().for_each(|m| keep(made_by_plain(&mut p, *m)))) / 2;
+    let times = medians([&mut archive, &mut plain]);
+    a.same(&p);
+    Line { touched, changed, ..line(format!("undo {kind}"), times) }
+}
+
+fn tested_by_archive(s: &mut State, call: Test, port: u32) -> Result<Numbers, u32> {
+    archive::test(&s.table, &mut s.masks, &mut s.cells, call, black_box(port))
+}
+
+fn tested_by_plain(s: &mut State, call: Test, port: u32) -> Result<Numbers, u32> {
+    plain::test(&s.table, &mut s.masks, &mut s.cells, call, black_box(port))
+}
+
+/// A port put in test and taken out in turn; the time is that of one of both.
+fn testing(state: &State, port: u32) -> Line {
+    let (mut a, mut p, mut rows, recursion) = (state.clone(), state.clone(), Recompute::of(state), Recompute::of(state));
+    let touched = plain::touched_by_test(&p.table, &p.masks, &p.cells, Test::Begin, port).expect("no port is in test");
+    let both = [Test::Begin, Test::End];
+    let [begun, _] = both.map(|call| {
+        let answer = tested_by_archive(&mut a, call, port);
+        assert_eq!(answer, tested_by_plain(&mut p, call, port));
+        a.same(&p);
+        answer.expect("the port's condition is the other one")
+    });
+    let mut archive = |times| timed(times, || both.iter().for_each(|call| keep(tested_by_archive(&mut a, *call, port)))) / 2;
+    let mut plain = |times| timed(times, || both.iter().for_each(|call| keep(tested_by_plain(&mut p, *call, port)))) / 2;
+    let (mut by_rows, mut by_recursion) = (|times| rows.by_rows(times), |times| recursion.by_recursion(times));
+    let [archive, plain, by_rows, by_recursion] = medians([&mut archive, &mut plain, &mut by_rows, &mut by_recursion]);
+    a.same(&p);
+    Line { by_rows, by_recursion, touched, changed: begun.changed, ..line("test begin, end", [archive, plain]) }
 }
 
 fn trying(state: &State, m: Move, kind: &str) -> Line {

@@ -9,7 +9,7 @@ fn plan(name: &'static str, touched: usize, others: usize) -> Plan {
     let rule = |a: char, b: char| format!("@x@y(x/{a}|y/{b})");
     let rules: Vec<String> = (0..touched).map(|_| rule('A', 'B')).chain((0..others).map(|_| rule('C', 'D'))).collect();
     let text = format!("[ABCD]#A<=9&{}", rules.join("&"));
-    Plan { name, u: 64, text, masks: vec![0xF0F, 0xFF, 0xF000, 0x3F], moves: [ADD; 4] }
+    Plan { name, u: 64, text, sets: vec![0xF0F, 0xFF, 0xF000, 0x3F], moves: [ADD; 4] }
 }
 
 /// One rule is touched; the plan grows.

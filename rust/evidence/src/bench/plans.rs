@@ -1,14 +1,26 @@
 //! The six plans that are measured, as texts, with the configuration and the moves of each.
 use crate::calls::Move;
 
-/// A plan text over u ports and its masks.
+/// A plan text over u ports and its sets.
 pub struct Plan {
     pub name: &'static str,
     pub u: u64,
     pub text: String,
-    pub masks: Vec<u64>,
+    pub sets: Vec<u64>,
     /// A move of each kind; its opposite leads back.
     pub moves: [Move; 4],
+}
+
+impl Plan {
+    /// The masks to lend: the sets, and no port in test.
+    pub fn masks(&self) -> Vec<u64> {
+        [&self.sets[..], &[0]].concat()
+    }
+
+    /// A port that some set holds: the one that is dropped.
+    pub fn held_port(&self) -> u32 {
+        self.moves[1].p
+    }
 }
 
 pub const KINDS: [&str; 4] = ["add", "drop", "transfer", "swap"];
@@ -71,10 +83,10 @@ fn groups() -> Plan {
     let sets = letters(16);
     let apart = each_two(&sets, |a, b| format!("(x/{a}|x/{b})"));
     let text = format!("{}@x({apart})&{}", declared(&sets), sized(&sets, 4));
-    let mut masks = blocks(16, 4, 0, 64);
-    masks[3] = masks[4];
-    masks[9] ^= 1 << 2;
-    Plan { name: "B1", u: 64, text, masks, moves: moves((2, 40), (7, 28), (5, 6, 20), (10, 41, 3)) }
+    let mut held = blocks(16, 4, 0, 64);
+    held[3] = held[4];
+    held[9] ^= 1 << 2;
+    Plan { name: "B1", u: 64, text, sets: held, moves: moves((2, 40), (7, 28), (5, 6, 20), (10, 41, 3)) }
 }
 
 /// B2: two quantifiers, for each set one rule about pairs of ports.
@@ -82,14 +94,14 @@ fn pairs() -> Plan {
     let sets = letters(16);
     let rules = each(&sets, 1, |a, b| format!("(x/{a}|y/{b})"));
     let text = format!("{}@x@y({rules})&{}", declared(&sets), sized(&sets, 3));
-    Plan { name: "B2", u: 64, text, masks: blocks(16, 3, 5, 64), moves: moves((2, 40), (7, 27), (5, 6, 21), (10, 36, 3)) }
+    Plan { name: "B2", u: 64, text, sets: blocks(16, 3, 5, 64), moves: moves((2, 40), (7, 27), (5, 6, 21), (10, 36, 3)) }
 }
 
 /// B3: two conjuncts under three quantifiers, one by the outermost variable and one by the innermost.
 fn triples() -> Plan {
-    let masks = vec![0x0F0F_0F0F, 0xFF];
+    let sets = vec![0x0F0F_0F0F, 0xFF];
     let moves = moves((0, 40), (1, 3), (0, 1, 10), (1, 2, 50));
-    Plan { name: "B3", u: 64, text: "[ST]@x@y@z(x:S&z/T)".to_string(), masks, moves }
+    Plan { name: "B3", u: 64, text: "[ST]@x@y@z(x:S&z/T)".to_string(), sets, moves }
 }
 
 /// B4: a size literal in each rule, so that every pair of ports is touched.
@@ -97,7 +109,7 @@ fn sizes() -> Plan {
     let sets = letters(10);
     let rules = each(&sets, 1, |a, b| format!("(x/{a}|y/{b}|#{a}<=2)"));
     let text = format!("{}@x@y({rules})", declared(&sets));
-    Plan { name: "B4", u: 64, text, masks: blocks(10, 4, 0, 64), moves: moves((2, 40), (7, 29), (5, 6, 21), (9, 36, 3)) }
+    Plan { name: "B4", u: 64, text, sets: blocks(10, 4, 0, 64), moves: moves((2, 40), (7, 29), (5, 6, 21), (9, 36, 3)) }
 }
 
 /// B5: a cabinet of 48 ports. Groups A to H are disjoint and, with the spares I to L, hold every port; each group has a port that
@@ -118,7 +130,7 @@ fn cabinet() -> Plan {
         binders.join("&"),
         neighbours.join("&"),
     );
-    Plan { name: "B5", u: 48, text, masks: blocks(16, 4, 0, 48), moves: moves((2, 40), (7, 29), (5, 6, 21), (10, 41, 3)) }
+    Plan { name: "B5", u: 48, text, sets: blocks(16, 4, 0, 48), moves: moves((2, 40), (7, 29), (5, 6, 21), (10, 41, 3)) }
 }
 
 /// B6: document 000's Table 1, 10 baskets of 3 of 8 credits with at most 2 in common. The last basket repeats the first.
@@ -127,6 +139,6 @@ fn portfolio() -> Plan {
     let rules = each_two(&sets, |a, b| format!("(x>=y|y>=z|x/{a}|y/{a}|z/{a}|x/{b}|y/{b}|z/{b})"));
     let text = format!("{}@x@y@z({rules})&{}", declared(&sets), sized(&sets, 3));
     let baskets = [[0, 1, 2], [0, 1, 3], [0, 1, 4], [0, 1, 5], [2, 3, 4], [2, 3, 5], [2, 3, 6], [4, 5, 7], [4, 6, 7], [0, 1, 2]];
-    let masks = baskets.map(|b| b.iter().fold(0, |mask, port| mask | 1 << port)).to_vec();
-    Plan { name: "B6", u: 8, text, masks, moves: moves((2, 7), (7, 5), (5, 6, 5), (9, 2, 7)) }
+    let held = baskets.map(|b| b.iter().fold(0, |mask, port| mask | 1 << port)).to_vec();
+    Plan { name: "B6", u: 8, text, sets: held, moves: moves((2, 7), (7, 5), (5, 6, 5), (9, 2, 7)) }
 }

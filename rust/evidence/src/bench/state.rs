@@ -22,7 +22,7 @@ impl State {
         let mut table = vec![0; MOST_TABLE];
         let answer = read(plan.u, plan.text.as_bytes(), &mut table).unwrap_or_else(|n| panic!("the text of {} is refused: {n}", plan.name));
         table.truncate(9 + 8 * answer.nodes);
-        let (masks, cells) = (plan.masks.clone(), vec![0; answer.cells]);
+        let (masks, cells) = (plan.masks(), vec![0; answer.cells]);
         let journal = vec![Move::default(); MOST_RECORDS];
         let mut state = State { table, masks, scratch: cells.clone(), cells, journal, count: 0 };
         load(&state.table, &state.masks, &mut state.cells).unwrap_or_else(|n| panic!("the masks of {} are refused: {n}", plan.name));
@@ -34,6 +34,12 @@ impl State {
         if self.count == MOST_RECORDS {
             self.count = 0;
         }
+    }
+
+    /// A full journal of a move and its opposite by turns, made from this state, which undoing all of it leads back to.
+    pub fn fill_journal(&mut self, m: Move, opposite: Move) {
+        self.journal.iter_mut().enumerate().for_each(|(at, record)| *record = if at % 2 == 0 { m } else { opposite });
+        self.count = MOST_RECORDS;
     }
 
     /// Both engines are to leave the same masks and cells.

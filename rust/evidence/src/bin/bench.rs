@@ -23,7 +23,7 @@ fn print_plans() {
     println!("| plan | u | sets | text bytes | nodes | cells | root |\n|---|---|---|---|---|---|---|");
     for plan in plans() {
         let (answer, state) = State::of(&plan);
-        let (name, u, sets, bytes) = (plan.name, plan.u, plan.masks.len(), plan.text.len());
+        let (name, u, sets, bytes) = (plan.name, plan.u, plan.sets.len(), plan.text.len());
         println!("| {name} | {u} | {sets} | {bytes} | {} | {} | {} |", answer.nodes, answer.cells, state.cells[0]);
     }
 }

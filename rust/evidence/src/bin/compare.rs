@@ -69,9 +69,10 @@ fn too_seldom(missed: &[String]) -> bool {
     !missed.is_empty()
 }
 
-/// Fails unless every round in which a byte or a cell was changed ends in a difference.
+/// Fails unless every round in which something was changed ends in a difference.
 fn damage_unseen(rounds: u64, seed: u64) -> bool {
-    [Target::Tables, Target::Texts, Target::Cells].into_iter().any(|target| unseen(target, rounds, seed))
+    let targets = [Target::Tables, Target::Texts, Target::Cells, Target::InTest, Target::OtherSizes, Target::Answers];
+    targets.into_iter().any(|target| unseen(target, rounds, seed))
 }
 
 fn unseen(target: Target, rounds: u64, seed: u64) -> bool {

@@ -1,9 +1,12 @@
-//! Moves: their grounds for refusal, what they change, and the candidates of improve.
-use crate::calls::Move;
+//! Moves and ports in test: their grounds for refusal, what they change, and the candidates of improve.
+use crate::calls::{Move, Test};
 
-/// What the walk needs of a move.
+/// What the walk needs of a change.
 pub struct Change {
-    /// Bit 4s for each changed set s.
+    /// The word at the root: a node is touched where its uses meet the word. In the four bits of each changed set, bit v below the
+    /// depth says that digit v of the tuple is a changed port; the higher bits are 1.
+    pub word: u64,
+    /// Bit 4s for each set s with a member that changes.
     sets: u64,
     /// The ports that change, the smaller first; equal where one changes.
     pub low: usize,
@@ -36,13 +39,21 @@ impl Change {
     pub fn by(m: &Move) -> Change {
         let other = if m.kind == 3 { 1 << (4 * m.t) } else { 0 };
         let q = if m.kind == 4 { m.q } else { m.p };
-        Change { sets: 1 << (4 * m.s) | other, low: m.p.min(q) as usize, high: m.p.max(q) as usize }
+        let sets = 1 << (4 * m.s) | other;
+        Change { word: sets * 15, sets, low: m.p.min(q) as usize, high: m.p.max(q) as usize }
     }
 
-    /// The word at the root: a node is touched where its uses meet the word. In the four bits of each changed set, bit v below the
-    /// depth says that digit v of the tuple is a changed port; the higher bits are 1.
-    pub fn word(&self) -> u64 {
-        self.sets * 15
+    /// What a port that goes into test or out of it changes, or its ground of 14 and 20: the size of each set that holds it, and no
+    /// member. `masks` are the n sets, then the ports in test.
+    pub fn by_test(call: Test, port: u32, u: usize, n: usize, masks: &[u64]) -> Result<Change, u32> {
+        if port as usize >= u {
+            return Err(14);
+        }
+        if has(masks, n as u32, port) == (call == Test::Begin) {
+            return Err(20);
+        }
+        let held = (0..n as u32).filter(|s| has(masks, *s, port));
+        Ok(Change { word: held.map(|s| 8u64 << (4 * s)).sum(), sets: 0, low: port as usize, high: port as usize })
     }
 
     /// The word below a quantifier of this depth at a port that does not change.
@@ -57,19 +68,6 @@ impl Change {
             self.rest(word, depth)
         }
     }
-}
-
-/// The masks that a legal move leaves.
-pub fn after(masks: &[u64], n: usize, m: &Move) -> [u64; 16] {
-    let mut new = [0; 16];
-    new[..n].copy_from_slice(&masks[..n]);
-    new[m.s as usize] ^= 1 << m.p;
-    match m.kind {
-        3 => new[m.t as usize] ^= 1 << m.p,
-        4 => new[m.s as usize] ^= 1 << m.q,
-        _ => {}
-    }
-    new
 }
 
 /// The ports of a mask, rising.

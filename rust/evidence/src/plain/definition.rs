@@ -1,15 +1,16 @@
 //! Definition 5 as it is written: the root's penalty by recursion over nodes and ports, with no cells kept.
 use super::check::{Node, Tables, ALL, AND, OR, ROOT, SOME};
+use super::configuration::Configuration;
 use super::literal::{penalty, with_digit};
 
-pub fn root(tables: &Tables, masks: &[u64]) -> u32 {
-    Definition { nodes: &tables.nodes, u: tables.u, masks }.at(0, 0)
+pub fn root(tables: &Tables, of: &Configuration) -> u32 {
+    Definition { nodes: &tables.nodes, u: tables.u, of }.at(0, 0)
 }
 
 struct Definition<'a> {
     nodes: &'a [Node],
     u: usize,
-    masks: &'a [u64],
+    of: &'a Configuration,
 }
 
 impl Definition<'_> {
@@ -22,7 +23,7 @@ impl Definition<'_> {
             SOME => (0..self.u).fold(u32::MAX, |least, x| least.min(port(x))),
             AND => self.children(i, digits, 0, |sum, c| sum + c),
             OR => self.children(i, digits, u32::MAX, u32::min),
-            _ => penalty(node, self.masks, digits),
+            _ => penalty(node, self.of, digits),
         }
     }
 

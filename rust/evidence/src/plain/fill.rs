@@ -1,5 +1,6 @@
 //! Every cell of a plan from scratch (Definition 5), children first, literals by rows.
 use super::check::{Node, Tables, ALL, AND, COMPARE, OR, ROOT, SIZE, SOME};
+use super::configuration::Configuration;
 use super::literal::{digit, member, penalty, related, with_digit};
 use super::walk::least_of;
 
@@ -16,13 +17,13 @@ struct Prefix {
 
 struct Filler<'a> {
     tables: &'a Tables,
-    masks: &'a [u64],
+    of: &'a Configuration,
     powers: [usize; 4],
 }
 
-pub fn all(tables: &Tables, masks: &[u64], cells: &mut [u32]) {
+pub fn all(tables: &Tables, of: &Configuration, cells: &mut [u32]) {
     let u = tables.u;
-    let filler = Filler { tables, masks, powers: [1, u, u * u, u * u * u] };
+    let filler = Filler { tables, of, powers: [1, u, u * u, u * u * u] };
     let whole = Prefix { fixed: 0, digits: 0, place: 0 };
     let mut k = tables.nodes.len();
     // Behind `done` every cell is filled.
@@ -65,7 +66,7 @@ impl Filler<'_> {
         let own = &mut head[node.first as usize + prefix.place * length..][..length];
         match node.kind {
             ROOT..=OR => self.inner(k, prefix, own, tail),
-            SIZE => own.fill(penalty(node, self.masks, 0)),
+            SIZE => own.fill(penalty(node, self.of, 0)),
             _ => self.literal(node, prefix.fixed, prefix.digits, own),
         }
     }
@@ -103,7 +104,7 @@ impl Filler<'_> {
     fn literal(&self, node: &Node, variable: u8, digits: u32, own: &mut [u32]) {
         let uses = |v: u8| node.a == v || node.kind == COMPARE && node.b == v;
         if (variable..node.depth).all(|v| !uses(v)) {
-            return own.fill(penalty(node, self.masks, digits));
+            return own.fill(penalty(node, self.of, digits));
         }
         if variable + 1 == node.depth {
             return self.literal_row(node, digits, own);
@@ -126,11 +127,11 @@ impl Filler<'_> {
         let last = node.depth - 1;
         if node.kind != COMPARE {
             let flip = u32::from(node.kind == super::check::IN);
-            let mask = self.masks[usize::from(node.b)];
+            let mask = self.of.sets[usize::from(node.b)];
             return own.iter_mut().enumerate().for_each(|(x, o)| *o = member(mask, x as u32) ^ flip);
         }
         if node.a == node.b {
-            return own.fill(penalty(node, self.masks, 0));
+            return own.fill(penalty(node, self.of, 0));
         }
         // With the innermost variable on the right the relation is read the other way round.
         let (other, relation) =

@@ -1,5 +1,6 @@
 //! The penalty of a literal. A tuple's digits stand in one word, 8 bits a variable, so that none is found by division.
 use super::check::{Node, COMPARE, IN, NOT_IN};
+use super::configuration::Configuration;
 
 pub fn with_digit(digits: u32, variable: u8, port: usize) -> u32 {
     digits | (port as u32) << (8 * u32::from(variable))
@@ -35,11 +36,12 @@ pub fn size_penalty(relation: u8, s: u32, c: u32) -> u32 {
     }
 }
 
-pub fn penalty(node: &Node, masks: &[u64], digits: u32) -> u32 {
+pub fn penalty(node: &Node, of: &Configuration, digits: u32) -> u32 {
+    let member = || member(of.sets[usize::from(node.b)], digit(digits, node.a));
     match node.kind {
-        IN => 1 - member(masks[usize::from(node.b)], digit(digits, node.a)),
-        NOT_IN => member(masks[usize::from(node.b)], digit(digits, node.a)),
+        IN => 1 - member(),
+        NOT_IN => member(),
         COMPARE => u32::from(!related(node.relation, digit(digits, node.a), digit(digits, node.b))),
-        _ => size_penalty(node.relation, masks[usize::from(node.a)].count_ones(), u32::from(node.b)),
+        _ => size_penalty(node.relation, of.size(node.a), u32::from(node.b)),
     }
 }

@@ -1,10 +1,12 @@
 //! A plain incremental engine over the same tables, written to be fast: what the archive's times are held against.
 //!
 //! It takes the plan table, masks and cells as the archive does and answers the same numbers; it keeps no journal. It uses neither the
-//! binding nor the second evaluator. The shape: one pass over the plan table gives each node its first cell, its end and what it uses; a move then visits
-//! the touched cells only, and where every port below a quantifier is touched its cells are done as one row.
+//! binding nor the second evaluator. The shape: one pass over the plan table gives each node its first cell, its end and what it
+//! uses; a change then visits the touched cells only, and where every port below a quantifier is touched its cells are done as one
+//! row.
 mod change;
 mod check;
+mod configuration;
 mod definition;
 mod fill;
 mod literal;
@@ -16,38 +18,46 @@ mod tokens;
 mod tree;
 mod walk;
 
-use crate::calls::{Improved, Loaded, Move, Numbers};
+use crate::calls::{Improved, Loaded, Move, Numbers, Test};
 pub use read::read;
 
-use change::{after, candidates, Change};
+use change::{candidates, Change};
 use check::Tables;
+use configuration::Configuration;
 use store::{Counts, Reads, Store, Writes};
 use walk::Walk;
 
 /// Grounds 11 to 13; `shortest` is the length of the shortest cell table that is lent.
 fn open(table: &[u8], masks: &[u64], shortest: usize) -> Result<Tables, u32> {
     let tables = Tables::of(table).ok_or(11u32)?;
-    if masks.len() < tables.n || shortest < tables.cells {
+    if masks.len() <= tables.n || shortest < tables.cells {
         return Err(12);
     }
     let outside = if tables.u == 64 { 0 } else { u64::MAX << tables.u };
-    if masks[..tables.n].iter().any(|m| m & outside != 0) {
+    if masks[..=tables.n].iter().any(|m| m & outside != 0) {
         return Err(13);
     }
     Ok(tables)
 }
 
-/// Grounds 11 to 15.
+/// Grounds 11 to 15 of a move.
 fn judge(table: &[u8], masks: &[u64], shortest: usize, m: &Move) -> Result<(Tables, Change), u32> {
     let tables = open(table, masks, shortest)?;
     let change = Change::of(m, tables.u, tables.n, masks)?;
     Ok((tables, change))
 }
 
+/// Grounds 11 to 14 and 20 of a port that goes into test or out of it.
+fn judge_test(table: &[u8], masks: &[u64], shortest: usize, call: Test, port: u32) -> Result<(Tables, Change), u32> {
+    let tables = open(table, masks, shortest)?;
+    let change = Change::by_test(call, port, tables.u, tables.n, masks)?;
+    Ok((tables, change))
+}
+
 /// The root before and after a change and how many cells differ.
-fn walked<S: Store>(tables: &Tables, masks: &[u64; 16], change: &Change, store: S) -> (Numbers, S) {
+fn walked<S: Store>(tables: &Tables, new: &Configuration, change: &Change, store: S) -> (Numbers, S) {
     let before = store.get(0);
-    let mut walk = Walk { nodes: &tables.nodes, u: tables.u, masks, change, store, changed: 0 };
+    let mut walk = Walk { nodes: &tables.nodes, u: tables.u, new, change, store, changed: 0 };
     let after = walk.root();
     (Numbers { before, after, changed: walk.changed }, walk.store)
 }
@@ -55,7 +65,7 @@ fn walked<S: Store>(tables: &Tables, masks: &[u64; 16], change: &Change, store: 
 /// Checks the tables and fills every cell.
 pub fn load(table: &[u8], masks: &[u64], cells: &mut [u32]) -> Result<Loaded, u32> {
     let tables = open(table, masks, cells.len())?;
-    fill::all(&tables, masks, cells);
+    fill::all(&tables, &Configuration::of(masks, tables.n), cells);
     Ok(Loaded { root: cells[0], cells: tables.cells })
 }
 
@@ -69,12 +79,12 @@ impl Checked {
 
     /// The root by Definition 5 as it is written, with no cells kept.
     pub fn root_by_definition(&self, masks: &[u64]) -> u32 {
-        definition::root(&self.0, masks)
+        definition::root(&self.0, &Configuration::of(masks, self.0.n))
     }
 
     /// Definition 5 from scratch for every cell, by rows: what a move saves.
     pub fn recompute(&self, masks: &[u64], cells: &mut [u32]) -> u32 {
-        fill::all(&self.0, masks, cells);
+        fill::all(&self.0, &Configuration::of(masks, self.0.n), cells);
         cells[0]
     }
 }
@@ -86,21 +96,39 @@ pub fn make_move(table: &[u8], masks: &mut [u64], cells: &mut [u32], m: &Move) -
 
 /// Makes a legal move.
 fn make(tables: &Tables, change: &Change, masks: &mut [u64], cells: &mut [u32], m: &Move) -> Numbers {
-    let new = after(masks, tables.n, m);
-    masks[..tables.n].copy_from_slice(&new[..tables.n]);
+    let new = Configuration::after(masks, tables.n, m);
+    masks[..tables.n].copy_from_slice(&new.sets[..tables.n]);
     walked(tables, &new, change, Writes(cells)).0
+}
+
+/// Puts a port in test, or takes it out.
+pub fn test(table: &[u8], masks: &mut [u64], cells: &mut [u32], call: Test, port: u32) -> Result<Numbers, u32> {
+    let (tables, change) = judge_test(table, masks, cells.len(), call, port)?;
+    masks[tables.n] ^= 1 << port;
+    Ok(walked(&tables, &Configuration::of(masks, tables.n), &change, Writes(cells)).0)
 }
 
 /// What a move would answer. It needs no scratch, and asks for it only because the archive's call does (12).
 pub fn trial(table: &[u8], masks: &[u64], cells: &[u32], scratch: &[u32], m: &Move) -> Result<Numbers, u32> {
     let (tables, change) = judge(table, masks, cells.len().min(scratch.len()), m)?;
-    Ok(walked(&tables, &after(masks, tables.n, m), &change, Reads(cells)).0)
+    Ok(walked(&tables, &Configuration::after(masks, tables.n, m), &change, Reads(cells)).0)
 }
 
 /// How many cells a legal move touches.
 pub fn touched(table: &[u8], masks: &[u64], cells: &[u32], m: &Move) -> Option<usize> {
     let (tables, change) = judge(table, masks, cells.len(), m).ok()?;
-    Some(walked(&tables, &after(masks, tables.n, m), &change, Counts { cells, touched: 0 }).1.touched)
+    Some(counted(&tables, masks, &change, cells))
+}
+
+/// How many cells an accepted call touches that puts a port in test or takes it out.
+pub fn touched_by_test(table: &[u8], masks: &[u64], cells: &[u32], call: Test, port: u32) -> Option<usize> {
+    let (tables, change) = judge_test(table, masks, cells.len(), call, port).ok()?;
+    Some(counted(&tables, masks, &change, cells))
+}
+
+/// What is touched does not depend on what is written there.
+fn counted(tables: &Tables, masks: &[u64], change: &Change, cells: &[u32]) -> usize {
+    walked(tables, &Configuration::of(masks, tables.n), change, Counts { cells, touched: 0 }).1.touched
 }
 
 /// The first of the best candidates in the order kind, S, T, p, q, made if it leaves a smaller root than now.
@@ -112,7 +140,7 @@ pub fn improve(table: &[u8], masks: &mut [u64], cells: &mut [u32], scratch: &[u3
     let root = cells[0];
     let (mut least, mut chosen) = (root, None);
     candidates(kinds, tables.u, tables.n, masks, |m| {
-        let left = walked(&tables, &after(masks, tables.n, &m), &Change::by(&m), Reads(cells)).0.after;
+        let left = walked(&tables, &Configuration::after(masks, tables.n, &m), &Change::by(&m), Reads(cells)).0.after;
         if left < least {
             (least, chosen) = (left, Some(m));
         }

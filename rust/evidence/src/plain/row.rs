@@ -26,7 +26,7 @@ impl<S: Store> Walk<'_, S> {
                 self.close(at, &own, sum, into);
             }
             // A literal by the row's own variable is touched at the changed ports only: in a row its number is the same all along.
-            _ => self.close(at, &[penalty(&node, self.masks, row.digits); 64], sum, into),
+            _ => self.close(at, &[penalty(&node, self.new, row.digits); 64], sum, into),
         }
     }
 

@@ -1,14 +1,15 @@
 //! The walk of a change over the touched cells, one cell at a time.
 use super::change::Change;
 use super::check::{Node, ALL, AND, OR, ROOT, SOME};
+use super::configuration::Configuration;
 use super::literal::{penalty, with_digit};
 use super::store::Store;
 
 pub struct Walk<'a, S> {
     pub nodes: &'a [Node],
     pub u: usize,
-    /// The masks after the change.
-    pub masks: &'a [u64; 16],
+    /// The configuration after the change.
+    pub new: &'a Configuration,
     pub change: &'a Change,
     pub store: S,
     /// How many cells met so far differ from before.
@@ -38,7 +39,7 @@ impl Step {
 impl<S: Store> Walk<'_, S> {
     /// The root after the change.
     pub fn root(&mut self) -> u32 {
-        let word = self.change.word();
+        let word = self.change.word;
         if self.nodes[0].uses & word == 0 {
             return self.store.get(0);
         }
@@ -57,7 +58,7 @@ impl<S: Store> Walk<'_, S> {
             OR => self.least_of_children(i, at),
             ALL => self.sum_of_ports(i, old, at),
             SOME => self.least_of_ports(i, at),
-            _ => penalty(node, self.masks, at.digits),
+            _ => penalty(node, self.new, at.digits),
         };
         self.changed += u32::from(old != new);
         self.store.put(here, new);

@@ -2,6 +2,7 @@
 //! everywhere: it is slow, and easy to hold against the paper.
 mod core;
 pub mod formula;
+pub mod in_test;
 pub mod journal;
 pub mod moves;
 pub mod penalty;

@@ -1,19 +1,24 @@
 //! Load's grounds, what a move changes, trial, the best moves. Paper 01, sections One move and Grounds for refusal; request 2026-01 of
-//! paper 02. The calls that write are in `journal`.
+//! paper 02. The calls that write are in `journal` and `in_test`.
 use super::penalty::{below, in_set, literal_penalty, tuples};
 use super::plan::{Plan, ALL, AND, IN, NOT_IN, ROOT, SIZE};
 use super::table::decode;
 use crate::calls::{Improved, Move, Numbers};
 
+/// One for each set, and "one further mask, after the sets," that "names the ports in test" (request 2026-05).
+pub fn own_masks(plan: &Plan) -> usize {
+    plan.n + 1
+}
+
 /// Grounds 11 to 13; `lengths` are those of the cell tables that are lent.
 pub fn tables(table: &[u8], masks: &[u64], lengths: &[usize]) -> Result<Plan, u32> {
     let plan = decode(table).ok_or(11u32)?;
     let total = plan.cells();
-    if masks.len() < plan.n || lengths.iter().any(|l| *l < total) {
+    if masks.len() < own_masks(&plan) || lengths.iter().any(|l| *l < total) {
         return Err(12);
     }
     let outside = |m: &u64| (plan.u..64).any(|p| m >> p & 1 == 1);
-    if masks[..plan.n].iter().any(outside) {
+    if masks[..own_masks(&plan)].iter().any(outside) {
         return Err(13);
     }
     Ok(plan)
@@ -83,11 +88,10 @@ fn place(u: usize, tuple: &[usize]) -> usize {
     tuple.iter().fold(0, |at, port| at * u + port)
 }
 
-/// The plan's cells after these pairs have changed to `masks`, from any cells before: children first, sums by differences.
-pub fn updated(plan: &Plan, masks: &[u64], pairs: &[(usize, usize)], old: &[u32]) -> Vec<u32> {
+/// The plan's cells under `masks`, the touched ones written from any cells before: children first, sums by differences.
+pub fn updated(plan: &Plan, masks: &[u64], is_touched: impl Fn(usize, &[usize]) -> bool, old: &[u32]) -> Vec<u32> {
     let firsts = plan.firsts();
     let at = |node: usize, tuple: &[usize]| firsts[node] + place(plan.u, tuple);
-    let is_touched = |node: usize, tuple: &[usize]| pairs.iter().any(|pair| touched(plan, node, tuple, *pair));
     let mut new = old.to_vec();
     for node in (0..plan.nodes.len()).rev() {
         for tuple in tuples(plan.u, plan.depth(node)) {
@@ -112,7 +116,8 @@ pub fn updated(plan: &Plan, masks: &[u64], pairs: &[(usize, usize)], old: &[u32]
     new
 }
 
-fn numbers(old: &[u32], new: &[u32]) -> Numbers {
+/// Root before, root after, "how many cells differ from before".
+pub fn numbers(old: &[u32], new: &[u32]) -> Numbers {
     let changed = old.iter().zip(new).filter(|(a, b)| a != b).count() as u32;
     Numbers { before: old[0], after: new[0], changed }
 }
@@ -120,7 +125,8 @@ fn numbers(old: &[u32], new: &[u32]) -> Numbers {
 /// The three numbers and the plan's own cells after a legal move.
 pub fn made(plan: &Plan, masks: &[u64], cells: &[u32], m: &Move) -> (Numbers, Vec<u32>) {
     let old = &cells[..plan.cells()];
-    let new = updated(plan, &flipped(masks, m), &pairs(m), old);
+    let is_touched = |node: usize, tuple: &[usize]| pairs(m).iter().any(|pair| touched(plan, node, tuple, *pair));
+    let new = updated(plan, &flipped(masks, m), is_touched, old);
     (numbers(old, &new), new)
 }
 

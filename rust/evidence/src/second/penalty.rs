@@ -1,4 +1,4 @@
-//! Definition 5, truth, and the cell table. Paper 01, sections Plan table and Penalty.
+//! Definition 5, truth, and the cell table. Paper 01, sections Plan table and Penalty; size as request 2026-05 of paper 02 has it.
 use super::formula::Tree;
 use super::plan::{Plan, ALL, AND, COMPARE, IN, NOT_IN, OR, ROOT, SIZE, SOME};
 
@@ -32,8 +32,9 @@ fn size_penalty(relation: u8, s: u64, c: u64) -> u64 {
     }
 }
 
-fn size(masks: &[u64], set: u8) -> u64 {
-    u64::from(masks[usize::from(set)].count_ones())
+/// "the size of a set becomes the number of its members not in test"; the mask after those of the n sets names the ports in test.
+fn size(u: usize, n: usize, masks: &[u64], set: usize) -> u64 {
+    (0..u).filter(|port| in_set(masks, set, *port) && !in_set(masks, n, *port)).count() as u64
 }
 
 /// A literal's penalty at a tuple: cases (f) to (i).
@@ -42,7 +43,7 @@ pub fn literal_penalty(plan: &Plan, masks: &[u64], node: usize, tuple: &[usize])
     let port = |v: u8| tuple[usize::from(v)];
     match n.kind {
         COMPARE => u64::from(!related(n.relation, port(n.a) as u64, port(n.b) as u64)),
-        SIZE => size_penalty(n.relation, size(masks, n.a), u64::from(n.b)),
+        SIZE => size_penalty(n.relation, size(plan.u, plan.n, masks, usize::from(n.a)), u64::from(n.b)),
         IN => u64::from(!in_set(masks, usize::from(n.b), port(n.a))),
         NOT_IN => u64::from(in_set(masks, usize::from(n.b), port(n.a))),
         _ => unreachable!("a literal"),
@@ -109,7 +110,7 @@ pub fn text_true(tree: &Tree, u: usize, sets: &[u8], masks: &[u64], bound: &mut 
         Tree::In(v, s) => in_set(masks, set(s), port(v, bound)),
         Tree::NotIn(v, s) => !in_set(masks, set(s), port(v, bound)),
         Tree::Compare(v, r, w) => related(*r, port(v, bound) as u64, port(w, bound) as u64),
-        Tree::Size(s, r, c) => related(*r, u64::from(masks[set(s)].count_ones()), *c),
+        Tree::Size(s, r, c) => related(*r, size(u, sets.len(), masks, set(s)), *c),
     }
 }
 
