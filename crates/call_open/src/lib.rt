@@ -9,14 +9,14 @@ ghost use Rattle.logic.specs.Configuration.{allWithin};
 ghost use Rattle.table_check.specs.inner.Check.{IndexRoom};
 ghost use Rattle.call_open.specs.inner.Opening.{OpensCells, Opens};
 
-// Whether no mask of the first `sets` has a port of `ports` or more.
-fn masks_ok(masks: &[u64], sets: usize, ports: usize) -> bool
-    requires { ⌜ (sets ≤ length (now masks)) × (ports ≤ 64) ⌝ }
-    ensures { λ r. ⌜ r ≡ allWithin ports (take sets (now (masks .entry))) ⌝ }
+// Whether no mask of the first `count` has a port of `ports` or more.
+fn masks_ok(masks: &[u64], count: usize, ports: usize) -> bool
+    requires { ⌜ (count ≤ length (now masks)) × (ports ≤ 64) ⌝ }
+    ensures { λ r. ⌜ r ≡ allWithin ports (take count (now (masks .entry))) ⌝ }
 {
     let u = ports as u32;
     let mut s = 0;
-    while s < sets {
+    while s < count {
         if !within_ports(masks[s], u) {
             return false;
         }

@@ -6,9 +6,9 @@ use Prim.Native.Nat.{ℕ, zero, suc, _≤_, _<_}
 use native.Mathlib.Omega.{arith}
 use lib.ListN.{length, getD, set, take, drop}
 use Rattle.logic.specs.Formula.{Plan}
-use Rattle.logic.specs.Configuration.{Sets, inMasks, maskCount, ownMasks, spelled}
+use Rattle.logic.specs.Configuration.{inMasks, ownMasks, spelled}
 use Rattle.logic.specs.Cells.{ownCells}
-use Rattle.logic.specs.Moves.{Ground, refusal}
+use Rattle.logic.specs.Moves.{refusal}
 use Rattle.logic.specs.Change.{newCells, differing}
 use Rattle.logic.specs.InTest.{testGrounds, testMasks, testChange}
 use Rattle.logic.proofs.InTest.{test-mask-flip}
@@ -22,7 +22,7 @@ use Rattle.contracts.specs.TestCall.{testCallGrounds, testedCells, testedTables
 use Rattle.contracts.proofs.Calls.{call-refused, call-accepted}
 use Rattle.contracts.proofs.Steps.{test-free}
 use Rattle.call_open.specs.inner.Opening.{OpenPlan}
-use Rattle.call_open.proofs.Opening.{open-longer, one-table, Tries, tries-tables}
+use Rattle.call_open.proofs.Opening.{one-table, Tries, tries-tables}
 use Rattle.call_open.proofs.OpenPlan.{ports-fit, masks-long, own-is}
 use Rattle.test_port.specs.inner.Port.{PortNumber}
 use Rattle.test_make.specs.inner.Putting.{PortReady, flippedMasks, flippedCells, Puts}

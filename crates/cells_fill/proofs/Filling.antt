@@ -9,7 +9,7 @@ use lib.ListN.{length, getD, take, drop, length-append, length-drop, take-append
 use lib.Seq.{drop-at, length-take-le, ext-getD, drop-append-add}
 use Rattle.logic.specs.Formula.{Node, root, all, any, and, or, lit, Forest, none, tree, kindNumber, nodeCount, childDepth}
 use Rattle.logic.specs.inner.Literals.{ConstantLow, ConstantsLow}
-use Rattle.logic.specs.Configuration.{Configuration, configured, inMasks}
+use Rattle.logic.specs.Configuration.{Configuration, inMasks}
 use Rattle.logic.specs.Truth.{Tuple}
 use Rattle.logic.specs.Penalty.{sum, below, penalties, penalty}
 use Rattle.logic.specs.Cells.{cellCount, tupleAt, tabulate, layout}

@@ -2,7 +2,7 @@
 -- made moves, with calls that put ports in test or take them out among both. Every undo is accepted, masks and cells are those that the
 -- test calls alone would have left, and the journal is as it was. By induction over the calls, over two books: that of all calls, and that
 -- of the test calls alone, which differ by the moves made and not taken back. Assumes nothing.
-use mathlib.Core.Path.{_≡_, refl, sym, ap, ap₂, _∙_, subst, fun-ext}
+use mathlib.Core.Path.{_≡_, refl, sym, ap, ap₂, _∙_, subst}
 use mathlib.Core.Logic.{_⊎_, inl, inr}
 use mathlib.Core.Bool.{Bool, true, false, cond, not, _&&_, Bool·beq, true≢false, false≢true}
 use mathlib.Core.List.{List, [], _∷_, _++_}
@@ -16,11 +16,11 @@ use Rattle.logic.specs.declared.Move.{Move}
 use Rattle.logic.specs.Formula.{Plan}
 use Rattle.logic.specs.Configuration.{Sets, ownMasks}
 use Rattle.logic.specs.Cells.{ownCells}
-use Rattle.logic.specs.Moves.{Ground, refusal, MoveKind, add, drop as dropKind, transfer, swap, unknown, moveKind, fieldsFit, known, fits, legal, Pair, kindPairs, namedPairs, movePairs, flip, flips}
+use Rattle.logic.specs.Moves.{Ground, refusal, known, legal, movePairs}
 use Rattle.logic.specs.InTest.{testGrounds, testMasks, testFlip}
 use Rattle.logic.proofs.Lists.{and-left, and-at}
-use Rattle.logic.proofs.Moves.{PairsKnown, known-pairs}
-use Rattle.logic.proofs.InTest.{test-sets}
+use Rattle.logic.proofs.Moves.{known-pairs, flips-in-test}
+use Rattle.logic.proofs.InTest.{flips-commute, legal-tested}
 use Rattle.table_format.specs.Decode.{Decoded, sound, decode}
 use Rattle.contracts.specs.State.{State, ownTables, withRest}
 use Rattle.contracts.specs.Journal.{Journaled, full, roomOf, newest, appended, removed, opposite, countAfter}
@@ -40,52 +40,11 @@ use Rattle.contracts.proofs.Spelling.{kept-same}
 use Rattle.call_one.specs.Scratch.{answerNumber}
 use Rattle.demands.specs.TakenBack.{madeOne, madeMoves, isUndo, isTest, OtherThanUndo, NoUndo, UndosAndTests, undoCount, testCalls, UndoAccepted, UndosAccepted, TakenBack}
 
-both-flips : (b c x : Bool) → cond b (not (cond c (not x) x)) (cond c (not x) x) ≡ cond c (not (cond b (not x) x)) (cond b (not x) x)
-both-flips true true x = refl
-both-flips true false x = refl
-both-flips false true x = refl
-both-flips false false x = refl
-
--- of two pairs it is the same which is flipped first
-flip-commutes : (q r : Pair) (k : Sets) → flip q (flip r k) ≡ flip r (flip q k)
-unfolding flip
-flip-commutes q r k = fun-ext (λ S. fun-ext (λ p. both-flips (eqb S (q .0) && eqb p (q .1)) (eqb S (r .0) && eqb p (r .1)) (k S p)))
-
-flips-commute : (qs : List Pair) (r : Pair) (k : Sets) → flips qs (flip r k) ≡ flip r (flips qs k)
-unfolding flips
-flips-commute [] r k = refl
-flips-commute (q ∷ qs) r k = ap (flips qs) (flip-commutes q r k) ∙ flips-commute qs r (flip q k)
-
--- A move and a port that goes into test or out of it: it is the same which comes first,
+-- A move and a port that goes into test or out of it: it is the same which comes first, and the move leaves the ports in test as they are.
 made-tested : (P : Plan) (p : ℕ) (m : Move) (k : Sets) → bookMade P m (testFlip P p k) ≡ testFlip P p (bookMade P m k)
 unfolding bookMade movePairs testFlip
 made-tested P p m k = flips-commute (movePairs P k m) (P .sets, p) k
 
-set-tested : (P : Plan) (p : ℕ) (k : Sets) (S : ℕ) → S < P .sets → testFlip P p k S ≡ k S
-set-tested P p k S l = test-sets P p k S (λ e. omega arith)
-
-kind-fits : (κ : MoveKind) (P : Plan) (p : ℕ) (m : Move) (k : Sets) → PairsKnown P (kindPairs κ m) → fieldsFit κ (testFlip P p k) m ≡ fieldsFit κ k m
-unfolding kindPairs PairsKnown fieldsFit
-kind-fits add P p m k h = ap (λ (s : ℕ → Bool). not (s (m .p))) (set-tested P p k (m .s) (h .0))
-kind-fits dropKind P p m k h = ap (λ (s : ℕ → Bool). s (m .p)) (set-tested P p k (m .s) (h .0))
-kind-fits transfer P p m k h =
-    ap₂ (λ (s t : ℕ → Bool). not (eqb (m .s) (m .t)) && s (m .p) && not (t (m .p))) (set-tested P p k (m .s) (h .0)) (set-tested P p k (m .t) (h .2 .0))
-kind-fits swap P p m k h = ap (λ (s : ℕ → Bool). s (m .p) && not (s (m .q))) (set-tested P p k (m .s) (h .0))
-kind-fits unknown P p m k h = refl
-
--- the move is legal before the port as after it,
-legal-tested : (P : Plan) (p : ℕ) (m : Move) (k : Sets) → known P m ≡ true → legal P (testFlip P p k) m ≡ legal P k m
-unfolding legal fits movePairs namedPairs
-legal-tested P p m k h = ap (λ (b : Bool). known P m && b) (kind-fits (moveKind (m .kind)) P p m k (known-pairs P k m h))
-
-flips-in-test : (P : Plan) (qs : List Pair) (k : Sets) → PairsKnown P qs → flips qs k (P .sets) ≡ k (P .sets)
-unfolding PairsKnown flips flip
-flips-in-test P [] k h = refl
-flips-in-test P (q ∷ qs) k h =
-    flips-in-test P qs (flip q k) (h .2)
-    ∙ fun-ext (λ p. ap (λ (b : Bool). cond (b && eqb p (q .1)) (not (k (P .sets) p)) (k (P .sets) p)) (ne-eqb (P .sets) (q .0) (λ e. omega (arith, h .0))))
-
--- and the move leaves the ports in test as they are.
 made-in-test : (P : Plan) (m : Move) (k : Sets) → known P m ≡ true → bookMade P m k (P .sets) ≡ k (P .sets)
 unfolding bookMade
 made-in-test P m k h = flips-in-test P (movePairs P k m) k (known-pairs P k m h)
@@ -613,7 +572,7 @@ taken-back bytes before h records first cs us no-undo undos-tests =
         run-right bytes P d (firstBook P begin) tail-masks tail-cells begin first
         (load-holds P before (sym (ap (λ (e : Decoded). loads e before .0 .number) d) ∙ h) records) .1
 
--- "the set masks are the first ones": of the plan's n sets every mask is as it was.
+-- Of the plan's n sets every mask is as it was.
 pub sets-back : (bytes : List ℕ) (before : State) → loads (decode bytes) before .0 .number ≡ 0 → (P : Plan) → decode bytes ≡ sound P
     → (records : List Move) (first cs us : List Asked) → NoUndo cs → UndosAndTests us
     → (let x = run (decode bytes) (begun (loads (decode bytes) before .1) records) first .1 in

@@ -21,7 +21,7 @@ madeOne (bestCall kinds scratch room r) = false
 madeOne (undoCall r) = false
 madeOne (testCall into p r) = false
 
--- How many moves the calls of a list made: the k of "k moves, k undos".
+-- How many moves the calls of a list made.
 unfoldable pub madeMoves : List Exchange → ℕ
 madeMoves [] = 0
 madeMoves (x ∷ xs) = countAfter (madeOne x) (madeMoves xs)
@@ -48,17 +48,17 @@ isTest (askTest into p) = true
 unfoldable pub OtherThanUndo : Asked → Type 0
 OtherThanUndo c = isUndo c ≡ false
 
--- A list of calls without undo: the k moves, with anything else between.
+-- A list of calls without undo.
 unfoldable pub NoUndo : List Asked → Type 0
 NoUndo [] = Unit {0}
 NoUndo (c ∷ cs) = OtherThanUndo c × NoUndo cs
 
--- The undos, "with these calls anywhere between": every call of a list is an undo or puts a port in test or takes it out.
+-- A list of undos, with ports put in test and taken out between.
 unfoldable pub UndosAndTests : List Asked → Type 0
 UndosAndTests [] = Unit {0}
 UndosAndTests (c ∷ cs) = ((isUndo c || isTest c) ≡ true) × UndosAndTests cs
 
--- How many undos a list has: "k undos".
+-- How many undos a list has.
 unfoldable pub undoCount : List Asked → ℕ
 undoCount [] = 0
 undoCount (c ∷ cs) = countAfter (isUndo c) (undoCount cs)
@@ -83,7 +83,7 @@ UndosAccepted [] = Unit {0}
 UndosAccepted (x ∷ xs) = UndoAccepted x × UndosAccepted xs
 
 -- What undos, from wherever they began, leave of what was in x before the moves, where z is what the test calls alone leave of x: each
--- undo is accepted, every mask and every cell is as in z ("the set masks are the first ones, the mask in test the present one"), and the
+-- undo is accepted, every mask and every cell is as in z, so that the set masks are the first ones and the mask in test is the present one, and the
 -- record count and the records below it are as in x.
 pub record TakenBack (x z : Journaled) (u : List Exchange × Journaled) : Type 0 where
   pub accepted : UndosAccepted (u .0)

@@ -155,20 +155,20 @@ unnamed (q ∷ qs) S p h =
     or-false _ _ (and-false (eqb S (q .0)) _ (λ e. absurd (true≢false (sym e ∙ or-left (eqb S (q .0)) _ h))))
     (unnamed qs S p (or-right (eqb S (q .0)) _ h))
 
--- the mask of ports in test is no set of the plan: no pair names it
-in-test-unnamed : (P : Plan) (qs : List Pair) → PairsKnown P qs → someOf (λ (q : Pair). eqb (P .sets) (q .0)) qs ≡ false
-unfolding PairsKnown someOf
-in-test-unnamed P [] h = refl
-in-test-unnamed P (q ∷ qs) h =
-    or-false _ _ (ne-eqb (P .sets) (q .0) (λ e. omega (arith, h .0))) (in-test-unnamed P qs (h .2))
+-- the mask of ports in test is no set of the plan: no pair flips it
+pub flips-in-test : (P : Plan) (qs : List Pair) (k : Sets) → PairsKnown P qs → flips qs k (P .sets) ≡ k (P .sets)
+unfolding PairsKnown flips flip
+flips-in-test P [] k h = refl
+flips-in-test P (q ∷ qs) k h =
+    flips-in-test P qs (flip q k) (h .2)
+    ∙ fun-ext (λ p. ap (λ (b : Bool). cond (b && eqb p (q .1)) (not (k (P .sets) p)) (k (P .sets) p)) (ne-eqb (P .sets) (q .0) (λ e. omega (arith, h .0))))
 
 pub flips-agree : (P : Plan) (qs : List Pair) → PairsKnown P qs → (k : Sets)
     → AgreeOff (P .sets) (pairsChange qs) (configuration P k) (configuration P (flips qs k))
 unfolding pairsChange configuration configured
 flips-agree P qs w k =
-    let same : (S : ℕ) → someOf (λ (q : Pair). eqb S (q .0)) qs ≡ false → flips qs k S ≡ k S =
-    λ S h. fun-ext (λ p. flips-off qs k S p (unnamed qs S p h)) in
     record {
       members = λ S p l h. flips-off qs k S p h;
-      sizes = λ S l h. ap₂ (λ (s t : ℕ → Bool). portsIn (P .ports) (outOfTest s t)) (same S h) (same (P .sets) (in-test-unnamed P qs w));
+      sizes = λ S l h.
+          ap₂ (λ (s t : ℕ → Bool). portsIn (P .ports) (outOfTest s t)) (fun-ext (λ p. flips-off qs k S p (unnamed qs S p h))) (flips-in-test P qs k w);
     }

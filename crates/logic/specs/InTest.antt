@@ -7,7 +7,7 @@ use lib.Dec.{ltb}
 use lib.ListN.{getD, set}
 use Rattle.logic.specs.Formula.{Plan}
 use Rattle.logic.specs.Configuration.{Sets, enter, leave}
-use Rattle.logic.specs.Moves.{Ground, Pair, flip}
+use Rattle.logic.specs.Moves.{Ground, flip}
 use Rattle.logic.specs.Change.{Change}
 
 -- "Two calls put a port in test and take it out": `into` says which. "20, the port is already in that condition, after 14", which is a

@@ -10,13 +10,13 @@ ghost use Rattle.logic.specs.inner.Flip.{flipPort};
 ghost use Rattle.logic.specs.Moves.{namedMasks};
 ghost use Rattle.move_legal.specs.inner.Legal.{LegalOver};
 
-// The first `sets` masks, copied.
-pub fn copy_masks(masks: &[u64], sets: usize, out: &mut [u64])
-    requires { ⌜ (sets ≤ length (now masks)) × (sets ≤ length (now out)) ⌝ }
-    ensures { λ _. ⌜ now (out .exit) ≡ take sets (now (masks .entry)) ++ drop sets (now (out .entry)) ⌝ }
+// The first `count` masks, copied.
+pub fn copy_masks(masks: &[u64], count: usize, out: &mut [u64])
+    requires { ⌜ (count ≤ length (now masks)) × (count ≤ length (now out)) ⌝ }
+    ensures { λ _. ⌜ now (out .exit) ≡ take count (now (masks .entry)) ++ drop count (now (out .entry)) ⌝ }
 {
     let mut s = 0;
-    while s < sets {
+    while s < count {
         out[s] = masks[s];
         s += 1;
     }

@@ -2,19 +2,17 @@
 use mathlib.Core.Path.{_≡_, refl, sym, ap, ap₂, _∙_}
 use mathlib.Core.Bool.{Bool, true, false, cond, _&&_, _||_}
 use mathlib.Core.List.{List}
-use Prim.Native.Nat.{ℕ, zero, suc, _+_, _*_, _≤_, _<_}
+use Prim.Native.Nat.{ℕ, zero, suc, _+_, _*_, _<_}
 use native.Mathlib.Decide.{ℕ-discrete, decLt}
 use native.Mathlib.Omega.{arith}
 use lib.Dec.{eqb, ltb}
 use lib.ListN.{getD}
 use borrow.Author.Tests.{eq-eqb, ne-eqb, lt-ltb, le-ltb}
-use Rattle.logic.specs.Formula.{Plan}
 use Rattle.logic.specs.Configuration.{Sets, inMask, inMasks}
 use Rattle.logic.specs.Change.{someOf}
 use Rattle.logic.specs.InTest.{testChange}
 use Rattle.logic.specs.inner.Agreement.{listed}
-use Rattle.cells_touch.specs.declared.Changed.{Changed}
-use Rattle.cells_touch.specs.inner.Hits.{sizeBit, Describes}
+use Rattle.cells_touch.specs.inner.Hits.{sizeBit}
 use Rattle.cells_touch.proofs.Bits.{in-or, in-power, in-zero}
 use Rattle.test_change.specs.inner.Holders.{heldBit, sizeBits, TellsTest}
 

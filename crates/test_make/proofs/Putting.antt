@@ -13,7 +13,6 @@ use Rattle.logic.specs.Change.{newCells, differing}
 use Rattle.logic.specs.InTest.{testChange}
 use Rattle.logic.specs.inner.Flip.{flipPort}
 use Rattle.logic.proofs.Moves.{mask-flip}
-use Rattle.table_format.specs.Decode.{sound, decode}
 use Rattle.cells_touch.specs.declared.Changed.{Changed}
 use Rattle.cells_touch.specs.inner.Hits.{Describes}
 use Rattle.cells_sum.specs.declared.After.{After}

@@ -11,10 +11,10 @@ use Rattle.call_open.proofs.masks_ok.Statement.{statement}
 use Rattle.call_open.proofs.masks_ok.Tie as tie
 
 abbrev Inv-loop : tie.InvT-loop
-Inv-loop masks sets ports u s₀ s = (s ≤ sets) × (sets ≤ length masks) × (u ≡ ports) × (allWithin ports (take s masks) ≡ true)
+Inv-loop masks count ports u s₀ s = (s ≤ count) × (count ≤ length masks) × (u ≡ ports) × (allWithin ports (take s masks) ≡ true)
 
 abbrev μ-loop : tie.MeasureT-loop
-μ-loop masks sets ports u s₀ s = sets - s
+μ-loop masks count ports u s₀ s = count - s
 
 cast-u : tie.Need-cast-u Inv-loop μ-loop
 cast-u c =
@@ -39,7 +39,7 @@ within-ports-requires c κs =
 
 returns : tie.Need-returns Inv-loop μ-loop
 returns c =
-    within-fails (c .before .before .before .before .before .before .args .ports) (c .before .before .before .before .loop .s) (c .before .before .before .before .before .before .args .sets) (c .before .before .before .before .before .before .args .masks .now) (omega arith) (c .before .before .before .before .loop .inv .1) (ap (λ (x : ℕ). withinPorts x (getD (c .before .before .before .before .before .before .args .masks .now) (c .before .before .before .before .loop .s) 0)) (sym (c .before .before .before .before .loop .inv .2)) ∙ sym (c .before .within-ports .ensures) ∙ not-true _ (c .if1 .taken))
+    within-fails (c .before .before .before .before .before .before .args .ports) (c .before .before .before .before .loop .s) (c .before .before .before .before .before .before .args .count) (c .before .before .before .before .before .before .args .masks .now) (omega arith) (c .before .before .before .before .loop .inv .1) (ap (λ (x : ℕ). withinPorts x (getD (c .before .before .before .before .before .before .args .masks .now) (c .before .before .before .before .loop .s) 0)) (sym (c .before .before .before .before .loop .inv .2)) ∙ sym (c .before .within-ports .ensures) ∙ not-true _ (c .if1 .taken))
 
 add-s : tie.Need-add-s Inv-loop μ-loop
 add-s c =
@@ -55,7 +55,7 @@ loop-again c =
 
 returns-2 : tie.Need-returns-2 Inv-loop μ-loop
 returns-2 c =
-    let e : c .before .loop .s ≡ c .before .before .before .args .sets = omega arith in sym (c .before .loop .inv .3) ∙ ap (λ (m : ℕ). allWithin (c .before .before .before .args .ports) (take m (c .before .before .before .args .masks .now))) e
+    let e : c .before .loop .s ≡ c .before .before .before .args .count = omega arith in sym (c .before .loop .inv .3) ∙ ap (λ (m : ℕ). allWithin (c .before .before .before .args .ports) (take m (c .before .before .before .args .masks .now))) e
 
 pub masks-ok-spec : {M : Type 1} → statement M
 masks-ok-spec =

@@ -1,8 +1,6 @@
-use mathlib.Core.Path.{_≡_, ap, _∙_}
-use Prim.Native.Nat.{ℕ}
+use mathlib.Core.Path.{ap, _∙_}
 use native.Mathlib.Nat.{sub-zero}
 use native.Mathlib.Omega.{arith}
-use lib.ListN.{take}
 use Rattle.logic.specs.Configuration.{maskCount, ownMasks}
 use Rattle.table_format.proofs.Ready.{ready}
 use Rattle.cells_fill.proofs.Loading.{placed-plan, plan-filled}

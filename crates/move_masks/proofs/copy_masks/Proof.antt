@@ -7,10 +7,10 @@ use Rattle.move_masks.proofs.copy_masks.Statement.{statement}
 use Rattle.move_masks.proofs.copy_masks.Tie as tie
 
 abbrev Inv-loop : tie.InvT-loop
-Inv-loop masks sets out₀ s₀ out s = Written (λ i. getD masks i 0) 0 sets out₀ out s
+Inv-loop masks count out₀ s₀ out s = Written (λ i. getD masks i 0) 0 count out₀ out s
 
 abbrev μ-loop : tie.MeasureT-loop
-μ-loop masks sets out₀ s₀ out s = sets - s
+μ-loop masks count out₀ s₀ out s = count - s
 
 loop-holds : tie.Need-loop-holds Inv-loop μ-loop
 loop-holds c =
@@ -50,7 +50,7 @@ same-length c =
 
 returns : tie.Need-returns Inv-loop μ-loop
 returns c =
-    rw (take-tabulate (c .before .before .args .sets) (c .before .before .args .masks .now) (c .before .before .pre .0)) (all-first _ _ _ _ _ (c .before .loop .inv) (c .loop-test .left))
+    rw (take-tabulate (c .before .before .args .count) (c .before .before .args .masks .now) (c .before .before .pre .0)) (all-first _ _ _ _ _ (c .before .loop .inv) (c .loop-test .left))
 
 pub copy-masks-spec : {M : Type 1} → statement M
 copy-masks-spec =

@@ -1,5 +1,5 @@
 -- What the rules of a plan come to, fact by fact, for those that work on a plan that passed.
-use Prim.Native.Nat.{ℕ, _≤_}
+use Prim.Native.Nat.{_≤_}
 use Rattle.logic.specs.Formula.{Plan, nodeCount}
 use Rattle.logic.specs.inner.Literals.{VariablesBound, ConstantsLow, SetsBelow}
 use Rattle.logic.specs.Cells.{ownCells}

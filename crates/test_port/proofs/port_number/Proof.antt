@@ -1,4 +1,4 @@
-use mathlib.Core.Path.{_≡_, sym, ap, ap₂, _∙_}
+use mathlib.Core.Path.{sym, ap, _∙_}
 use mathlib.Core.Bool.{Bool, Bool·beq}
 use Prim.Native.Nat.{ℕ}
 use native.Mathlib.Omega.{arith}
