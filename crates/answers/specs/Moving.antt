@@ -1,5 +1,5 @@
--- What vk_move, vk_trial, vk_improve, vk_best_moves, vk_undo, vk_test_begin and vk_test_end give: the fields of the C structs by the answer definitions of the calls, and
--- the tables and the journal afterwards.
+-- What vk_move, vk_trial, vk_improve, vk_best_moves, vk_undo, vk_test_begin and vk_test_end give: the fields of the C structs by the answer
+-- definitions of the calls, and the tables and the journal afterwards.
 use mathlib.Core.Path.{_≡_}
 use mathlib.Core.List.{List, _++_, map}
 use Prim.Native.Nat.{ℕ}

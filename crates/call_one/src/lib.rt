@@ -38,7 +38,8 @@ fn worked(m: Move) -> One
 }
 
 // One call by its tag: 1 a move, 2 a trial, 3 improve, 4 the best moves, 5 undo, 6 a port put in test, 7 one taken out. Any other tag is
-// unknown, and nothing is written for it. The journal is lent by value, its length and its newest record; the record is the caller's to write, at the old count.
+// unknown, and nothing is written for it. The journal is lent by value, its length and its newest record; the record is the caller's to
+// write, at the old count.
 pub fn work_one(
     table: &[u8],
     masks: &mut [u64],

@@ -1,4 +1,5 @@
--- The masks that a legal move leaves, or a port that goes into test or out of it, have no port of u or more, so that ground 13 does not come up in a list. Assumes nothing.
+-- The masks that a legal move leaves, or a port that goes into test or out of it, have no port of u or more, so that ground 13 does not
+-- come up in a list. Assumes nothing.
 use mathlib.Core.Path.{_≡_, refl, ap, _∙_}
 use mathlib.Core.Bool.{Bool, true, false, cond, not, Bool·beq}
 use mathlib.Core.List.{List, [], _∷_}

@@ -16,8 +16,8 @@ use Rattle.contracts.specs.ImproveCall.{ImproveValues, improveMakes}
 use Rattle.contracts.specs.UndoCall.{takenGrounds}
 
 -- "Its state is the n sets, at first the masks after the load", "the book holding this mask too" (paper 02, request 2026-05): the ports
--- in test are number n of `sets`. "The book keeps a journal of its own, of the same length, by the same
--- rules." (paper 02, request 2026-03)
+-- in test are number n of `sets`. "The book keeps a journal of its own, of the same length, by the same rules." (paper 02, request
+-- 2026-03)
 pub record Book : Type 0 where
   pub sets : Sets
   pub journal : Journal

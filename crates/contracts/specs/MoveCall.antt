@@ -18,7 +18,7 @@ use Rattle.contracts.specs.Call.{journalGrounds, call}
 use Rattle.contracts.specs.declared.Moved.{Moved}
 use Rattle.contracts.specs.declared.Moved.the-variants.{Accepted, Refused}
 
--- What a move and a trial answer, by 01's number and values: "root before, root after, and how many cells differ from before".
+-- What a move, a trial, an undo and a port in test answer, by 01's number and values: "root before, root after, and how many cells differ from before".
 pub record MoveValues : Type 0 where
   pub number : ℕ
   pub before : ℕ
@@ -43,7 +43,7 @@ unfoldable pub MoveTold : Moved → Type 0
 MoveTold (Accepted before after changed) = Unit {0}
 MoveTold (Refused number) = number ≢ 0
 
--- The answer of a move or a trial is as given.
+-- The answer of such a call is as given.
 pub record MovedAs (given : MoveValues) (r : Moved) : Type 0 where
   pub values-are : moveValues r ≡ given
   pub told : MoveTold r
@@ -90,7 +90,8 @@ movesJournaled d m x =
     let r = moves d m (x .tables) (roomOf (x .journal)) (x .journal .count) in
     (r .0, record { tables = r .1; journal = journalAfter (moveMade (r .0)) m (x .journal) })
 
--- What a call without a journal promises that answers these numbers: the answer, and every mask and every cell afterwards.
+-- The answer, and every mask and every cell afterwards, of a call that answers these numbers: what `port_test` promises, which is lent no
+-- journal.
 pub record MadeAs (given : MoveValues × State) (r : Moved) (s′ : State) : Type 0 where
   pub answers : MovedAs (given .0) r
   pub tables-are : s′ ≡ given .1

@@ -1,5 +1,5 @@
--- What planroot's line says of the text: `penalty 0` is printed exactly when the text is true with no port in test. A line that is no penalty says nothing
--- of it, `refused 0` neither. Assumes nothing.
+-- What planroot's line says of the text: `penalty 0` is printed exactly when the text is true with no port in test. A line that is no
+-- penalty says nothing of it, `refused 0` neither. Assumes nothing.
 use mathlib.Core.Path.{_≡_, refl, sym, _∙_}
 use mathlib.Core.Logic.{_↔_}
 use mathlib.Core.Bool.{Bool, true, false, false≢true}

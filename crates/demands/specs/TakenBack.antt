@@ -83,8 +83,8 @@ UndosAccepted [] = Unit {0}
 UndosAccepted (x ∷ xs) = UndoAccepted x × UndosAccepted xs
 
 -- What undos, from wherever they began, leave of what was in x before the moves, where z is what the test calls alone leave of x: each
--- undo is accepted, every mask and every cell is as in z, so that the set masks are the first ones and the mask in test is the present one, and the
--- record count and the records below it are as in x.
+-- undo is accepted, every mask and every cell is as in z, so that the set masks are the first ones and the mask in test is the present
+-- one, and the record count and the records below it are as in x.
 pub record TakenBack (x z : Journaled) (u : List Exchange × Journaled) : Type 0 where
   pub accepted : UndosAccepted (u .0)
   pub tables-back : u .1 .tables ≡ z .tables

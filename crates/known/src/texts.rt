@@ -108,7 +108,7 @@ fn starred() {
     plan_a();
     two_sets(2, b"[ST] @x (x/S | x:T) & ?x (x:T & x/S)");
     one_set(1, b"[S] ?x x:S", 0);
-    two_sets(1, b"[S] ?x x:S");
+    one_set(1, b"[S] ?x x:S", 1);
     one_set(64, b"[S] #S < 0", 0);
     one_set(64, b"[S] #S > 64", 18446744073709551615);
     one_set(64, b"[S] #S = 2", 0);

@@ -54,7 +54,7 @@ pub fn flip_port(mask: u64, p: u32) -> u64
     mask ^ (1u64 << p)
 }
 
-// The most masks that a plan has of its own is below this: room for them in local tables.
+// The most masks that a plan has of its own: room for them in local tables.
 pub const MASK_ROOM: usize = 17;
 
 // How many masks of its own a plan of so many sets has.
