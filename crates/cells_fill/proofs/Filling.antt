@@ -1,12 +1,15 @@
 -- Filling the cells of some trees, from what the leaf functions and the two recursive calls leave. Assumes nothing.
 use mathlib.Core.Path.{_≡_, refl, sym, ap, ap₂, _∙_, subst}
-use mathlib.Core.Bool.{true}
+use mathlib.Core.Bool.{Bool, true, false}
+use mathlib.Core.Logic.{⊎-elim, inl, inr}
 use mathlib.Core.List.{List, [], _∷_, _++_, append-assoc}
-use Prim.Native.Nat.{ℕ, _+_, _-_, _*_, _^_, _≤_, _<_}
-use native.Mathlib.Nat.{add-zero, suc-add, mul-le-mul-right, mul-left-comm, pow-suc}
+use Prim.Native.Nat.{ℕ, _+_, _-_, _*_, _^_, _≤_, _<_, min}
+use native.Mathlib.Nat.{add-zero, suc-add, mul-le-mul-right, mul-left-comm, pow-suc, one-le-pow}
 use native.Mathlib.Omega.{arith}
+use lib.Dec.{eqb}
 use lib.ListN.{length, getD, take, drop, length-append, length-drop, take-append-drop, List·getD-append}
-use lib.Seq.{drop-at, length-take-le, ext-getD, drop-append-add}
+use lib.Seq.{drop-at, length-take-le, drop-append-add}
+use borrow.Author.Tests.{eq-eqb, ne-eqb}
 use Rattle.logic.specs.Formula.{Node, root, all, any, and, or, lit, Forest, none, tree, kindNumber, nodeCount, childDepth}
 use Rattle.logic.specs.inner.Literals.{ConstantLow, ConstantsLow}
 use Rattle.logic.specs.Configuration.{Configuration, inMasks}
@@ -17,7 +20,7 @@ use Rattle.logic.proofs.Tables.{length-tabulate, getD-tabulate, tabulate-cong, 
 use Rattle.logic.proofs.Bound.{spread, spread-pos, subtreeCells, subtree-count, below-penalties-le, literals-low, sizes-64}
 use Rattle.logic.proofs.Lent.{lent, back, lent-is, back-is}
 use Rattle.table_format.specs.Bytes.{recordLength, kindField, relationField, aField, bField, endField, nodeOf, records}
-use Rattle.table_format.specs.Rules.{everyNode, nodeRule}
+use Rattle.table_format.specs.Rules.{treeCount, arityRule, everyNode, nodeRule}
 use Rattle.table_format.specs.inner.Tests.{kindDepth, kindWidth}
 use Rattle.table_format.proofs.Parts.{rest-all, some-record}
 use Rattle.table_format.proofs.Opened.{one-forest, not-none, PartOpened, part-opened, part-span}
@@ -26,29 +29,26 @@ use Rattle.table_format.proofs.Encoding.{length-records}
 use Rattle.table_format.proofs.FieldRules.{kind-depth-le, kind-width}
 use Rattle.table_format.proofs.Facts.{every-inner, constant-low}
 use Rattle.table_format.proofs.Laid.{kidsOf, restOf, width-low}
-use Rattle.cells_join.specs.inner.Joined.{joinAll, merged, joinOf, spreadOf}
+use Rattle.cells_join.specs.inner.Joined.{joinInto, merged, joinOf, spreadOf, ChildPlaced}
 use Rattle.cells_fill.specs.inner.Fill.{startCell, treewise, config, table, StartPlaced, started, FillPlaced, Filled, Fills}
-use Rattle.cells_join.proofs.Prefix.{join-append}
+use Rattle.cells_join.proofs.Prefix.{into-none, into-append}
 use Rattle.logic.proofs.Lent.{lentTo, backTo, lent-length, back-to-is, back-to-length}
-use Rattle.cells_fill.proofs.Values.{literal-spread, own-cell, cells-below, table-tree}
+use Rattle.cells_fill.proofs.Starting.{as-tabulated}
+use Rattle.cells_fill.proofs.Values.{below-pos, literal-spread, own-cell, one-child, cells-below, table-tree}
 
 length-table : (u : ℕ) (k : Configuration) (f : Forest) (d : ℕ) → length (table u k f d) ≡ cellCount u f d
 unfolding table
 length-table u k f d = length-layout u (λ n c b i e. penalty u k n c e) f 0 d
 
-tabulate-getD : (l : List ℕ) (m : ℕ) → length l ≡ m → tabulate m (λ t. getD l t 0) ≡ l
-tabulate-getD l m h =
-    ext-getD 0 (tabulate m (λ t. getD l t 0)) l (length-tabulate m _ ∙ sym h)
-    (λ i q. getD-tabulate m (λ t. getD l t 0) i (rw length-tabulate at q))
-
 -- no records: nothing is written
 pub fill-none : (l : List ℕ) (i above ports sets depth over at : ℕ) (masks cells : List ℕ) → length l < recordLength → Fills l i above ports sets depth over at masks cells cells at
-unfolding Fills records cellCount treewise joinAll table layout nodeCount
+unfolding Fills records cellCount treewise table layout nodeCount
 fill-none l i above ports sets depth over at masks cells h n outer none up kn dn on is = record {
   ends-at = sym (add-zero at);
   cells-are = λ A G X R e lA lG lX.
       let x : X ≡ [] = no-length X lX in
-      e ∙ ap₂ (λ (a b : List ℕ). a ++ (G ++ (b ++ R))) (sym (tabulate-getD A over lA)) x;
+      e ∙ ap₂ (λ (a b : List ℕ). a ++ (G ++ (b ++ R)))
+      (as-tabulated over A lA ∙ tabulate-cong over _ _ (λ t q. into-none (joinOf above) (eqb at over) (getD A t 0))) x;
 }
   where
     no-length : (X : List ℕ) → length X ≡ 0 → X ≡ []
@@ -85,13 +85,13 @@ abbrev rowOf : ℕ → Configuration → Node → Node → Forest → ℕ → Li
 rowOf ports k n m c outer = tabulate (ports ^ childDepth n outer) (λ i. penalty ports k m c (tupleAt ports (childDepth n outer) i))
 
 -- The parent's cells after a tree's own cells are merged into them.
-module _ (ports : ℕ) (k : Configuration) (n m : Node) (c : Forest) (outer over at above : ℕ) (on : over ≡ ports ^ outer) (kn : kindNumber n ≡ above)
+module _ (ports : ℕ) (k : Configuration) (n m : Node) (c : Forest) (outer over at above : ℕ) (first : Bool) (on : over ≡ ports ^ outer) (kn : kindNumber n ≡ above)
     (A G T : List ℕ) (lA : length A ≡ over) (lG : length A + length G ≡ at) where
   abbrev row : List ℕ
   row = rowOf ports k n m c outer
 
   abbrev joined : ℕ → ℕ
-  joined t = joinAll (joinOf above) (getD A t 0) (below ports n (tupleAt ports outer t) (λ x. penalty ports k m c x ∷ []))
+  joined t = joinInto (joinOf above) first (getD A t 0) (below ports n (tupleAt ports outer t) (λ x. penalty ports k m c x ∷ []))
 
   abbrev whole : List ℕ
   whole = A ++ (G ++ (row ++ T))
@@ -100,12 +100,12 @@ module _ (ports : ℕ) (k : Configuration) (n m : Node) (c : Forest) (outer over
   behind j =
       ap₂ (λ (x : ℕ) (y : List ℕ). drop (x + j) y) (sym (length-append A G ∙ lG)) (sym (append-assoc A G (row ++ T))) ∙ drop-append-add (A ++ G) (row ++ T) j
 
-  pub merged-is : merged (joinOf above) over (spreadOf above ports) at whole ≡ tabulate over joined ++ (G ++ (row ++ T))
+  pub merged-is : merged (joinOf above) first over (spreadOf above ports) at whole ≡ tabulate over joined ++ (G ++ (row ++ T))
   unfolding merged
   merged-is =
       ap₂ _++_
       (tabulate-cong over _ joined (λ t h.
-      ap₂ (joinAll (joinOf above)) (List·getD-append A (G ++ (row ++ T)) 0 t (rw lA h))
+      ap₂ (joinInto (joinOf above) first) (List·getD-append A (G ++ (row ++ T)) 0 t (rw lA h))
       (ap (take (spreadOf above ports)) (behind (t * spreadOf above ports))
       ∙ ap (λ (a : ℕ). take (spreadOf a ports) (drop (t * spreadOf a ports) (row ++ T))) (sym kn)
       ∙ cells-below ports (penalty ports k m c) T n outer t (rw (← on) h))))
@@ -117,7 +117,7 @@ split X w cc = sym (take-append-drop w X) ∙ ap (λ (Y : List ℕ). take w X ++
 -- One tree and its later siblings, from the leaf functions and the two calls.
 module _ (l : List ℕ) (i up above ports sets depth width over at outer : ℕ) (masks xs : List ℕ) (n m : Node) (c s : Forest) (e : ℕ)
     (o : PartOpened l i up depth sets m c s e) (u1 : 1 ≤ ports) (u64 : ports ≤ 64) (few : cellCount ports (tree m c s) 0 ≤ 1048576)
-    (kn : kindNumber n ≡ above) (dn : depth ≡ childDepth n outer) (on : over ≡ ports ^ outer) (wn : width ≡ ports ^ depth)
+    (kn : kindNumber n ≡ above) (dn : depth ≡ childDepth n outer) (on : over ≡ ports ^ outer) (wn : width ≡ ports ^ depth) (after : over ≤ at)
     (below′ nn r : ℕ) (bd : below′ ≡ childDepth m depth) (ys₁ zs₁ xs₃ xs₄ : List ℕ) where
   abbrev K : Configuration
   K = config ports sets masks
@@ -128,9 +128,9 @@ module _ (l : List ℕ) (i up above ports sets depth width over at outer : ℕ) 
   abbrev xs₂ : List ℕ
   xs₂ = back at xs₁ zs₁
 
-  module _ (st : ys₁ ≡ started (kindField l) (relationField l) (aField l) (bField l) sets ports depth width masks)
+  module _ (st : ys₁ ≡ started (kindField l) (relationField l) (aField l) (bField l) sets ports depth width masks (lentTo at (at + width) xs))
       (kids : Filled (kindField l) ports sets below′ width width depth m c masks (lent at xs₁) zs₁ nn)
-      (mg : xs₃ ≡ merged (joinOf above) over (spreadOf above ports) at xs₂)
+      (mg : xs₃ ≡ merged (joinOf above) (eqb at over) over (spreadOf above ports) at xs₂)
       (rest : Filled above ports sets depth over (at + nn) outer n s masks xs₃ xs₄ r) where
     abbrev cc : ℕ
     cc = cellCount ports c below′
@@ -138,8 +138,12 @@ module _ (l : List ℕ) (i up above ports sets depth width over at outer : ℕ) 
     abbrev tuples : ℕ → Tuple
     tuples = tupleAt ports depth
 
+    -- what the t-th own cell holds before anything is joined to it
+    abbrev begin : ℕ → ℕ
+    begin t = startCell K (nodeOf (kindField l) (relationField l) (aField l) (bField l)) (tuples t) (getD (lentTo at (at + width) xs) t 0)
+
     abbrev U : List ℕ
-    U = tabulate width (λ t. startCell K (nodeOf (kindField l) (relationField l) (aField l) (bField l)) (tuples t))
+    U = tabulate width begin
 
     abbrev own : List ℕ
     own = tabulate width (λ t. penalty ports K m c (tuples t))
@@ -147,17 +151,18 @@ module _ (l : List ℕ) (i up above ports sets depth width over at outer : ℕ) 
     abbrev T : List ℕ
     T = table ports K c below′
 
-    own-is : tabulate width (λ t. joinAll (joinOf (kindField l)) (getD U t 0) (treewise ports K m c (tuples t))) ≡ own
+    own-is : tabulate width (λ t. joinInto (joinOf (kindField l)) (eqb width width) (getD U t 0) (treewise ports K m c (tuples t))) ≡ own
     own-is = tabulate-cong width _ _ (λ t h.
-        ap₂ (λ (a b : ℕ). joinAll (joinOf a) b (treewise ports K m c (tuples t))) (o .kind)
-        (getD-tabulate width (λ t. startCell K (nodeOf (kindField l) (relationField l) (aField l) (bField l)) (tuples t)) t h ∙ ap (λ (q : Node). startCell K q (tuples t)) (o .node-is))
-        ∙ own-cell ports K m c (tuples t) u1 (o .arity) (low-below ports sets masks m c s depth (tuples t) u1 u64 (o .rules-kids) few))
+        ap (λ (b : Bool). joinInto (joinOf (kindField l)) b (getD U t 0) (treewise ports K m c (tuples t))) (eq-eqb width width refl)
+        ∙ ap₂ (λ (a b : ℕ). joinInto (joinOf a) true b (treewise ports K m c (tuples t))) (o .kind)
+        (getD-tabulate width begin t h ∙ ap (λ (q : Node). startCell K q (tuples t) (getD (lentTo at (at + width) xs) t 0)) (o .node-is))
+        ∙ own-cell ports K m c (tuples t) (getD (lentTo at (at + width) xs) t 0) u1 (o .arity) (low-below ports sets masks m c s depth (tuples t) u1 u64 (o .rules-kids) few))
 
     row-is : own ≡ rowOf ports K n m c outer
     row-is = ap₂ (λ (a b : ℕ). tabulate a (λ t. penalty ports K m c (tupleAt ports b t))) (wn ∙ ap (λ (a : ℕ). ports ^ a) dn) dn
 
     joined-at : List ℕ → ℕ → ℕ
-    joined-at A t = joinAll (joinOf above) (getD A t 0) (below ports n (tupleAt ports outer t) (λ x. penalty ports K m c x ∷ []))
+    joined-at A t = joinInto (joinOf above) (eqb at over) (getD A t 0) (below ports n (tupleAt ports outer t) (λ x. penalty ports K m c x ∷ []))
 
     -- the table in the four parts, after each step
     module _ (A G X₁ X₂ X₃ R : List ℕ) (ex : xs ≡ (A ++ G) ++ (X₁ ++ (X₂ ++ (X₃ ++ R)))) (lA : length A ≡ over) (lG : length A + length G ≡ at)
@@ -175,7 +180,7 @@ module _ (l : List ℕ) (i up above ports sets depth width over at outer : ℕ) 
       below-filled : zs₁ ≡ own ++ (T ++ (X₃ ++ R))
       below-filled =
           kids .cells-are U [] X₂ (X₃ ++ R) (ap (lent at) table₁ ∙ lent-is at (A ++ G) (U ++ (X₂ ++ (X₃ ++ R))) lC)
-          (length-tabulate width _) (omega (arith, length-tabulate width (λ t. startCell K (nodeOf (kindField l) (relationField l) (aField l) (bField l)) (tuples t)))) l₂
+          (length-tabulate width _) (omega (arith, length-tabulate width begin)) l₂
           ∙ ap (λ (x : List ℕ). x ++ (T ++ (X₃ ++ R))) own-is
 
       table₂ : xs₂ ≡ A ++ (G ++ (rowOf ports K n m c outer ++ (T ++ (X₃ ++ R))))
@@ -193,8 +198,8 @@ module _ (l : List ℕ) (i up above ports sets depth width over at outer : ℕ) 
       table₃ : xs₃ ≡ tabulate over (joined-at A) ++ (G₃ ++ (X₃ ++ R))
       unfolding joined-at
       table₃ =
-          mg ∙ ap (merged (joinOf above) over (spreadOf above ports) at) table₂
-          ∙ merged-is ports K n m c outer over at above on kn A G (T ++ (X₃ ++ R)) lA lG
+          mg ∙ ap (merged (joinOf above) (eqb at over) over (spreadOf above ports) at) table₂
+          ∙ merged-is ports K n m c outer over at above (eqb at over) on kn A G (T ++ (X₃ ++ R)) lA lG
           ∙ ap (λ (x : List ℕ). tabulate over (joined-at A) ++ x) (regroup (X₃ ++ R))
 
       long₃ : length (tabulate over (joined-at A)) + length G₃ ≡ at + nn
@@ -207,16 +212,21 @@ module _ (l : List ℕ) (i up above ports sets depth width over at outer : ℕ) 
           let h = kids .ends-at in
           omega arith
 
-      last : xs₄ ≡ tabulate over (λ t. joinAll (joinOf above) (getD (tabulate over (joined-at A)) t 0) (treewise ports K n s (tupleAt ports outer t)))
+      -- a later sibling does not begin right behind the parent's cells
+      later : eqb (at + nn) over ≡ false
+      later = ne-eqb (at + nn) over (λ q. absurd (omega (arith, kids .ends-at, wn, one-le-pow depth ports u1)))
+
+      last : xs₄ ≡ tabulate over (λ t. joinInto (joinOf above) (eqb (at + nn) over) (getD (tabulate over (joined-at A)) t 0) (treewise ports K n s (tupleAt ports outer t)))
           ++ (G₃ ++ (table ports K s depth ++ R))
       last = rest .cells-are (tabulate over (joined-at A)) G₃ X₃ R table₃ (length-tabulate over (joined-at A)) long₃ l₃
 
-      all-joined : tabulate over (λ t. joinAll (joinOf above) (getD (tabulate over (joined-at A)) t 0) (treewise ports K n s (tupleAt ports outer t)))
-          ≡ tabulate over (λ t. joinAll (joinOf above) (getD A t 0) (treewise ports K n (tree m c s) (tupleAt ports outer t)))
+      all-joined : tabulate over (λ t. joinInto (joinOf above) (eqb (at + nn) over) (getD (tabulate over (joined-at A)) t 0) (treewise ports K n s (tupleAt ports outer t)))
+          ≡ tabulate over (λ t. joinInto (joinOf above) (eqb at over) (getD A t 0) (treewise ports K n (tree m c s) (tupleAt ports outer t)))
       unfolding treewise joined-at
       all-joined = tabulate-cong over _ _ (λ t h.
-          ap (λ (x : ℕ). joinAll (joinOf above) x (treewise ports K n s (tupleAt ports outer t))) (getD-tabulate over (joined-at A) t h)
-          ∙ sym (join-append (joinOf above) (getD A t 0) (below ports n (tupleAt ports outer t) (λ x. penalty ports K m c x ∷ [])) (treewise ports K n s (tupleAt ports outer t))))
+          ap₂ (λ (b : Bool) (x : ℕ). joinInto (joinOf above) b x (treewise ports K n s (tupleAt ports outer t))) later (getD-tabulate over (joined-at A) t h)
+          ∙ sym (into-append (joinOf above) (eqb at over) (getD A t 0) (below ports n (tupleAt ports outer t) (λ x. penalty ports K m c x ∷ [])) (treewise ports K n s (tupleAt ports outer t))
+          (below-pos ports n (tupleAt ports outer t) (λ x. penalty ports K m c x ∷ []) u1 (λ x. omega arith))))
 
       whole-table : table ports K (tree m c s) depth ≡ rowOf ports K n m c outer ++ (T ++ table ports K s depth)
       whole-table =
@@ -224,7 +234,7 @@ module _ (l : List ℕ) (i up above ports sets depth width over at outer : ℕ) 
           ∙ ap₂ (λ (x y : List ℕ). x ++ (y ++ table ports K s depth))
           (ap (λ (a : ℕ). tabulate (ports ^ a) (λ t. penalty ports K m c (tupleAt ports a t))) dn) (ap (table ports K c) (sym bd))
 
-      tree-cells : xs₄ ≡ tabulate over (λ t. joinAll (joinOf above) (getD A t 0) (treewise ports K n (tree m c s) (tupleAt ports outer t)))
+      tree-cells : xs₄ ≡ tabulate over (λ t. joinInto (joinOf above) (eqb at over) (getD A t 0) (treewise ports K n (tree m c s) (tupleAt ports outer t)))
           ++ (G ++ (table ports K (tree m c s) depth ++ R))
       tree-cells = last ∙ ap₂ _++_ all-joined
           (sym (regroup (table ports K s depth ++ R))
@@ -253,9 +263,9 @@ pub fill-tree : (l : List ℕ) (i above ports sets depth width over at : ℕ) (m
     → (e : ℕ) → e ≡ endField l
     → (kind relation a b : ℕ) → kind ≡ kindField l → relation ≡ relationField l → a ≡ aField l → b ≡ bField l
     → (below′ nn r : ℕ) → below′ ≡ kindDepth kind depth → (ys₁ zs₁ xs₃ xs₄ : List ℕ) → recordLength ≤ length l
-    → ys₁ ≡ started kind relation a b sets ports depth width masks
+    → ys₁ ≡ started kind relation a b sets ports depth width masks (lentTo at (at + width) xs)
     → Fills (kidsOf l i e) (i + 1) kind ports sets below′ width width masks (lent at (backTo at (at + width) xs ys₁)) zs₁ nn
-    → xs₃ ≡ merged (joinOf above) over (spreadOf above ports) at (back at (backTo at (at + width) xs ys₁) zs₁)
+    → xs₃ ≡ merged (joinOf above) (eqb at over) over (spreadOf above ports) at (back at (backTo at (at + width) xs ys₁) zs₁)
     → Fills (restOf l i e) e above ports sets depth over (at + nn) masks xs₃ xs₄ r
     → Fills l i above ports sets depth over at masks xs xs₄ r
 unfolding Fills
@@ -267,10 +277,10 @@ fill-tree l i above ports sets depth width over at masks xs p e en kind relation
     go (tree m c s) q g =
         let o = part-opened l i up depth sets e m c s q (ap (λ (x : Forest). everyNode (nodeRule sets) x depth) (sym g) ∙ p .rules) en in
         let below-is = bd ∙ ap (λ (x : ℕ). kindDepth x depth) ki ∙ sym (o .below) in
-        let started-is = st ∙ (λ j. started (ki j) (ri j) (ai j) (bi j) sets ports depth width masks) in
+        let started-is = st ∙ (λ j. started (ki j) (ri j) (ai j) (bi j) sets ports depth width masks (lentTo at (at + width) xs)) in
         let filled = kids m depth c i (sym (ki ∙ o .kind)) below-is (p .width-is) (o .kids) in
         tree-filled l i up above ports sets depth width over at outer masks xs n m c s e o (p .ports1) (p .ports64)
-        (rw g at (p .few)) kn dn on (p .width-is) below′ nn r below-is ys₁ zs₁ xs₃ xs₄ started-is
+        (rw g at (p .few)) kn dn on (p .width-is) (p .after) below′ nn r below-is ys₁ zs₁ xs₃ xs₄ started-is
         (subst (λ (x : ℕ). Filled x ports sets below′ width width depth m c masks (lent at (backTo at (at + width) xs ys₁)) zs₁ nn) ki filled) mg
         (rest n outer s up kn dn on (rest-all (recordLength * (e - i)) l ∙ o .rest))
 
@@ -287,7 +297,7 @@ pub record FillFacts (l : List ℕ) (i above ports sets depth width over at : �
   pub start : StartPlaced kind relation a b sets ports depth width masks (lentTo at (at + width) xs)
   pub kids : (ys : List ℕ) → length ys ≡ length (lentTo at (at + width) xs) → (below wider : ℕ) → below ≡ kindDepth kind depth → wider ≡ kindWidth kind width ports
       → FillPlaced (kidsOf l i e) (i + 1) kind ports sets below wider width width masks (lent at (backTo at (at + width) xs ys))
-  pub merging : at + over * spreadOf above ports ≤ length xs
+  pub joining : (ws : List ℕ) → length ws ≡ length xs → ChildPlaced above ports over at ws
   pub rest : (nn below : ℕ) → below ≡ kindDepth kind depth → ((m : Node) (outer : ℕ) (c : Forest) (up : ℕ) → kindNumber m ≡ kind → below ≡ childDepth m outer → width ≡ ports ^ outer
       → kidsOf l i e ≡ records c (i + 1) up → nn ≡ width + cellCount ports c below)
       → (ws : List ℕ) → length ws ≡ length xs
@@ -306,7 +316,7 @@ pub fill-facts : (l : List ℕ) (i above ports sets depth width over at : ℕ) (
     → recordLength ≤ length l → (e : ℕ) → e ≡ endField l
     → (kind relation a b : ℕ) → kind ≡ kindField l → relation ≡ relationField l → a ≡ aField l → b ≡ bField l
     → FillFacts l i above ports sets depth width over at masks xs e kind relation a b
-unfolding cellCount nodeCount
+unfolding cellCount nodeCount treeCount
 fill-facts l i above ports sets depth width over at masks xs p long e en kind relation a b ki ri ai bi = rw (ki, ri, ai, bi) (go (p .forest) refl)
   where
     go : (f : Forest) → p .forest ≡ f → FillFacts l i above ports sets depth width over at masks xs e (kindField l) (relationField l) (aField l) (bField l)
@@ -367,9 +377,17 @@ fill-facts l i above ports sets depth width over at masks xs p long e en kind re
                 sets-masks = p .sets-masks;
                 within = p .within;
                 after = omega arith;
+                alone = ⊎-elim (λ (h : spreadOf (kindField l) ports ≡ 1). inl h) (λ (h : treeCount c ≤ 1). inr (omega arith)) (one-child (kindField l) (treeCount c) ports (ap (λ (x : ℕ). arityRule x (treeCount c)) (o .kind) ∙ o .arity));
                 room = omega (arith, lz, ap (cellCount ports c) b);
               };
-          merging = omega (arith, ap₂ (λ (x y : ℕ). x * spreadOf y ports) (p .over-is) (sym (p .kind-is)) ∙ spread-width (p .parent) ports (p .outer) ∙ ap (λ (x : ℕ). ports ^ x) (sym (p .depth-is)));
+          joining = λ ws lw.
+              let e = ap₂ (λ (x y : ℕ). x * spreadOf y ports) (p .over-is) (sym (p .kind-is)) ∙ spread-width (p .parent) ports (p .outer) ∙ ap (λ (x : ℕ). ports ^ x) (sym (p .depth-is)) in
+              record {
+                ports1 = p .ports1;
+                after = p .after;
+                room = omega arith;
+                later = λ h. ⊎-elim (λ (q : spreadOf above ports ≡ 1). q) (λ (q : treeCount (tree m c s) + min 1 (at - over) ≤ 1). absurd (omega arith)) (rw q at (p .alone));
+              };
           rest = λ nn below bd H ws lw.
               let b = bd ∙ sym (o .below) in
               let nw = H m depth c i (sym (o .kind)) b w (o .kids) in
@@ -394,6 +412,7 @@ fill-facts l i above ports sets depth width over at masks xs p long e en kind re
                   sets-masks = p .sets-masks;
                   within = p .within;
                   after = omega (arith, p .after);
+                  alone = ⊎-elim (λ (h : spreadOf above ports ≡ 1). inl h) (λ (h : treeCount (tree m c s) + min 1 (at - over) ≤ 1). inr (omega arith)) (rw q at (p .alone));
                   room = omega arith;
                 },
               );

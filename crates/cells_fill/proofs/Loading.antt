@@ -1,6 +1,7 @@
 -- A whole plan: its masks, its root and what stands below the root. Assumes nothing.
 use mathlib.Core.Path.{_≡_, refl, sym, ap, ap₂, _∙_, subst}
 use mathlib.Core.Bool.{true}
+use mathlib.Core.Logic.{inl}
 use mathlib.Core.List.{List, [], _∷_, _++_, append-nil}
 use Prim.Native.Nat.{ℕ, suc, _+_, _≤_}
 use native.Mathlib.Nat.{mul-one, mul-suc, pow-zero}
@@ -20,7 +21,7 @@ use Rattle.table_format.proofs.Parts.{span-within}
 use Rattle.table_format.proofs.Bytes.{record-pos}
 use Rattle.table_format.proofs.Encoding.{length-records, decode-sound, one-plan}
 use Rattle.table_format.proofs.Rooted.{rooted, RootedIs, rooted-cells}
-use Rattle.cells_join.specs.inner.Joined.{unitOf, joinAll, joinOf}
+use Rattle.cells_join.specs.inner.Joined.{joinInto, joinOf, spreadOf}
 use Rattle.cells_fill.specs.inner.Fill.{startCell, treewise, config, table, FillPlaced, Fills, FillsPlan}
 use Rattle.cells_fill.proofs.Values.{own-cell, table-tree}
 use Rattle.cells_fill.proofs.Filling.{low-below}
@@ -31,7 +32,7 @@ pub placed-plan : (bytes : List ℕ) (P : Plan) (nodes : ℕ) (masks xs : List �
     → ownCells P ≤ length xs
     → FillPlaced (belowRoot bytes nodes) 1 0 (P .ports) (P .sets) 0 1 1 1
     (take (ownMasks P) masks) xs
-unfolding ownMasks kindNumber childDepth
+unfolding ownMasks kindNumber childDepth spreadOf
 placed-plan bytes P nodes masks xs r m st l =
     let f = r .facts in
     record {
@@ -60,6 +61,7 @@ placed-plan bytes P nodes masks xs r m st l =
       sets-masks = omega (arith, length-take-le (ownMasks P) masks m);
       within = st;
       after = omega arith;
+      alone = inl refl;
       room = omega (arith, r .total);
     }
 
@@ -70,18 +72,13 @@ root-cells u k c =
     table-tree u k root c none 0
     ∙ ap₂ (λ (a : ℕ) (b : List ℕ). tabulate a (λ i. penalty u k root c []) ++ b) (pow-zero u) (append-nil (table u k c 0))
 
-root-own : (P : Plan) (own : List ℕ) (c : Forest) → RootedIs (P .ports) (P .sets) c
-    → joinAll (joinOf 0) (unitOf 1) (treewise (P .ports) (config (P .ports) (P .sets) own) root c []) ≡ penalty (P .ports) (config (P .ports) (P .sets) own) root c []
-unfolding kindNumber startCell joinOf arityRule childDepth
-root-own P own c f =
-    own-cell (P .ports) (config (P .ports) (P .sets) own) root c [] (f .ports1) (eq-eqb (treeCount c) 1 (f .one))
-    (low-below (P .ports) (P .sets) own root c none 0 [] (f .ports1) (f .ports64) (f .rules) (omega (arith, rooted-cells (P .ports) (P .sets) c, own-zero (P .ports) (P .sets) c, f .few)))
-
-root-first : (P : Plan) (own : List ℕ) (c : Forest) → RootedIs (P .ports) (P .sets) c
-    → joinAll (joinOf 0) (getD (unitOf 1 ∷ []) 0 0) (treewise (P .ports) (config (P .ports) (P .sets) own) root c (tupleAt (P .ports) 0 0))
+root-own : (P : Plan) (own : List ℕ) (c : Forest) (x : ℕ) → RootedIs (P .ports) (P .sets) c
+    → joinInto (joinOf 0) true x (treewise (P .ports) (config (P .ports) (P .sets) own) root c (tupleAt (P .ports) 0 0))
     ≡ penalty (P .ports) (config (P .ports) (P .sets) own) root c []
-unfolding tupleAt
-root-first P own c f = root-own P own c f
+unfolding kindNumber startCell joinOf arityRule childDepth tupleAt
+root-own P own c x f =
+    own-cell (P .ports) (config (P .ports) (P .sets) own) root c [] x (f .ports1) (eq-eqb (treeCount c) 1 (f .one))
+    (low-below (P .ports) (P .sets) own root c none 0 [] (f .ports1) (f .ports64) (f .rules) (omega (arith, rooted-cells (P .ports) (P .sets) c, own-zero (P .ports) (P .sets) c, f .few)))
 
 first-one : (g : ℕ → ℕ) → tabulate 1 g ≡ g 0 ∷ []
 unfolding tabulate
@@ -94,12 +91,11 @@ plan-table P own c e =
     ap (λ (Q : Plan). layout (P .ports) (λ n c b d x. penalty (P .ports) (config (P .ports) (P .sets) own) n c x) (Q .formula) 0 0) e
     ∙ root-cells (P .ports) (config (P .ports) (P .sets) own) c
 
-pub plan-filled : (bytes : List ℕ) (P : Plan) (nodes r : ℕ) (masks xs ys zs : List ℕ) → decode bytes ≡ sound P → TableReady bytes P nodes → length xs ≡ ownCells P
-    → ys ≡ tabulate 1 (λ _. unitOf 1) ++ drop 1 xs
-    → Fills (belowRoot bytes nodes) 1 0 (P .ports) (P .sets) 0 1 1 (take (ownMasks P) masks) ys zs r
+pub plan-filled : (bytes : List ℕ) (P : Plan) (nodes r : ℕ) (masks xs zs : List ℕ) → decode bytes ≡ sound P → TableReady bytes P nodes → length xs ≡ ownCells P
+    → Fills (belowRoot bytes nodes) 1 0 (P .ports) (P .sets) 0 1 1 (take (ownMasks P) masks) xs zs r
     → FillsPlan bytes masks zs
 unfolding Fills FillsPlan kindNumber childDepth
-plan-filled bytes P nodes r masks xs ys zs d rd l ye fl Q dq = subst (λ (R : Plan). zs ≡ cells R (spelled R (take (ownMasks R) masks))) one whole
+plan-filled bytes P nodes r masks xs zs d rd l fl Q dq = subst (λ (R : Plan). zs ≡ cells R (spelled R (take (ownMasks R) masks))) one whole
   where
     u : ℕ
     u = P .ports
@@ -119,17 +115,22 @@ plan-filled bytes P nodes r masks xs ys zs d rd l ye fl Q dq = subst (λ (R : Pl
     X : List ℕ
     X = take m (drop 1 xs)
 
-    got : zs ≡ tabulate 1 (λ t. joinAll (joinOf 0) (getD (unitOf 1 ∷ []) t 0) (treewise u (config u (P .sets) own) root c (tupleAt u 0 t))) ++ ([] ++ (table u (config u (P .sets) own) c 0 ++ drop (1 + m) xs))
+    -- the root's cell as it was
+    A : List ℕ
+    A = take 1 xs
+
+    got : zs ≡ tabulate 1 (λ t. joinInto (joinOf 0) true (getD A t 0) (treewise u (config u (P .sets) own) root c (tupleAt u 0 t))) ++ ([] ++ (table u (config u (P .sets) own) c 0 ++ drop (1 + m) xs))
     got =
-        fl root 0 c 0 refl refl (sym (pow-zero u)) (rd .part) .cells-are (unitOf 1 ∷ []) [] X (drop (1 + m) xs)
-        (ye ∙ ap₂ (λ (a b : List ℕ). a ++ b) (first-one (λ _. unitOf 1)) (sym (take-append-drop m (drop 1 xs)) ∙ ap (λ (b : List ℕ). X ++ b) (drop-drop m 1 xs)))
-        refl refl (length-take-le m (drop 1 xs) (rw (length-drop 1 xs) (omega (arith, rd .total))))
+        let one : length A ≡ 1 = length-take-le 1 xs (omega (arith, rd .total)) in
+        fl root 0 c 0 refl refl (sym (pow-zero u)) (rd .part) .cells-are A [] X (drop (1 + m) xs)
+        (sym (take-append-drop 1 xs) ∙ ap (λ (b : List ℕ). A ++ b) (sym (take-append-drop m (drop 1 xs)) ∙ ap (λ (b : List ℕ). X ++ b) (drop-drop m 1 xs)))
+        one (omega arith) (length-take-le m (drop 1 xs) (rw (length-drop 1 xs) (omega (arith, rd .total))))
 
     whole : zs ≡ cells P (spelled P own)
     whole =
         got
         ∙ ap (λ (a : List ℕ). a ++ (table u (config u (P .sets) own) c 0 ++ drop (1 + m) xs))
-        (first-one (λ t. joinAll (joinOf 0) (getD (unitOf 1 ∷ []) t 0) (treewise u (config u (P .sets) own) root c (tupleAt u 0 t)))
-        ∙ ap (λ (x : ℕ). x ∷ []) (root-first P own c (rd .facts)))
+        (first-one (λ t. joinInto (joinOf 0) true (getD A t 0) (treewise u (config u (P .sets) own) root c (tupleAt u 0 t)))
+        ∙ ap (λ (x : ℕ). x ∷ []) (root-own P own c (getD A 0 0) (rd .facts)))
         ∙ nothing-behind (1 + m) (penalty u (config u (P .sets) own) root c [] ∷ table u (config u (P .sets) own) c 0) xs (omega (arith, rd .total))
         ∙ sym (plan-table P own c (rd .is-root))

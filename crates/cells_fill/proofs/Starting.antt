@@ -1,32 +1,49 @@
 -- How a node's own cells are begun. Assumes nothing.
-use mathlib.Core.Path.{_≡_, refl, sym, ap}
+use mathlib.Core.Path.{_≡_, refl, sym, ap, _∙_}
 use mathlib.Core.Bool.{true}
-use Prim.Native.Nat.{ℕ, zero, suc, _≤_}
+use mathlib.Core.List.{List}
+use Prim.Native.Nat.{ℕ, zero, suc, _≤_, _<_}
 use native.Mathlib.Omega.{arith}
+use lib.ListN.{length, getD}
+use lib.Seq.{take-all}
 use Rattle.logic.specs.Configuration.{Configuration}
 use Rattle.logic.specs.Formula.{literalOf, Node, root, all, any, and, or, lit, kindNumber}
 use Rattle.logic.specs.Truth.{Tuple}
 use Rattle.logic.specs.Penalty.{literalPenalty}
+use Rattle.logic.specs.Cells.{tupleAt, tabulate}
+use Rattle.logic.proofs.Tables.{tabulate-cong}
+use Rattle.logic.proofs.Written.{take-tabulate}
 use Rattle.logic.proofs.Relations.{test-kind-range}
 use Rattle.table_format.specs.Bytes.{testOf, nodeOf}
 use Rattle.table_format.specs.inner.Tests.{fieldRule}
 use Rattle.table_format.proofs.FieldRules.{fields-node, literal-node}
-use Rattle.cells_join.specs.inner.Joined.{unitOf, joinOf}
-use Rattle.cells_fill.specs.inner.Fill.{startCell}
+use Rattle.cells_fill.specs.inner.Fill.{startCell, config, started}
 
-pub start-literal : (k : Configuration) (kind r a b : ℕ) (e : Tuple) → 5 ≤ kind
-    → literalPenalty k (literalOf (testOf kind r a b)) e ≡ startCell k (nodeOf kind r a b) e
+pub start-literal : (k : Configuration) (kind r a b : ℕ) (e : Tuple) (x : ℕ) → 5 ≤ kind
+    → literalPenalty k (literalOf (testOf kind r a b)) e ≡ startCell k (nodeOf kind r a b) e x
 unfolding startCell
-start-literal k kind r a b e h = sym (ap (λ (n : Node). startCell k n e) (literal-node kind r a b h))
+start-literal k kind r a b e x h = sym (ap (λ (n : Node). startCell k n e x) (literal-node kind r a b h))
 
-pub start-inner : (k : Configuration) (kind r a b : ℕ) (e : Tuple) → kind ≤ 4 → unitOf (joinOf kind) ≡ startCell k (nodeOf kind r a b) e
+start-inner : (k : Configuration) (kind r a b : ℕ) (e : Tuple) (x : ℕ) → kind < 5 → x ≡ startCell k (nodeOf kind r a b) e x
 unfolding startCell nodeOf
-start-inner k zero r a b e h = refl
-start-inner k (suc zero) r a b e h = refl
-start-inner k (suc (suc zero)) r a b e h = refl
-start-inner k (suc (suc (suc zero))) r a b e h = refl
-start-inner k (suc (suc (suc (suc zero)))) r a b e h = refl
-start-inner k (suc (suc (suc (suc (suc j))))) r a b e h = absurd (omega arith)
+start-inner k zero r a b e x h = refl
+start-inner k (suc zero) r a b e x h = refl
+start-inner k (suc (suc zero)) r a b e x h = refl
+start-inner k (suc (suc (suc zero))) r a b e x h = refl
+start-inner k (suc (suc (suc (suc zero)))) r a b e x h = refl
+start-inner k (suc (suc (suc (suc (suc j))))) r a b e x h = absurd (omega arith)
+
+-- a list is what can be read of it
+pub as-tabulated : (m : ℕ) (l : List ℕ) → length l ≡ m → l ≡ tabulate m (λ t. getD l t 0)
+as-tabulated m l h = sym (take-all m l (omega arith)) ∙ take-tabulate m l (omega arith)
+
+-- the cells of an inner node are left as they are
+pub start-none : (kind r a b sets ports depth width : ℕ) (masks cells : List ℕ) → kind < 5 → length cells ≡ width
+    → cells ≡ started kind r a b sets ports depth width masks cells
+unfolding started
+start-none kind r a b sets ports depth width masks cells h l =
+    as-tabulated width cells l
+    ∙ tabulate-cong width _ _ (λ t q. start-inner (config ports sets masks) kind r a b (tupleAt ports depth t) (getD cells t 0) h)
 
 -- no kind is above 8
 kind-number-low : (n : Node) → kindNumber n ≤ 8

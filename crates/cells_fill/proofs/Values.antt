@@ -1,11 +1,12 @@
 -- What a node's cells come to when all below them is joined: Definition 5's penalty. Assumes nothing.
 use mathlib.Core.Path.{_≡_, refl, sym, ap, ap₂, _∙_}
-use mathlib.Core.Bool.{Bool, true, cond}
+use mathlib.Core.Bool.{Bool, true, false, cond, _&&_}
+use mathlib.Core.Logic.{_⊎_, inl, inr}
 use mathlib.Core.List.{List, [], _∷_, _++_, append-nil}
 use Prim.Native.Nat.{ℕ, zero, suc, _+_, _-_, _*_, _%_, _^_, _≤_, _<_, min}
-use native.Mathlib.Nat.{mod-eq-of-lt, pow-suc, mul-one, min-le-left, add-zero}
+use native.Mathlib.Nat.{mod-eq-of-lt, pow-suc, mul-one, add-zero}
 use native.Mathlib.Omega.{arith}
-use lib.Dec.{leb}
+use lib.Dec.{eqb, leb}
 use lib.Arith.{digits-div, digits-mod, digits-lt}
 use lib.ListN.{length, getD, take, drop, length-drop, length-append, List·getD-append}
 use lib.Seq.{take-suc, getD-drop}
@@ -20,7 +21,7 @@ use Rattle.logic.proofs.Relations.{test-kind-range}
 use Rattle.logic.proofs.Tables.{length-tabulate, getD-tabulate}
 use Rattle.table_format.specs.Rules.{treeCount, arityRule}
 use Rattle.table_format.proofs.FieldRules.{literal-children}
-use Rattle.cells_join.specs.inner.Joined.{meet, unitOf, joinAll, joinOf, spreadOf}
+use Rattle.cells_join.specs.inner.Joined.{meet, joinAll, joinInto, joinOf, spreadOf}
 use Rattle.cells_fill.specs.inner.Fill.{startCell, treewise, table}
 
 -- a sum that stays below 2^32
@@ -35,16 +36,17 @@ unfolding joinAll meet least
 join-least x y [] = refl
 join-least x y (z ∷ zs) = join-least (min x y) z zs ∙ omega arith
 
-least-low : (y : ℕ) (ys : List ℕ) → least (y ∷ ys) ≤ y
-unfolding least
-least-low y [] = omega arith
-least-low y (z ∷ zs) = min-le-left y (least (z ∷ zs))
+-- the same begun at the first number, whatever stood there
+into-sum : (x : ℕ) (ys : List ℕ) → 1 ≤ length ys → sum ys < 4294967296 → joinInto 0 true x ys ≡ sum ys
+unfolding joinInto sum
+into-sum x [] h l = absurd (omega arith)
+into-sum x (y ∷ ys) h l = join-sum y ys l
 
--- a minimum of numbers below 2^32, begun at the greatest
-join-minimum : (ys : List ℕ) → 1 ≤ length ys → sum ys < 4294967296 → joinAll 1 4294967295 ys ≡ least ys
-unfolding sum
-join-minimum [] h l = absurd (omega arith)
-join-minimum (y ∷ ys) h l = join-least 4294967295 y ys ∙ omega (arith, least-low y ys)
+into-least : (x : ℕ) (ys : List ℕ) → 1 ≤ length ys → joinInto 1 true x ys ≡ least ys
+unfolding joinInto joinAll least
+into-least x [] h = absurd (omega arith)
+into-least x (y ∷ []) h = refl
+into-least x (y ∷ z ∷ zs) h = join-least y z zs
 
 -- tree after tree is the same as all trees at each tuple, where a quantifier has one child
 penalties-trees : (u : ℕ) (k : Configuration) (n : Node) (f : Forest) (e : Tuple) → ((g : Tuple → List ℕ) → below u n e g ≡ g e) → penalties u k f e ≡ treewise u k n f e
@@ -75,7 +77,7 @@ unfolding eachPort
 each-pos zero g h H = absurd (omega arith)
 each-pos (suc u) g h H = omega (arith, length-append (eachPort u g) (g u), H u)
 
-below-pos : (u : ℕ) (n : Node) (e : Tuple) (g : Tuple → List ℕ) → 1 ≤ u → ((x : Tuple) → 1 ≤ length (g x)) → 1 ≤ length (below u n e g)
+pub below-pos : (u : ℕ) (n : Node) (e : Tuple) (g : Tuple → List ℕ) → 1 ≤ u → ((x : Tuple) → 1 ≤ length (g x)) → 1 ≤ length (below u n e g)
 unfolding below
 below-pos u root e g h H = H e
 below-pos u all e g h H = each-pos u _ h (λ p. H (p ∷ e))
@@ -113,23 +115,34 @@ unfolding spreadOf
 literal-spread t u =
     ap (λ (b : Bool). cond b u 1) (and-false (leb 1 (testKind t)) _ (λ _. lt-leb (testKind t) 2 (omega (arith, test-kind-range t))))
 
--- The joined cell is the penalty.
-pub own-cell : (u : ℕ) (k : Configuration) (n : Node) (c : Forest) (e : Tuple) → 1 ≤ u → arityRule (kindNumber n) (treeCount c) ≡ true
-    → sum (below u n e (penalties u k c)) < 4294967296 → joinAll (joinOf (kindNumber n)) (startCell k n e) (treewise u k n c e) ≡ penalty u k n c e
-unfolding joinOf kindNumber startCell unitOf penalty combine arityRule joinAll treewise
-own-cell u k root c e h a s =
-    let b = below-trees u k root c e a in
-    join-minimum (treewise u k root c e) (omega (arith, one-long u k c e (eqb-true (treeCount c) 1 a))) (rw (← b) s) ∙ copy-least (treewise u k root c e) (one-long u k c e (eqb-true (treeCount c) 1 a)) ∙ ap copy (sym b)
-own-cell u k all c e h a s = let b = below-trees u k all c e a in join-sum 0 (treewise u k all c e) (rw (← b) (omega arith)) ∙ omega (arith, ap sum b)
-own-cell u k any c e h a s =
-    let b = below-trees u k any c e a in
-    join-minimum (treewise u k any c e) (trees-pos u k any c e h (omega (arith, eqb-true (treeCount c) 1 a))) (rw (← b) s) ∙ ap least (sym b)
-own-cell u k and c e h a s = let b = below-trees u k and c e a in join-sum 0 (treewise u k and c e) (rw (← b) (omega arith)) ∙ omega (arith, ap sum b)
-own-cell u k or c e h a s =
-    let b = below-trees u k or c e a in
-    join-minimum (treewise u k or c e) (trees-pos u k or c e h (omega (arith, leb-true 2 (treeCount c) a))) (rw (← b) s) ∙ ap least (sym b)
-own-cell u k (lit l) c e h a s =
-    ap (λ (f : Forest). joinAll (1 - testKind (l .test) % 2) (literalPenalty k l e) (treewise u k (lit l) f e)) (no-tree c (literal-children (l .test) (treeCount c) a))
+-- The joined cell is the penalty, whatever an inner node's cell held before.
+pub own-cell : (u : ℕ) (k : Configuration) (n : Node) (c : Forest) (e : Tuple) (x : ℕ) → 1 ≤ u → arityRule (kindNumber n) (treeCount c) ≡ true
+    → sum (below u n e (penalties u k c)) < 4294967296 → joinInto (joinOf (kindNumber n)) true (startCell k n e x) (treewise u k n c e) ≡ penalty u k n c e
+unfolding joinOf kindNumber startCell penalty combine arityRule joinInto treewise
+own-cell u k root c e x h a s =
+    let one = one-long u k c e (eqb-true (treeCount c) 1 a) in
+    into-least x (treewise u k root c e) (omega arith) ∙ copy-least (treewise u k root c e) one ∙ ap copy (sym (below-trees u k root c e a))
+own-cell u k all c e x h a s =
+    let b = below-trees u k all c e a in
+    into-sum x (treewise u k all c e) (trees-pos u k all c e h (omega (arith, eqb-true (treeCount c) 1 a))) (rw (← b) s) ∙ ap sum (sym b)
+own-cell u k any c e x h a s =
+    into-least x (treewise u k any c e) (trees-pos u k any c e h (omega (arith, eqb-true (treeCount c) 1 a))) ∙ ap least (sym (below-trees u k any c e a))
+own-cell u k and c e x h a s =
+    let b = below-trees u k and c e a in
+    into-sum x (treewise u k and c e) (trees-pos u k and c e h (omega (arith, leb-true 2 (treeCount c) a))) (rw (← b) s) ∙ ap sum (sym b)
+own-cell u k or c e x h a s =
+    into-least x (treewise u k or c e) (trees-pos u k or c e h (omega (arith, leb-true 2 (treeCount c) a))) ∙ ap least (sym (below-trees u k or c e a))
+own-cell u k (lit l) c e x h a s =
+    ap (λ (f : Forest). joinInto (1 - testKind (l .test) % 2) true (literalPenalty k l e) (treewise u k (lit l) f e)) (no-tree c (literal-children (l .test) (treeCount c) a))
+
+-- a quantifier has one child at most
+pub one-child : (kind m u : ℕ) → arityRule kind m ≡ true → (spreadOf kind u ≡ 1) ⊎ (m ≤ 1)
+unfolding arityRule spreadOf
+one-child kind m u h = go (leb kind 2) h
+  where
+    go : (b : Bool) → cond b (eqb m 1) (cond (leb kind 4) (leb 2 m) (eqb m 0)) ≡ true → (cond (leb 1 kind && b) u 1 ≡ 1) ⊎ (m ≤ 1)
+    go true q = inr (omega (arith, eqb-true m 1 q))
+    go false q = inl (ap (λ (b : Bool). cond b u 1) (and-false (leb 1 kind) false (λ _. refl)))
 
 -- the cells of a row that stand below one cell
 module _ (u : ℕ) (g : Tuple → ℕ) (rest : List ℕ) where

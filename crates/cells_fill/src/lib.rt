@@ -1,8 +1,5 @@
 // Fills every cell of a plan, by recursion over its records. Paper 01, section Penalty.
-use cells_join::join_of;
-use cells_join::merge;
-use cells_join::put_unit;
-use cells_join::spread_of;
+use cells_join::join_child;
 use cells_literals::put_literal;
 use logic::own_masks;
 use table_format::RECORD;
@@ -17,7 +14,7 @@ use table_rules::child_width;
 ghost use mathlib.Core.Path.{_≡_};
 ghost use Rattle.cells_fill.specs.inner.Fill.{StartPlaced, started, FillPlaced, Fills, FillReady, FillsPlan};
 
-// Begins a node's own cells, which are all it is lent: a literal's penalties, or the join of nothing.
+// Writes a literal's own cells, which are all it is lent. Another node's are left as they are: its first child writes them.
 fn start_cells(
     kind: u8,
     relation: u8,
@@ -31,24 +28,23 @@ fn start_cells(
     cells: &mut [u32],
 )
     requires { ⌜ StartPlaced kind relation a b sets ports depth width (now masks) (now cells) ⌝ }
-    ensures { λ _. ⌜ now (cells .exit) ≡ started kind relation a b sets ports depth width (now (masks .entry)) ⌝ }
+    ensures { λ _. ⌜ now (cells .exit) ≡ started kind relation a b sets ports depth width (now (masks .entry)) (now (cells .entry)) ⌝ }
 {
-    if 5 <= kind {
-        put_literal(
-            kind,
-            relation,
-            a,
-            b,
-            sets,
-            ports,
-            depth,
-            width,
-            masks,
-            cells,
-        );
+    if kind < 5 {
         return;
     }
-    put_unit(join_of(kind), width, cells);
+    put_literal(
+        kind,
+        relation,
+        a,
+        b,
+        sets,
+        ports,
+        depth,
+        width,
+        masks,
+        cells,
+    );
 }
 
 // Fills the cells of some trees and joins them to the cells of the node above; says where they end. The part gets shorter at
@@ -102,7 +98,7 @@ fn fill_forest(
         masks,
         &mut cells[at..],
     );
-    merge(join_of(above), over, spread_of(above, ports), at, cells);
+    join_child(above, ports, over, at, cells);
     fill_forest(
         &part[span..],
         end,
@@ -118,13 +114,12 @@ fn fill_forest(
     )
 }
 
-// Fills the own cells of a plan whose table and masks are sound: the root's cell, then what stands below it.
+// Fills the own cells of a plan whose table and masks are sound: what stands below the root, and so the root's cell.
 pub fn fill(table: &[u8], ports: usize, sets: usize, nodes: usize, masks: &[u64], cells: &mut [u32])
     requires { ⌜ FillReady (now table) ports sets nodes (now masks) (now cells) ⌝ }
     ensures { λ _. ⌜ FillsPlan (now (table .entry)) (now (masks .entry)) (now (cells .exit)) ⌝ }
 {
     let below = below_root(table, nodes);
-    put_unit(1, 1, cells);
     let own = own_masks(sets);
     fill_forest(below, 1, 0, ports, sets, 0, 1, 1, 1, &masks[0..own], cells);
 }

@@ -1,19 +1,36 @@
 -- Joins of lists, and cells merged one after another. Assumes nothing.
 use mathlib.Core.Path.{_≡_, refl, sym, ap, ap₂, _∙_}
+use mathlib.Core.Bool.{Bool, true, false, cond, _&&_}
 use mathlib.Core.List.{List, [], _∷_, _++_}
-use Prim.Native.Nat.{ℕ, _+_, _*_, _≤_, _<_}
-use native.Mathlib.Nat.{suc-mul, mul-le-mul-right}
+use Prim.Native.Nat.{ℕ, zero, suc, _+_, _*_, _%_, _≤_, _<_, min}
+use native.Mathlib.Nat.{mul-one, suc-mul, mul-le-mul-right}
 use native.Mathlib.Numerals.{add-one}
 use native.Mathlib.Omega.{arith}
+use lib.Dec.{eqb, leb}
 use lib.ListN.{length, getD, take, drop, set, length-drop}
 use lib.Seq.{drop-cons, take-suc, getD-drop}
-use Rattle.logic.proofs.Written.{Written, one-more-first, behind-first, next-first}
-use Rattle.cells_join.specs.inner.Joined.{meet, joinAll}
+use Rattle.logic.specs.Cells.{tabulate}
+use Rattle.logic.proofs.Tables.{tabulate-cong}
+use Rattle.logic.proofs.Written.{Written, one-more-first, behind-first, next-first, take-tabulate}
+use Rattle.cells_join.specs.inner.Joined.{meet, unitOf, joinAll, joinInto, merged, spreadOf}
 
-pub join-append : (join x : ℕ) (ys zs : List ℕ) → joinAll join x (ys ++ zs) ≡ joinAll join (joinAll join x ys) zs
+join-append : (join x : ℕ) (ys zs : List ℕ) → joinAll join x (ys ++ zs) ≡ joinAll join (joinAll join x ys) zs
 unfolding joinAll
 join-append join x [] zs = refl
 join-append join x (y ∷ ys) zs = join-append join (meet join x y) ys zs
+
+pub into-none : (join : ℕ) (first : Bool) (x : ℕ) → x ≡ joinInto join first x []
+unfolding joinInto joinAll
+into-none join false x = refl
+into-none join true x = refl
+
+-- what comes after something is joined to it
+pub into-append : (join : ℕ) (first : Bool) (x : ℕ) (ys zs : List ℕ) → 1 ≤ length ys
+    → joinInto join first x (ys ++ zs) ≡ joinInto join false (joinInto join first x ys) zs
+unfolding joinInto
+into-append join false x ys zs h = join-append join x ys zs
+into-append join true x [] zs h = absurd (omega arith)
+into-append join true x (y ∷ ys) zs h = join-append join y ys zs
 
 -- one more cell
 pub gather-next : (join x from p r v : ℕ) (l : List ℕ) → from + p < length l → r ≡ joinAll join x (take p (drop from l)) → v ≡ meet join r (getD l (from + p) 0)
@@ -25,25 +42,78 @@ gather-next join x from p r v l h e q =
     ∙ ap (joinAll join x) (sym (take-suc (drop from l) p 0 (rw (length-drop from l) (omega arith))))
     ∙ ap (λ (m : ℕ). joinAll join x (take m (drop from l))) (sym (add-one p))
 
+-- a number of 32 bits joined to the join of nothing is itself
+unit-meet : (join y : ℕ) → y < 4294967296 → meet join (unitOf join) y ≡ y
+unfolding meet unitOf
+unit-meet join y h = go (eqb join 0)
+  where
+    go : (b : Bool) → cond b ((cond b 0 4294967295 + y) % 4294967296) (min (cond b 0 4294967295) y) ≡ y
+    go true = omega arith
+    go false = omega arith
+
+-- so that a join may begin at the join of nothing
+pub from-unit : (join x from s : ℕ) (l : List ℕ) → 1 ≤ s → from + s ≤ length l → getD l from 0 < 4294967296
+    → joinAll join (unitOf join) (take s (drop from l)) ≡ joinInto join true x (take s (drop from l))
+unfolding joinAll joinInto
+from-unit join x from zero l h k b = absurd (omega arith)
+from-unit join x from (suc s) l h k b =
+    rw (drop-cons l from 0 (omega arith)) (ap (λ (y : ℕ). joinAll join y (take s (drop (suc from) l))) (unit-meet join (getD l from 0) b))
+
 -- one cell alone
-pub join-one : (join x i : ℕ) (l : List ℕ) → i < length l → meet join x (getD l i 0) ≡ joinAll join x (take 1 (drop i l))
-unfolding joinAll
+pub join-one : (join x i : ℕ) (l : List ℕ) → i < length l → meet join x (getD l i 0) ≡ joinInto join false x (take 1 (drop i l))
+unfolding joinAll joinInto
 join-one join x i l h = rw (drop-cons l i 0 h)
+
+first-one : (join x i : ℕ) (l : List ℕ) → i < length l → getD l i 0 ≡ joinInto join true x (take 1 (drop i l))
+unfolding joinAll joinInto
+first-one join x i l h = rw (drop-cons l i 0 h)
+
+-- a cell stands above one at least
+pub spread-pos : (kind ports : ℕ) → 1 ≤ ports → 1 ≤ spreadOf kind ports
+unfolding spreadOf
+spread-pos kind ports h = go (leb 1 kind && leb kind 2)
+  where
+    go : (b : Bool) → 1 ≤ cond b ports 1
+    go true = h
+    go false = omega arith
 
 pub row-within : (t over s : ℕ) → t < over → t * s + s ≤ over * s
 row-within t over s h = rw (← (suc-mul t s)) (mul-le-mul-right s h)
 
 -- what the t-th cell is joined with
-abbrev pub joinedAt : ℕ → ℕ → ℕ → List ℕ → ℕ → ℕ
-joinedAt join s at l t = joinAll join (getD l t 0) (take s (drop (at + t * s) l))
+abbrev pub joinedAt : ℕ → Bool → ℕ → ℕ → List ℕ → ℕ → ℕ
+joinedAt join first s at l t = joinInto join first (getD l t 0) (take s (drop (at + t * s) l))
 
 -- one more cell merged: the cells below it are not written yet
-pub merge-more : (join s at over from t v : ℕ) (xs cells : List ℕ) → Written (joinedAt join s at xs) 0 over xs cells t → t < over → over ≤ at → over ≤ length xs
-    → from ≡ at + t * s → v ≡ joinAll join (getD cells t 0) (take s (drop from cells))
-    → Written (joinedAt join s at xs) 0 over xs (set cells t v) (t + 1)
-merge-more join s at over from t v xs cells i l h k e q =
-    let g = joinedAt join s at xs in
+pub merge-more : (join : ℕ) (first : Bool) (s at over from t v : ℕ) (xs cells : List ℕ) → Written (joinedAt join first s at xs) 0 over xs cells t → t < over → over ≤ at → over ≤ length xs
+    → from ≡ at + t * s → v ≡ joinInto join first (getD cells t 0) (take s (drop from cells))
+    → Written (joinedAt join first s at xs) 0 over xs (set cells t v) (t + 1)
+merge-more join first s at over from t v xs cells i l h k e q =
+    let g = joinedAt join first s at xs in
     one-more-first g over xs cells t v i l k
-    (q ∙ ap₂ (λ (x : ℕ) (ys : List ℕ). joinAll join x (take s ys))
+    (q ∙ ap₂ (λ (x : ℕ) (ys : List ℕ). joinInto join first x (take s ys))
     (ap (λ (ys : List ℕ). getD ys t 0) (i .is) ∙ next-first g t xs)
     (ap₂ (λ (m : ℕ) (ys : List ℕ). drop m ys) e (i .is) ∙ behind-first g t (at + t * s) xs (omega arith)))
+
+-- a copied cell: not written yet where it is read
+pub copy-more : (at over t : ℕ) (xs cells : List ℕ) → Written (λ i. getD (drop at xs) i 0) 0 over xs cells t → t < over → over ≤ at → over ≤ length xs
+    → Written (λ i. getD (drop at xs) i 0) 0 over xs (set cells t (getD cells (at + t) 0)) (t + 1)
+copy-more at over t xs cells i l h k =
+    let g : ℕ → ℕ = λ i. getD (drop at xs) i 0 in
+    one-more-first g over xs cells t (getD cells (at + t) 0) i l k
+    (sym (getD-drop at cells t 0) ∙ ap (λ (ys : List ℕ). getD ys t 0) (ap (drop at) (i .is) ∙ behind-first g t at xs (omega arith)))
+
+-- the cells of a copied row
+pub taken-row : (at over : ℕ) (l : List ℕ) → at + over ≤ length l
+    → tabulate over (λ i. getD (drop at l) i 0) ++ drop over l ≡ take over (drop at l) ++ drop over l
+taken-row at over l h = ap (λ (x : List ℕ). x ++ drop over l) (sym (take-tabulate over (drop at l) (rw (length-drop at l) (omega arith))))
+
+-- a copied row is one that the first child's cells are merged into
+pub copied-row : (join over at : ℕ) (l : List ℕ) → at + over ≤ length l → take over (drop at l) ++ drop over l ≡ merged join true over 1 at l
+unfolding merged
+copied-row join over at l h =
+    sym (taken-row at over l h)
+    ∙ ap (λ (x : List ℕ). x ++ drop over l)
+    (tabulate-cong over _ _ (λ t q.
+    getD-drop at l t 0 ∙ first-one join (getD l t 0) (at + t) l (omega arith)
+    ∙ ap (λ (m : ℕ). joinInto join true (getD l t 0) (take 1 (drop (at + m) l))) (sym (mul-one t))))

@@ -1,13 +1,13 @@
-// Cells joined to the cells above them: sums and minima. Paper 01, section Penalty.
-use cells_runs::put_run;
+// Cells of a child joined to the cells of the node above it: sums and minima. Paper 01, section Penalty.
 use logic::lesser_cell;
 use std::num::wrapping_add_u32;
 ghost use mathlib.Core.Path.{_≡_};
+ghost use mathlib.Core.Bool.{true, false};
 ghost use mathlib.Core.List.{_++_};
-ghost use Prim.Native.Nat.{_+_, _*_, _≤_};
+ghost use Prim.Native.Nat.{ℕ, _+_, _*_, _≤_};
+ghost use lib.Dec.{eqb};
 ghost use lib.ListN.{length, take, drop};
-ghost use Rattle.logic.specs.Cells.{tabulate};
-ghost use Rattle.cells_join.specs.inner.Joined.{meet, unitOf, joinAll, merged, joinOf, spreadOf};
+ghost use Rattle.cells_join.specs.inner.Joined.{meet, unitOf, joinInto, merged, joinOf, spreadOf, ChildPlaced};
 
 // Two numbers joined: 0 adds, any other takes the minimum. True penalties stay below 2^32, so no sum of them wraps.
 fn meet_of(join: u8, x: u32, y: u32) -> u32
@@ -29,20 +29,12 @@ fn unit_of(join: u8) -> u32
     4294967295
 }
 
-// The first `width` cells are the join of nothing.
-pub fn put_unit(join: u8, width: usize, cells: &mut [u32])
-    requires { ⌜ width ≤ length (now cells) ⌝ }
-    ensures { λ _. ⌜ now (cells .exit) ≡ tabulate width (λ _. unitOf join) ++ drop width (now (cells .entry)) ⌝ }
+// The join of s cells from place `from` on. Begun at the join of nothing it goes over all s alike, so that 64 are whole vectors.
+fn gather(join: u8, from: usize, s: usize, cells: &[u32]) -> u32
+    requires { ⌜ (1 ≤ s) × (from + s ≤ length (now cells)) ⌝ }
+    ensures { λ r. ⌜ ((x : ℕ) → r ≡ joinInto join true x (take s (drop from (now (cells .entry))))) ⌝ }
 {
-    put_run(0, width, unit_of(join), cells);
-}
-
-// x joined with s cells from place `from` on.
-fn gather(join: u8, x: u32, from: usize, s: usize, cells: &[u32]) -> u32
-    requires { ⌜ from + s ≤ length (now cells) ⌝ }
-    ensures { λ r. ⌜ r ≡ joinAll join x (take s (drop from (now (cells .entry)))) ⌝ }
-{
-    let mut r = x;
+    let mut r = unit_of(join);
     let mut p = 0;
     while p < s {
         r = meet_of(join, r, cells[from + p]);
@@ -51,11 +43,37 @@ fn gather(join: u8, x: u32, from: usize, s: usize, cells: &[u32]) -> u32
     r
 }
 
+// Writes to each of the first `over` cells the join of the s cells below it, which stand from place `at` on.
+fn gather_rows(join: u8, over: usize, s: usize, at: usize, cells: &mut [u32])
+    requires { ⌜ (1 ≤ s) × (over ≤ at) × (at + over * s ≤ length (now cells)) ⌝ }
+    ensures { λ _. ⌜ now (cells .exit) ≡ merged join true over s at (now (cells .entry)) ⌝ }
+{
+    let mut t = 0;
+    let mut from = at;
+    while t < over {
+        cells[t] = gather(join, from, s, &cells[..]);
+        from += s;
+        t += 1;
+    }
+}
+
+// Copies to the first `over` cells those from place `at` on.
+fn copy_row(over: usize, at: usize, cells: &mut [u32])
+    requires { ⌜ (over ≤ at) × (at + over ≤ length (now cells)) ⌝ }
+    ensures { λ _. ⌜ now (cells .exit) ≡ take over (drop at (now (cells .entry))) ++ drop over (now (cells .entry)) ⌝ }
+{
+    let mut i = 0;
+    while i < over {
+        cells[i] = cells[at + i];
+        i += 1;
+    }
+}
+
 // Joins to each of the first `over` cells the one below it, from place `at` on. With no loop for each cell the compiler makes
 // vector instructions of it.
 fn merge_row(join: u8, over: usize, at: usize, cells: &mut [u32])
     requires { ⌜ (over ≤ at) × (at + over ≤ length (now cells)) ⌝ }
-    ensures { λ _. ⌜ now (cells .exit) ≡ merged join over 1 at (now (cells .entry)) ⌝ }
+    ensures { λ _. ⌜ now (cells .exit) ≡ merged join false over 1 at (now (cells .entry)) ⌝ }
 {
     let mut t = 0;
     while t < over {
@@ -64,33 +82,15 @@ fn merge_row(join: u8, over: usize, at: usize, cells: &mut [u32])
     }
 }
 
-// Joins to each of the first `over` cells the s cells below it, which stand from place `at` on.
-pub fn merge(join: u8, over: usize, s: usize, at: usize, cells: &mut [u32])
-    requires { ⌜ (over ≤ at) × (at + over * s ≤ length (now cells)) ⌝ }
-    ensures { λ _. ⌜ now (cells .exit) ≡ merged join over s at (now (cells .entry)) ⌝ }
-{
-    if s == 1 {
-        merge_row(join, over, at, cells);
-        return;
-    }
-    let mut t = 0;
-    let mut from = at;
-    while t < over {
-        cells[t] = gather(join, cells[t], from, s, &cells[..]);
-        from += s;
-        t += 1;
-    }
-}
-
 // How a kind joins the cells below it: `@` and `&`, the odd kinds, add.
-pub fn join_of(kind: u8) -> u8
+fn join_of(kind: u8) -> u8
     ensures { λ r. ⌜ r ≡ joinOf kind ⌝ }
 {
     1 - kind % 2
 }
 
 // How many cells of a child stand below one cell: a quantifier has one for each port.
-pub fn spread_of(kind: u8, ports: usize) -> usize
+fn spread_of(kind: u8, ports: usize) -> usize
     ensures { λ r. ⌜ r ≡ spreadOf kind ports ⌝ }
 {
     if kind == 0 {
@@ -100,4 +100,23 @@ pub fn spread_of(kind: u8, ports: usize) -> usize
         return ports;
     }
     1
+}
+
+// Joins a child's cells, from place `at` on, to those of the node above, the first `over`. The first child stands right behind
+// them and is written over them, whatever they hold: no cell is filled only to be joined to.
+pub fn join_child(above: u8, ports: usize, over: usize, at: usize, cells: &mut [u32])
+    requires { ⌜ ChildPlaced above ports over at (now cells) ⌝ }
+    ensures { λ _. ⌜ now (cells .exit) ≡ merged (joinOf above) (eqb at over) over (spreadOf above ports) at (now (cells .entry)) ⌝ }
+{
+    let join = join_of(above);
+    if at != over {
+        merge_row(join, over, at, cells);
+        return;
+    }
+    let s = spread_of(above, ports);
+    if s == 1 {
+        copy_row(over, at, cells);
+        return;
+    }
+    gather_rows(join, over, s, at, cells);
 }

@@ -1,13 +1,16 @@
--- Wrapping sums and minima. Assumes nothing.
-use mathlib.Core.Path.{_≡_, sym, ap, _∙_}
+-- Wrapping sums and minima, one after the other. Assumes nothing.
+use mathlib.Core.Path.{_≡_, refl, sym, ap, ap₂, _∙_}
 use mathlib.Core.Bool.{Bool, true, false, not}
-use Prim.Native.Nat.{ℕ, _+_, _-_, _%_, _<_, min}
+use mathlib.Core.List.{List, [], _∷_, _++_}
+use Prim.Native.Nat.{ℕ, suc, _+_, _-_, _%_, _<_, min}
 use native.Mathlib.Omega.{arith}
 use lib.Dec.{eqb}
 use borrow.Author.Tests.{eq-eqb}
 use Rattle.logic.specs.Configuration.{indicator}
-use Rattle.logic.specs.Change.{modulus}
-use Rattle.cells_sum.specs.inner.Walk.{taken, Joined}
+use Rattle.logic.specs.Penalty.{sum, eachPort}
+use Rattle.logic.specs.Change.{modulus, Renewal}
+use Rattle.logic.proofs.Lists.{sum-append}
+use Rattle.cells_sum.specs.inner.Walk.{taken, gathered, Joined}
 use Rattle.cells_sum.specs.declared.After.{After}
 use Rattle.cells_sum.specs.declared.Sum.{Sum}
 
@@ -36,3 +39,19 @@ joined-least add acc x r h v c = record {
 pub counted-same : (a b n m : ℕ) → a ≡ b → m < 4294967296 → n ≡ m → n ≡ (indicator (not (eqb a b)) + m) % 4294967296
 unfolding indicator
 counted-same a b n m e l h = rw (eq-eqb a b e) (omega arith)
+
+-- of a cell directly below only its number before and after counts
+pub taken-same : (a : Bool) (m : ℕ) (y z : Renewal) → y .old ≡ z .old → y .new ≡ z .new → taken a m y ≡ taken a m z
+unfolding taken
+taken-same true m y z p q = ap₂ (λ (v w : ℕ). (m + (w + (modulus - v))) % modulus) p q
+taken-same false m y z p q = ap (min m) q
+
+pub gathered-append : (add : Bool) (acc : ℕ) (xs ys : List Renewal) → gathered add acc (xs ++ ys) ≡ gathered add (gathered add acc xs) ys
+unfolding gathered
+gathered-append add acc [] ys = refl
+gathered-append add acc (x ∷ xs) ys = gathered-append add (taken add acc x) xs ys
+
+-- one more port
+pub sum-port : (u : ℕ) (h : ℕ → ℕ) → sum (eachPort (suc u) (λ p. h p ∷ [])) ≡ sum (eachPort u (λ p. h p ∷ [])) + h u
+unfolding eachPort sum
+sum-port u h = sum-append (eachPort u (λ p. h p ∷ [])) (h u ∷ []) ∙ omega arith

@@ -40,7 +40,7 @@ pub fn begin(add: bool, old: u32) -> Sum
 }
 
 // A sum with the new minus the old of a cell directly below, modulo 2^32.
-fn with_difference(acc: u32, new: u32, old: u32) -> u32
+pub fn with_difference(acc: u32, new: u32, old: u32) -> u32
     ensures { λ r. ⌜ r ≡ (acc + (new + (4294967296 - old))) % 4294967296 ⌝ }
 {
     wrapping_add_u32(acc, wrapping_sub_u32(new, old))

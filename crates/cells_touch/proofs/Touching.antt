@@ -1,9 +1,9 @@
 -- A cell is touched where the word of its tuple meets the uses of its node, and the words from tuple to tuple. Assumes nothing.
-use mathlib.Core.Path.{_≡_, refl, sym, ap, ap₂, _∙_, subst}
+use mathlib.Core.Path.{_≡_, refl, sym, ap, ap₂, _∙_}
 use mathlib.Core.Logic.{_≢_}
 use mathlib.Core.Bool.{Bool, true, false, cond, not, _&&_, _||_, false≢true}
 use mathlib.Core.List.{List, [], _∷_}
-use Prim.Native.Nat.{ℕ, zero, suc, _+_, _*_, _%_, _<_}
+use Prim.Native.Nat.{ℕ, zero, suc, _+_, _*_, _^_, _%_, _<_}
 use native.Mathlib.Omega.{arith}
 use native.Mathlib.Decide.{decLt, ℕ-discrete}
 use lib.Bits.{bitAnd, bitOr, and-zero-l, or-zero-r}
@@ -22,7 +22,7 @@ use Rattle.logic.proofs.Untouched.{port-out}
 use Rattle.table_format.specs.inner.Index.{testUses, nodeUses, forestUses}
 use Rattle.cells_touch.specs.declared.Changed.{Changed}
 use Rattle.cells_touch.specs.inner.Hits.{meets, HitWord, Describes, level, otherLevels, atPort, firstWord, restWord, portWord, Marked}
-use Rattle.cells_touch.proofs.Bits.{in-and, in-or, in-zero, meets-zero, meets-power, meets-or}
+use Rattle.cells_touch.proofs.Bits.{in-and, in-or, in-zero, meets-bit, bit-meets, meets-zero, meets-power, meets-or}
 
 -- a node is hit where its own uses meet the word
 module _ (ch : Change) (e : Tuple) (w : ℕ) (word : HitWord ch e w) where
@@ -129,6 +129,25 @@ in-port-word c w d x S v h k l =
     go true y z = ap₂ _||_ (and-false-right y) (and-true-right z)
     go false y z = ap₂ _||_ (and-true-right y) (and-false-right z) ∙ or-false-right y
 
+-- every port but p and q has the rest of the word, and what meets the rest meets the word of each port
+pub port-word-other : (c : Changed) (w d x : ℕ) → x ≢ c .p → x ≢ c .q → portWord c w d x ≡ restWord w d
+unfolding portWord atPort
+port-word-other c w d x n m = rw (ne-eqb x (c .p) n, ne-eqb x (c .q) m, and-zero-l (level d)) (or-zero-r (restWord w d))
+
+pub port-meets : (c : Changed) (a w d x : ℕ) → meets a (restWord w d) ≡ true → meets a (portWord c w d x) ≡ true
+unfolding portWord
+port-meets c a w d x h =
+    let j = meets-bit a (restWord w d) h in
+    bit-meets a (portWord c w d x) (j .0) (j .1) (in-or (restWord w d) (bitAnd (atPort c x) (level d)) (j .0) ∙ or-true-left _ _ (j .2))
+
+-- a variable whose bit the rest of the word has is not the innermost one
+pub other-variable : (S v w d : ℕ) → d < 3 → S < 16 → v < 3 → meets (2 ^ (4 * S + v)) (restWord w d) ≡ true → v ≢ d
+unfolding restWord
+other-variable S v w d h k l m e =
+    let b : inMask (bitAnd w (otherLevels d)) (4 * S + v) ≡ true = sym (meets-power (4 * S + v) (bitAnd w (otherLevels d))) ∙ m in
+    let o : not (eqb v d) ≡ true = sym (in-others d S v h k (omega arith)) ∙ and-right (inMask w (4 * S + v)) _ (sym (in-and w (otherLevels d) (4 * S + v)) ∙ b) in
+    false≢true (ap not (sym (eq-eqb v d e)) ∙ o)
+
 -- what a new innermost port changes in a hit
 port-own : (x : ℕ) (e : Tuple) (v : ℕ) → v ≡ length e → portOf (x ∷ e) v ≡ x
 unfolding portOf
@@ -180,14 +199,6 @@ module _ (u : ℕ) (ch : Change) (c : Changed) (says : Describes u ch c) where
           rw (eq-eqb v d i) (at-port-is x S v k l ∙ some-same _ _ (ch .pairs) (λ q d. sym (member-own v S x e q (i ∙ sym le))))
       go S v k l (no i) =
           rw (ne-eqb v d i) (word .members S v k l ∙ some-same _ _ (ch .pairs) (λ q d. sym (member-other v S x e q (λ z. i (z ∙ le)))))
-
-  -- every port but p and q has the rest of the word
-  pub rest-word-is : (e : Tuple) (w d x : ℕ) → HitWord ch e w → length e ≡ d → d < 3 → x ≢ c .p → x ≢ c .q → HitWord ch (x ∷ e) (restWord w d)
-  unfolding portWord atPort
-  rest-word-is e w d x word le h n m = subst (HitWord ch (x ∷ e)) same-word (port-word-is e w d x word le h)
-    where
-      same-word : portWord c w d x ≡ restWord w d
-      same-word = rw (ne-eqb x (c .p) n, ne-eqb x (c .q) m, and-zero-l (level d)) (or-zero-r (restWord w d))
 
   -- the word of the empty tuple: a membership literal on a set is hit if the set changes anywhere
   some-set : (S : ℕ) (qs : List Pair) → ((x : ℕ) → x ≢ c .p → x ≢ c .q → listed qs S x ≡ false)

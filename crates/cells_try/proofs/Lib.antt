@@ -1,4 +1,5 @@
 -- Laws.
 pub mod Remaining
 pub mod Rooted
+pub mod Rowing
 pub mod Walking

@@ -1,19 +1,18 @@
 -- What the walk asks at each of its steps, and what follows from what the steps give. Assumes nothing.
-use mathlib.Core.Path.{_≡_, refl, sym, ap, ap₂, _∙_, subst}
-use mathlib.Core.Logic.{_≢_}
-use mathlib.Core.Bool.{Bool, true, false, cond, not, _&&_, _||_, true≢false}
+use mathlib.Core.Path.{_≡_, sym, ap, ap₂, _∙_, subst}
+use mathlib.Core.Bool.{Bool, true, false, not, _&&_}
 use mathlib.Core.List.{List, [], _∷_}
-use Prim.Native.Nat.{ℕ, zero, suc, _+_, _-_, _*_, _^_, _%_, _≤_, _<_}
-use native.Mathlib.Nat.{le-trans, pow-le-pow-left, pow-le-pow-right, zero-add, add-zero, mul-le-mul}
+use Prim.Native.Nat.{ℕ, suc, _+_, _*_, _^_, _%_, _≤_, _<_}
+use native.Mathlib.Nat.{le-trans, pow-le-pow-left, pow-le-pow-right, zero-add, mul-le-mul}
 use native.Mathlib.Numerals.{add-one}
 use native.Mathlib.Omega.{arith}
-use lib.Dec.{eqb, leb, ltb}
+use lib.Dec.{eqb, leb}
 use lib.ListN.{length, getD}
-use Rattle.logic.specs.Formula.{Literal, Node, all, lit, Forest, none, tree, kindNumber, nodeCount, childDepth}
+use Rattle.logic.specs.Formula.{Literal, Node, lit, Forest, none, tree, kindNumber, nodeCount, childDepth}
 use Rattle.logic.specs.inner.Literals.{Every, OfLiteral, OfTest}
 use Rattle.logic.specs.Configuration.{Configuration, indicator, configured, inMasks}
 use Rattle.logic.specs.Truth.{Tuple}
-use Rattle.logic.specs.Penalty.{eachPort, below, sum}
+use Rattle.logic.specs.Penalty.{eachPort, sum}
 use Rattle.logic.specs.Cells.{placeOf, siblingFirst}
 use Rattle.logic.specs.Change.{Change, touched, modulus, cellOf, renewals}
 use Rattle.logic.proofs.Bound.{LiteralsAtMost, literals-low, sizes-64}
@@ -22,21 +21,19 @@ use Rattle.table_format.specs.Bytes.{recordLength, kindField, relationField, aF
 use Rattle.table_format.specs.Rules.{treeCount, arityRule}
 use Rattle.table_format.proofs.FieldRules.{literal-children}
 use Rattle.cells_touch.specs.declared.Changed.{Changed}
-use Rattle.cells_touch.specs.inner.Hits.{meets, restWord, portWord}
+use Rattle.cells_touch.specs.inner.Hits.{meets}
 use Rattle.cells_sum.specs.inner.Walk.{adds, begun, gathered, changes, Joined}
 use Rattle.cells_sum.specs.declared.After.{After}
 use Rattle.cells_sum.specs.declared.Sum.{Sum}
 use Rattle.cells_walk.specs.inner.Nodes.{NodeIs, TestFits, NodeFits, Fitting}
-use Rattle.cells_walk.specs.inner.Visit.{Visit, CellsFit, CellAfter, PortsVisit, PortsAfter, TestAt, RecordReady, RecordAfresh, Afresh}
+use Rattle.cells_walk.specs.inner.Visit.{Visit, CellsFit, CellAfter, RowVisit, TestAt, RecordReady, RecordAfresh, Afresh}
 use Rattle.cells_walk.proofs.KindOf.{adds-kind, Quantifier, Joint, quantifier-of, joint-of, literal-of}
-use Rattle.cells_walk.proofs.Steps.{packed-lt}
-use Rattle.cells_walk.proofs.Visits.{all-constants, node-here, fits-here, node-below, room-here, visit-next, visit-children, visit-ports, touched-here, port-visit, port-untouched}
-use Rattle.cells_walk.proofs.Ports.{Reached, reached-first, reached-next, reached-all}
-use Rattle.cells_walk.proofs.Outcomes.{begun-fits, untouched-after, literal-cell, inner-cell, trees-more, trees-none, one-tree, port-more, port-skipped, ports-none}
+use Rattle.cells_walk.proofs.Visits.{all-constants, node-here, fits-here, node-below, room-here, visit-next, visit-children, visit-ports, touched-here}
+use Rattle.cells_walk.proofs.Outcomes.{begun-fits, untouched-after, literal-cell, inner-cell, trees-more, trees-none}
 use Rattle.cells_try.specs.inner.Walking.{WalkReady, CellReady, CellGives, TreesReady, TreesGive, PortsReady, PortsSo}
 use Rattle.cells_try.proofs.Remaining.{Remaining, remains-first, remains-next}
 
-width-low : (u d : ℕ) → u ≤ 64 → d ≤ 3 → u ^ d ≤ 262144
+pub width-low : (u d : ℕ) → u ≤ 64 → d ≤ 3 → u ^ d ≤ 262144
 width-low u d l e = le-trans (pow-le-pow-left l d) (pow-le-pow-right (omega arith) e)
 
 all-fit : (cells : List ℕ) → CellsFit cells → (j : ℕ) → getD cells j 0 < modulus
@@ -78,7 +75,7 @@ module _ (u sets : ℕ) (c : Changed) (bytes firsts ends uses masks cells : List
   abbrev Standing : Change → ℕ → Forest → ℕ → ℕ → Tuple → ℕ → ℕ → ℕ → Type 0
   Standing ch i f b d e place digits word = Visit u sets ch bytes firsts ends uses cells i f b d e place digits word
 
-  cells-low : CellsFit cells → (b : ℕ) (e : Tuple) → cellOf u cells b e < modulus
+  pub cells-low : CellsFit cells → (b : ℕ) (e : Tuple) → cellOf u cells b e < modulus
   unfolding cellOf CellsFit
   cells-low h b e = h (b + placeOf u e)
 
@@ -109,12 +106,14 @@ module _ (u sets : ℕ) (c : Changed) (bytes firsts ends uses masks cells : List
           omega (arith, v .place-is, place-lt u (ready .masks-settled .ports1) (v .tuple), width-low u d (ready .masks-settled .ports64) (fits .depth3))
 
       -- the children of a quantifier, and of another inner node
-      pub ports-here : (used : ℕ) → used ≡ getD uses i 0 → Quantifier n
-          → PortsVisit u sets ch bytes firsts ends uses cells (i + 1) f (b + u ^ d) d e (place * u) digits word used
+      pub one-here : Quantifier n → treeCount f ≡ 1
+      one-here q = q .one (treeCount f) (fits .children)
+
+      pub ports-here : Quantifier n → RowVisit u sets ch bytes firsts ends uses cells (i + 1) f (b + u ^ d) d e (place * u) digits word
       unfolding Fitting Every
-      ports-here used h q =
-          let low : suc d ≤ 3 = first-tree f (suc d) sets (q .one (treeCount f) (fits .children)) (subst (λ (x : ℕ). Every (NodeFits sets) f x) (q .deeper d) (v .fitting .1)) in
-          rw (add-one i, h) (visit-ports u sets ch bytes firsts ends uses cells i n f s b d e place digits word v (q .deeper d) (q .no-uses) low (q .one (treeCount f) (fits .children)))
+      ports-here q =
+          let low : suc d ≤ 3 = first-tree f (suc d) sets (one-here q) (subst (λ (x : ℕ). Every (NodeFits sets) f x) (q .deeper d) (v .fitting .1)) in
+          rw (add-one i) (visit-ports u sets ch bytes firsts ends uses cells i n f s b d e place digits word v (q .deeper d) low)
 
       pub trees-here : Joint n → Standing ch (i + 1) f (b + u ^ d) d e place digits word
       trees-here q = rw (add-one i) (visit-children u sets ch bytes firsts ends uses cells i n f s b d e place digits word v (q .level d))
@@ -123,7 +122,7 @@ module _ (u sets : ℕ) (c : Changed) (bytes firsts ends uses masks cells : List
       end-here end h = h ∙ here .end-is ∙ (let w : i + suc (nodeCount f) ≡ i + 1 + nodeCount f = omega arith in w)
 
       -- a literal's record
-      literal-here : (l : Literal) → n ≡ lit l → TestAt u sets d (kindField (recordAt bytes i)) (relationField (recordAt bytes i)) (aField (recordAt bytes i)) (bField (recordAt bytes i)) masks digits (l .test) e
+      pub literal-here : (l : Literal) → n ≡ lit l → TestAt u sets d (kindField (recordAt bytes i)) (relationField (recordAt bytes i)) (aField (recordAt bytes i)) (bField (recordAt bytes i)) masks digits (l .test) e
       unfolding OfLiteral kindNumber relationByte aByte bByte
       literal-here l q = record {
         kind-is = here .kind-is ∙ ap kindNumber q;
@@ -175,20 +174,21 @@ module _ (u sets : ℕ) (c : Changed) (bytes firsts ends uses masks cells : List
             };
           }
 
-      module _ (old used kind end : ℕ) (add : Bool) (start : Sum) (o : old ≡ getD cells (getD firsts i 0 + place) 0) (us : used ≡ getD uses i 0)
+      module _ (old kind end : ℕ) (add : Bool) (start : Sum) (o : old ≡ getD cells (getD firsts i 0 + place) 0)
           (kd : kind ≡ kindField (recordAt bytes i)) (en : end ≡ getD ends i 0) (ad : add ≡ eqb (kind % 2) 1) (st : (start .value ≡ begun add old) × (start .changed ≡ 0)) where
-        pub ports-ready : (leb 1 kind && leb kind 2) ≡ true → PortsReady u sets c bytes firsts ends uses masks cells (i + 1) d (place * u) digits word used start
-        ports-ready h = record {
-          change = r .change;
-          forest = r .children;
-          first = r .first + u ^ d;
-          tuple = r .tuple;
-          ready = r .ready;
-          visit = ports-here (r .change) (r .node) (r .children) (r .siblings) (r .first) (r .tuple) (r .ready) (r .visit) used us
-              (quantifier-of (r .node) kind (kd ∙ node-ready .kind-is) h);
-          few = zero-few (start .changed) (st .1);
-          low = rw (st .0) (begun-fits add old (rw o (all-fit cells (r .ready .cells-fit) (getD firsts i 0 + place))));
-        }
+        pub ports-ready : (leb 1 kind && leb kind 2) ≡ true → PortsReady u sets c bytes firsts ends uses masks cells (i + 1) d (place * u) digits word start
+        ports-ready h =
+            let q = quantifier-of (r .node) kind (kd ∙ node-ready .kind-is) h in record {
+              change = r .change;
+              forest = r .children;
+              first = r .first + u ^ d;
+              tuple = r .tuple;
+              ready = r .ready;
+              visit = ports-here (r .change) (r .node) (r .children) (r .siblings) (r .first) (r .tuple) (r .ready) (r .visit) q;
+              one = one-here (r .change) (r .node) (r .children) (r .siblings) (r .first) (r .tuple) (r .ready) (r .visit) q;
+              few = zero-few (start .changed) (st .1);
+              low = rw (st .0) (begun-fits add old (rw o (all-fit cells (r .ready .cells-fit) (getD firsts i 0 + place))));
+            }
 
         pub trees-ready : kind < 5 → (leb 1 kind && leb kind 2) ≡ false → TreesReady u sets c bytes firsts ends uses masks cells (i + 1) end d place digits word start
         trees-ready l h = record {
@@ -236,12 +236,12 @@ module _ (u sets : ℕ) (c : Changed) (bytes firsts ends uses masks cells : List
             (st : (start .value ≡ begun add old) × (start .changed ≡ 0))
             (cl : (r .old ≡ old) × (r .value ≡ sums .value) × (r .changed ≡ (indicator (not (eqb (sums .value) old)) + sums .changed) % 4294967296)) where
           pub gives-ports : (leb 1 kind && leb kind 2) ≡ true
-              → PortsSo u sets c bytes firsts ends uses masks cells (i + 1) d (place * u) digits word used add u start sums
+              → PortsSo u sets c bytes firsts ends uses masks cells (i + 1) d (place * u) digits word add u start sums
               → CellGives u sets c bytes firsts ends uses masks cells i d place digits word r
           unfolding CellGives PortsSo modulus
           gives-ports h so ch n f s b e ready v =
               let q = quantifier-of n kind (kd ∙ here ch n f s b e ready v .kind-is) h in
-              let p = so ch f (b + u ^ d) e ready (ports-here ch n f s b e ready v used us q) in
+              let p = so ch f (b + u ^ d) e ready (ports-here ch n f s b e ready v q) (one-here ch n f s b e ready v q) in
               let ol = old-here ch n f s b e ready v old o in
               let an = ad ∙ adds-kind n kind (kd ∙ here ch n f s b e ready v .kind-is) few in
               inner-cell u after ch (cellOf u cells) (ready .masks-settled .ports1) (cells-low (ready .cells-fit)) n f b d e r sums (literals ch n f s b e ready v) (q .inner)
@@ -365,106 +365,3 @@ module _ (u sets : ℕ) (c : Changed) (bytes firsts ends uses masks cells : List
     pub onward-last : (j : ℕ) (sum : Sum) → Onward i until d place digits word add acc j sum → until ≤ j
         → TreesGive u sets c bytes firsts ends uses masks cells i until d place digits word add acc sum
     onward-last j sum o h = o .so sum (none-left j until d place digits word add sum (o .ready) h)
-
-  -- the ports of a quantifier
-  module _ (i d row digits word used : ℕ) where
-    abbrev Ports : Sum → Type 0
-    Ports acc = PortsReady u sets c bytes firsts ends uses masks cells i d row digits word used acc
-
-    abbrev So : Bool → ℕ → Sum → Sum → Type 0
-    So add m acc r = PortsSo u sets c bytes firsts ends uses masks cells i d row digits word used add m acc r
-
-    pub port-ready : (acc : Sum) → Ports acc → (x digits′ word′ : ℕ) → x < u → digits′ ≡ digits + x * 256 ^ d → word′ ≡ portWord c word d x
-        → CellReady u sets c bytes firsts ends uses masks cells i (d + 1) (row + x) digits′ word′
-    unfolding treeCount
-    port-ready acc r x digits′ word′ l dg wd = go (r .forest) (r .visit)
-      where
-        go : (f : Forest) → PortsVisit u sets (r .change) bytes firsts ends uses cells i f (r .first) d (r .tuple) row digits word used
-            → CellReady u sets c bytes firsts ends uses masks cells i (d + 1) (row + x) digits′ word′
-        go none v = absurd (omega (arith, v .one))
-        go (tree n f s) v = record {
-          change = r .change;
-          node = n;
-          children = f;
-          siblings = s;
-          first = r .first;
-          tuple = x ∷ r .tuple;
-          ready = r .ready;
-          visit = rw (add-one d, dg, wd) (port-visit u sets (r .change) bytes firsts ends uses cells c (r .ready .says) i (tree n f s) (r .first) d (r .tuple) row digits word used x v l);
-        }
-
-    pub ports-begin : (add : Bool) (acc : Sum) → acc .changed < modulus → So add 0 acc acc
-    unfolding PortsSo
-    ports-begin add acc low ch f b e ready v = ports-none u after ch (cellOf u cells) add f b d e acc low
-
-    -- the child's outcome at port x has gone into the sum or minimum so far
-    pub record PortStepped (add : Bool) (x word′ : ℕ) (mid r : Sum) : Type 0 where
-      pub digits′ : ℕ
-      pub digits-are : digits′ ≡ digits + x * 256 ^ d
-      pub found : After
-      pub gives : CellGives u sets c bytes firsts ends uses masks cells i (d + 1) (row + x) digits′ word′ found
-      pub joined : Joined add mid found r
-
-    pub ports-next : (add : Bool) (x word′ : ℕ) (acc mid r : Sum) → x < u → word′ ≡ portWord c word d x → So add x acc mid
-        → PortStepped add x word′ mid r → So add (suc x) acc r
-    unfolding PortsSo CellGives treeCount
-    ports-next add x word′ acc mid r l wd so st ch none b e ready v = absurd (omega (arith, v .one))
-    ports-next add x word′ acc mid r l wd so st ch (tree n f s) b e ready v =
-        let cell : CellAfter u after ch (cellOf u cells) n f b (suc d) (x ∷ e) (st .found) =
-        rw (add-one d) at (st .gives ch n f s b (x ∷ e) ready (rw (add-one d, st .digits-are, wd) (port-visit u sets ch bytes firsts ends uses cells c (ready .says) i (tree n f s) b d e row digits word used x v l))) in
-        port-more u after ch (cellOf u cells) add (tree n f s) b d e x acc mid r (so ch (tree n f s) b e ready v)
-        (one-tree u after ch (cellOf u cells) add n f s b (suc d) (x ∷ e) mid r (st .found) (v .one) cell (st .joined))
-
-    -- the ports between two that are visited
-    pub ports-skip : (acc r : Sum) → acc .value < modulus → meets used (restWord word d) ≡ false → (m x : ℕ) → ((y : ℕ) → x ≤ y → y < x + m → (y ≢ c .p) × (y ≢ c .q)) → So true x acc r → So true (x + m) acc r
-    unfolding PortsSo
-    ports-skip acc r low h zero x apart so ch f b e ready v = subst (λ (y : ℕ). PortsAfter u after ch (cellOf u cells) true f b d e y acc r) (sym (add-zero x)) (so ch f b e ready v)
-    ports-skip acc r low h (suc m) x apart so ch f b e ready v =
-        let before = ports-skip acc r low h m x (λ y g l. apart y g (omega arith)) so ch f b e ready v in
-        let a = apart (x + m) (omega arith) (omega arith) in
-        subst (λ (y : ℕ). PortsAfter u after ch (cellOf u cells) true f b d e y acc r) (let w : suc (x + m) ≡ x + suc m = omega arith in w)
-        (port-skipped u after ch (cellOf u cells) f b d e (x + m) acc r low (cells-low (ready .cells-fit))
-        (port-untouched u sets ch bytes firsts ends uses cells (ready .masks-settled .sets16) c (ready .says) i f b d e row digits word used (x + m) v h (a .0) (a .1)) before)
-
-    pub row-fits : (acc : Sum) → Ports acc → (x : ℕ) → x < u → row + x < 18446744073709551616
-    row-fits acc r x h =
-        let m = r .ready .masks-settled in
-        let w = width-low u d (m .ports64) (omega (arith, r .visit .depth)) in
-        let l : placeOf u (r .tuple) ≤ 262144 = omega (arith, place-lt u (m .ports1) (r .visit .tuple)) in
-        let p : placeOf u (r .tuple) * u ≤ 262144 * 64 = mul-le-mul l (m .ports64) in
-        omega (arith, r .visit .row-is, m .ports64)
-
-    pub digits-ready : (acc : Sum) → Ports acc → (x : ℕ) → x < u → (d ≤ 2) × (digits < 256 ^ d) × (x < 256)
-    digits-ready acc r x h =
-        let m = r .ready .masks-settled in
-        (omega (arith, r .visit .depth), rw (r .visit .digits-are) (packed-lt (omega (arith, m .ports64)) (r .visit .tuple)), omega (arith, m .ports64))
-
-    abbrev pub Passed : Bool → Bool → Sum → ℕ → Sum → Type 0
-    Passed every add acc x r = Reached u c every (λ m. So add m acc r) x
-
-    module _ (all add : Bool) (al : all ≡ (not add || meets used (restWord word d))) (acc : Sum) (ready : Ports acc) where
-      pub sums : all ≡ false → (add ≡ true) × (meets used (restWord word d) ≡ false)
-      sums h = go add refl
-        where
-          go : (x : Bool) → add ≡ x → (add ≡ true) × (meets used (restWord word d) ≡ false)
-          go true q = (q, sym (ap (λ (y : Bool). not y || meets used (restWord word d)) q) ∙ sym al ∙ h)
-          go false q = absurd (true≢false (sym (ap (λ (y : Bool). not y || meets used (restWord word d)) q) ∙ sym al ∙ h))
-
-      pub skip-to : (r : Sum) → all ≡ false → (x x′ : ℕ) → x ≤ x′ → ((y : ℕ) → x ≤ y → y < x′ → (y ≢ c .p) × (y ≢ c .q)) → So add x acc r → So add x′ acc r
-      skip-to r h x x′ l apart so =
-          let s = sums h in
-          let w : x + (x′ - x) ≡ x′ = omega arith in
-          subst (λ (a : Bool). So a x′ acc r) (sym (s .0))
-          (subst (λ (m : ℕ). So true m acc r) w (ports-skip acc r (ready .low) (s .1) (x′ - x) x (λ y g k. apart y g (omega arith)) (subst (λ (a : Bool). So a x acc r) (s .0) so)))
-
-      pub ports-start : (x : ℕ) → x ≡ cond all 0 (c .p) → Passed all add acc x acc
-      ports-start x q =
-          reached-first u c (ready .ready .says .order) (ready .ready .says .below) all (λ m. So add m acc acc) (skip-to acc) x q (ports-begin add acc (ready .few))
-
-      pub ports-step : (x x′ : ℕ) (mid r : Sum) → Passed all add acc x mid → x < u → So add (suc x) acc r → x′ ≡ cond all (x + 1) (cond (ltb x (c .q)) (c .q) u)
-          → (x < x′) × Passed all add acc x′ r
-      ports-step x x′ mid r passed l so q =
-          reached-next u c (ready .ready .says .order) (ready .ready .says .below) all (λ m. So add m acc r) (skip-to r) x x′ (passed .late) l so q
-
-    pub finished : (every add : Bool) (acc : Sum) (x : ℕ) (r : Sum) → Passed every add acc x r → u ≤ x → So add u acc r
-    finished every add acc x r passed h = reached-all u c every (λ m. So add m acc r) x passed h

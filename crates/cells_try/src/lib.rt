@@ -1,4 +1,13 @@
 // The walk over the touched cells that only reads. Paper 01, section One move.
+use cells_row::begin_row;
+use cells_row::cells_from;
+use cells_row::copy_row;
+use cells_row::count_row;
+use cells_row::fill_row;
+use cells_row::gather_row;
+use cells_row::join_row;
+use cells_row::keep_row;
+use cells_row::put_port;
 use cells_sum::After;
 use cells_sum::Sum;
 use cells_sum::adds_of;
@@ -9,6 +18,8 @@ use cells_touch::Changed;
 use cells_touch::first_word;
 use cells_touch::meet;
 use cells_touch::port_word;
+use cells_touch::rest_word;
+use cells_walk::by_cells;
 use cells_walk::cell_at;
 use cells_walk::end_at;
 use cells_walk::every_port;
@@ -18,10 +29,13 @@ use cells_walk::kept;
 use cells_walk::kind_at;
 use cells_walk::literal_at;
 use cells_walk::next_port;
+use cells_walk::place_at;
 use cells_walk::uses_at;
 use cells_walk::with_port;
+use std::num::wrapping_add_u32;
+ghost use mathlib.Core.Bool.{true};
 ghost use Rattle.cells_walk.specs.inner.Root.{RootReady, RootGives};
-ghost use Rattle.cells_try.specs.inner.Walking.{CellReady, CellGives, TreesReady, TreesGive, PortsReady, PortsSo};
+ghost use Rattle.cells_try.specs.inner.Walking.{CellReady, CellGives, TreesReady, TreesGive, PortsReady, PairReady, PortsSo, RowReady, RowGives, RowCellsReady, RowJoinReady, RowJoins, RowTreesReady, RowTreesGive};
 
 // A cell's old number, its new one, and how many cells at or below it differ from before.
 fn cell_after(
@@ -78,7 +92,6 @@ fn cell_after(
             place * ports,
             digits,
             word,
-            used,
             add,
             begun,
         );
@@ -158,7 +171,8 @@ fn trees_after(
     sum
 }
 
-// The tree below a quantifier at each port that can be touched, or at all of them: it has one child.
+// The tree below a quantifier at its ports: it has one child. A sum of which only the ports of the change can be touched takes
+// these; else the child's cells at all ports are one row.
 fn ports_after(
     table: &[u8],
     firsts: &[u32],
@@ -174,42 +188,335 @@ fn ports_after(
     row: usize,
     digits: u32,
     word: u64,
-    used: u64,
     add: bool,
     acc: Sum,
 ) -> Sum
-    requires { ⌜ PortsReady ports sets c (now table) (now firsts) (now ends) (now uses) (now masks) (now cells) i depth row digits word used acc ⌝ }
-    ensures { λ r. ⌜ PortsSo ports sets c (now (table .entry)) (now (firsts .entry)) (now (ends .entry)) (now (uses .entry)) (now (masks .entry)) (now (cells .entry)) i depth row digits word used add ports acc r ⌝ }
+    requires { ⌜ PortsReady ports sets c (now table) (now firsts) (now ends) (now uses) (now masks) (now cells) i depth row digits word acc ⌝ }
+    ensures { λ r. ⌜ PortsSo ports sets c (now (table .entry)) (now (firsts .entry)) (now (ends .entry)) (now (uses .entry)) (now (masks .entry)) (now (cells .entry)) i depth row digits word add ports acc r ⌝ }
 {
-    let all = every_port(add, used, word, depth);
-    let mut sum = acc;
-    let mut x = first_port(all, c);
-    while x < ports {
-        let here = port_word(c, word, depth, x);
-        if meet(uses_at(uses, i), here) {
-            let r = cell_after(
-                table,
-                firsts,
-                ends,
-                uses,
-                masks,
-                cells,
-                ports,
-                sets,
-                c,
-                i,
-                depth + 1,
-                row + x,
-                with_port(digits, depth, x),
-                here,
-            );
-            sum = join(add, sum, r);
-        } else {
-            sum = join(add, sum, kept(firsts, i, row + x, cells));
-        }
-        x = next_port(all, c, x, ports);
+    if !every_port(add, uses_at(uses, i), word, depth) {
+        return pair_after(
+            table,
+            firsts,
+            ends,
+            uses,
+            masks,
+            cells,
+            ports,
+            sets,
+            c,
+            i,
+            depth,
+            row,
+            digits,
+            word,
+            acc,
+        );
     }
-    sum
+    let mut new = [0u32; 64];
+    let changed = row_after(
+        table,
+        firsts,
+        ends,
+        uses,
+        masks,
+        cells,
+        ports,
+        sets,
+        c,
+        i,
+        depth,
+        row,
+        digits,
+        word,
+        &mut new,
+    );
+    let old = cells_from(cells, place_at(firsts, i, row));
+    Sum {
+        value: gather_row(add, acc.value, &new, old, ports),
+        changed: wrapping_add_u32(acc.changed, changed),
+    }
+}
+
+// A sum with the child's cells at the ports of the change.
+fn pair_after(
+    table: &[u8],
+    firsts: &[u32],
+    ends: &[u16],
+    uses: &[u64],
+    masks: &[u64],
+    cells: &[u32],
+    ports: usize,
+    sets: usize,
+    c: Changed,
+    i: usize,
+    depth: usize,
+    row: usize,
+    digits: u32,
+    word: u64,
+    acc: Sum,
+) -> Sum
+    requires { ⌜ PairReady ports sets c (now table) (now firsts) (now ends) (now uses) (now masks) (now cells) i depth row digits word acc ⌝ }
+    ensures { λ r. ⌜ PortsSo ports sets c (now (table .entry)) (now (firsts .entry)) (now (ends .entry)) (now (uses .entry)) (now (masks .entry)) (now (cells .entry)) i depth row digits word true ports acc r ⌝ }
+{
+    let first = cell_after(
+        table,
+        firsts,
+        ends,
+        uses,
+        masks,
+        cells,
+        ports,
+        sets,
+        c,
+        i,
+        depth + 1,
+        row + c.p,
+        with_port(digits, depth, c.p),
+        port_word(c, word, depth, c.p),
+    );
+    let sum = join(true, acc, first);
+    if c.q <= c.p {
+        return sum;
+    }
+    let second = cell_after(
+        table,
+        firsts,
+        ends,
+        uses,
+        masks,
+        cells,
+        ports,
+        sets,
+        c,
+        i,
+        depth + 1,
+        row + c.q,
+        with_port(digits, depth, c.q),
+        port_word(c, word, depth, c.q),
+    );
+    join(true, sum, second)
+}
+
+// A node's cells at every port of the variable above it, put into `out`; how many cells at or below them differ from before.
+fn row_after(
+    table: &[u8],
+    firsts: &[u32],
+    ends: &[u16],
+    uses: &[u64],
+    masks: &[u64],
+    cells: &[u32],
+    ports: usize,
+    sets: usize,
+    c: Changed,
+    i: usize,
+    depth: usize,
+    row: usize,
+    digits: u32,
+    word: u64,
+    out: &mut [u32],
+) -> u32
+    requires { ⌜ RowReady ports sets c (now table) (now firsts) (now ends) (now uses) (now masks) (now cells) i depth row digits word (now out) ⌝ }
+    ensures { λ r. ⌜ RowGives ports sets c (now (table .entry)) (now (firsts .entry)) (now (ends .entry)) (now (uses .entry)) (now (masks .entry)) (now (cells .entry)) i depth row digits word (now (out .exit)) r ⌝ }
+{
+    let old = cells_from(cells, place_at(firsts, i, row));
+    let kind = kind_at(table, i);
+    let every = meet(uses_at(uses, i), rest_word(word, depth));
+    if by_cells(every, kind) {
+        copy_row(old, ports, out);
+        return row_cells_after(
+            table,
+            firsts,
+            ends,
+            uses,
+            masks,
+            cells,
+            ports,
+            sets,
+            c,
+            i,
+            depth,
+            row,
+            digits,
+            word,
+            every,
+            out,
+        );
+    }
+    if 5 <= kind {
+        let value = literal_at(table, i, ports, sets, depth + 1, masks, digits);
+        fill_row(value, ports, out);
+        return count_row(&out[..], old, ports);
+    }
+    let add = adds_of(kind);
+    begin_row(add, old, ports, out);
+    let changed = row_trees_after(
+        table,
+        firsts,
+        ends,
+        uses,
+        masks,
+        cells,
+        ports,
+        sets,
+        c,
+        i + 1,
+        end_at(ends, i),
+        depth,
+        row,
+        digits,
+        word,
+        add,
+        out,
+    );
+    wrapping_add_u32(changed, count_row(&out[..], old, ports))
+}
+
+// The cells of a row visited one by one: at every port, or at those of the change where no other can be touched.
+fn row_cells_after(
+    table: &[u8],
+    firsts: &[u32],
+    ends: &[u16],
+    uses: &[u64],
+    masks: &[u64],
+    cells: &[u32],
+    ports: usize,
+    sets: usize,
+    c: Changed,
+    i: usize,
+    depth: usize,
+    row: usize,
+    digits: u32,
+    word: u64,
+    every: bool,
+    out: &mut [u32],
+) -> u32
+    requires { ⌜ RowCellsReady ports sets c (now table) (now firsts) (now ends) (now uses) (now masks) (now cells) i depth row digits word every (now out) ⌝ }
+    ensures { λ r. ⌜ RowGives ports sets c (now (table .entry)) (now (firsts .entry)) (now (ends .entry)) (now (uses .entry)) (now (masks .entry)) (now (cells .entry)) i depth row digits word (now (out .exit)) r ⌝ }
+{
+    let mut changed = 0;
+    let mut x = first_port(every, c);
+    while x < ports {
+        let r = cell_after(
+            table,
+            firsts,
+            ends,
+            uses,
+            masks,
+            cells,
+            ports,
+            sets,
+            c,
+            i,
+            depth + 1,
+            row + x,
+            with_port(digits, depth, x),
+            port_word(c, word, depth, x),
+        );
+        put_port(x, r.value, out);
+        changed = wrapping_add_u32(changed, r.changed);
+        x = next_port(every, c, x, ports);
+    }
+    changed
+}
+
+// The rows of a forest's trees, gone into a row of sums or minima.
+fn row_trees_after(
+    table: &[u8],
+    firsts: &[u32],
+    ends: &[u16],
+    uses: &[u64],
+    masks: &[u64],
+    cells: &[u32],
+    ports: usize,
+    sets: usize,
+    c: Changed,
+    i: usize,
+    until: usize,
+    depth: usize,
+    row: usize,
+    digits: u32,
+    word: u64,
+    add: bool,
+    out: &mut [u32],
+) -> u32
+    requires { ⌜ RowTreesReady ports sets c (now table) (now firsts) (now ends) (now uses) (now masks) (now cells) i until depth row digits word (now out) 0 ⌝ }
+    ensures { λ r. ⌜ RowTreesGive ports sets c (now (table .entry)) (now (firsts .entry)) (now (ends .entry)) (now (uses .entry)) (now (masks .entry)) (now (cells .entry)) i until depth row digits word add (now (out .entry)) 0 (now (out .exit)) r ⌝ }
+{
+    let mut changed = 0;
+    let mut j = i;
+    while j < until {
+        let more = row_tree_after(
+            table,
+            firsts,
+            ends,
+            uses,
+            masks,
+            cells,
+            ports,
+            sets,
+            c,
+            j,
+            depth,
+            row,
+            digits,
+            word,
+            add,
+            out,
+        );
+        changed = wrapping_add_u32(changed, more);
+        j = end_at(ends, j);
+    }
+    changed
+}
+
+// One of them.
+fn row_tree_after(
+    table: &[u8],
+    firsts: &[u32],
+    ends: &[u16],
+    uses: &[u64],
+    masks: &[u64],
+    cells: &[u32],
+    ports: usize,
+    sets: usize,
+    c: Changed,
+    i: usize,
+    depth: usize,
+    row: usize,
+    digits: u32,
+    word: u64,
+    add: bool,
+    out: &mut [u32],
+) -> u32
+    requires { ⌜ RowJoinReady ports sets c (now table) (now firsts) (now ends) (now uses) (now masks) (now cells) i depth row digits word (now out) ⌝ }
+    ensures { λ r. ⌜ RowJoins ports sets c (now (table .entry)) (now (firsts .entry)) (now (ends .entry)) (now (uses .entry)) (now (masks .entry)) (now (cells .entry)) i depth row digits word add (now (out .entry)) (now (out .exit)) r ⌝ }
+{
+    let old = cells_from(cells, place_at(firsts, i, row));
+    if !meet(uses_at(uses, i), word) {
+        keep_row(add, old, ports, out);
+        return 0;
+    }
+    let mut new = [0u32; 64];
+    let changed = row_after(
+        table,
+        firsts,
+        ends,
+        uses,
+        masks,
+        cells,
+        ports,
+        sets,
+        c,
+        i,
+        depth,
+        row,
+        digits,
+        word,
+        &mut new,
+    );
+    join_row(add, &new, old, ports, out);
+    changed
 }
 
 // What the root comes to, under the masks after a change.

@@ -22,7 +22,9 @@ use Rattle.logic.proofs.Tables.{tuple-place, place-lt, tabulate-cong, length-la
 use Rattle.logic.proofs.Bound.{below-le}
 use Rattle.logic.proofs.Changed.{unlike, differing-layout, untouched-kept}
 use Rattle.cells_sum.specs.inner.Walk.{changes}
-use Rattle.cells_walk.proofs.Frame.{Agree, below-directly, directly-untouched, changes-agree, bounds}
+use Rattle.cells_sum.proofs.Sums.{sum-port}
+use Rattle.cells_walk.specs.inner.Below.{Agree}
+use Rattle.cells_walk.proofs.Frame.{below-directly, directly-untouched, changes-agree, bounds}
 
 -- Sums over the first numbers.
 
@@ -78,10 +80,7 @@ unfolding eachPort tabulate
 each-port-one zero h = refl
 each-port-one (suc u) h = ap (λ (l : List ℕ). l ++ (h u ∷ [])) (each-port-one u h)
 
--- one more port, and no less in all
-pub sum-port : (u : ℕ) (h : ℕ → ℕ) → sum (eachPort (suc u) (λ p. h p ∷ [])) ≡ sum (eachPort u (λ p. h p ∷ [])) + h u
-sum-port u h = ap sum (each-port-one (suc u) h) ∙ total-next u h ∙ ap (λ (l : List ℕ). sum l + h u) (sym (each-port-one u h))
-
+-- one more port is no less in all
 pub sum-ports-le : (p u : ℕ) (h : ℕ → ℕ) → p ≤ u → sum (eachPort p (λ x. h x ∷ [])) ≤ sum (eachPort u (λ x. h x ∷ []))
 sum-ports-le p zero h l = let e : p ≡ 0 = omega arith in rw e (omega arith)
 sum-ports-le p (suc u) h l = go (λ a. sum-ports-le p u h a) (ℕ-discrete p (suc u))

@@ -38,11 +38,6 @@ Enough and m = Unit {0}
 Enough or m = 1 ≤ m
 Enough (lit l) m = ⊥
 
-pub gathered-append : (add : Bool) (acc : ℕ) (xs ys : List Renewal) → gathered add acc (xs ++ ys) ≡ gathered add (gathered add acc xs) ys
-unfolding gathered
-gathered-append add acc [] ys = refl
-gathered-append add acc (x ∷ xs) ys = gathered-append add (taken add acc x) xs ys
-
 -- a cell that is not touched adds its number less itself, which is nothing modulo 2^32
 sum-step : (hit : Bool) (acc old new rest : ℕ) → old < modulus → (hit ≡ false → new ≡ old)
     → ((acc + (new + (modulus - old))) % modulus + rest) % modulus ≡ (acc + (cond hit (new + (modulus - old)) 0 + rest)) % modulus

@@ -8,5 +8,7 @@ pub mod KindOf
 pub mod Outcomes
 pub mod Ports
 pub mod Rooting
+pub mod Rows
 pub mod Steps
 pub mod Visits
+pub mod Wrote

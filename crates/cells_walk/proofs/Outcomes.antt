@@ -1,8 +1,8 @@
 -- What a visited cell, the trees of a forest and the ports of a quantifier come to. Assumes nothing.
-use mathlib.Core.Path.{_≡_, refl, sym, ap, ap₂, _∙_}
+use mathlib.Core.Path.{_≡_, refl, sym, ap, _∙_}
 use mathlib.Core.Bool.{Bool, true, false, cond, not, _||_}
 use mathlib.Core.List.{List, [], _∷_}
-use Prim.Native.Nat.{ℕ, suc, _+_, _-_, _^_, _%_, _≤_, _<_, min}
+use Prim.Native.Nat.{ℕ, suc, _+_, _-_, _^_, _%_, _≤_, _<_}
 use native.Mathlib.Omega.{arith}
 use lib.Dec.{eqb}
 use Rattle.logic.specs.Formula.{Literal, Node, lit, Forest, none, tree, kindNumber, childDepth}
@@ -17,8 +17,9 @@ use Rattle.logic.proofs.Lists.{or-left, or-right}
 use Rattle.logic.proofs.Touched.{Inner}
 use Rattle.table_format.specs.Rules.{treeCount, arityRule}
 use Rattle.cells_sum.specs.inner.Walk.{adds, begun, mostCell, taken, gathered, changes, Joined}
-use Rattle.cells_walk.proofs.Count.{changes-untouched, sum-port}
-use Rattle.cells_walk.proofs.Gather.{gathered-append, new-cell-gathered}
+use Rattle.cells_sum.proofs.Sums.{taken-same, gathered-append, sum-port}
+use Rattle.cells_walk.proofs.Count.{changes-untouched}
+use Rattle.cells_walk.proofs.Gather.{new-cell-gathered}
 use Rattle.cells_sum.specs.declared.After.{After}
 use Rattle.cells_sum.specs.declared.Sum.{Sum}
 use Rattle.cells_walk.specs.inner.Visit.{CellAfter, TreesAfter, PortsAfter}
@@ -37,7 +38,7 @@ unfolding begun mostCell modulus
 begun-fits true old h = h
 begun-fits false old h = omega arith
 
-taken-fits : (add : Bool) (acc : ℕ) (x : Renewal) → acc < modulus → taken add acc x < modulus
+pub taken-fits : (add : Bool) (acc : ℕ) (x : Renewal) → acc < modulus → taken add acc x < modulus
 unfolding taken modulus
 taken-fits true acc x h = omega arith
 taken-fits false acc x h = omega arith
@@ -60,7 +61,7 @@ count-tree : (a i j y w m q : ℕ) → w ≡ (i + j + 0) % modulus → m ≡ (a 
 unfolding modulus
 count-tree a i j y w m q h g l = omega arith
 
-no-trees : (f : Forest) → treeCount f ≡ 0 → f ≡ none
+pub no-trees : (f : Forest) → treeCount f ≡ 0 → f ≡ none
 unfolding treeCount
 no-trees none h = refl
 no-trees (tree n c s) h = absurd (omega arith)
@@ -113,19 +114,15 @@ module _ (u : ℕ) (k : Configuration) (ch : Change) (t : OldCells) where
   -- a tree and its later siblings
   pub trees-more : (add : Bool) (n : Node) (c s : Forest) (b d : ℕ) (e : Tuple) (acc mid r : Sum) (x : After) → CellAfter u k ch t n c b d e x → Joined add acc x mid
       → TreesAfter u k ch t add s (siblingFirst u n c b d) d e mid r → TreesAfter u k ch t add (tree n c s) b d e acc r
-  unfolding renewals gathered changes newCell taken
+  unfolding renewals gathered changes newCell
   trees-more add n c s b d e acc mid r x cell join rest =
       let one : Renewal = record { hit = true; old = x .old; new = x .value } in
       record {
         value-is = rest .value-is
             ∙ ap (λ (y : ℕ). gathered add y (renewals u k ch t s (siblingFirst u n c b d) d e))
-            (join .value-is ∙ same-taken add (acc .value) one _ (cell .old-is) (cell .new-is));
+            (join .value-is ∙ taken-same add (acc .value) one _ (cell .old-is) (cell .new-is));
         changed-is = count-tree (acc .changed) _ _ (changes u k ch t s (siblingFirst u n c b d) d e) (x .changed) (mid .changed) (r .changed) (cell .changed-is) (join .changed-is) (rest .changed-is);
       }
-    where
-      same-taken : (a : Bool) (m : ℕ) (y z : Renewal) → y .old ≡ z .old → y .new ≡ z .new → taken a m y ≡ taken a m z
-      same-taken true m y z p q = ap₂ (λ (v w : ℕ). (m + (w + (modulus - v))) % modulus) p q
-      same-taken false m y z p q = ap (min m) q
 
   pub trees-none : (add : Bool) (b d : ℕ) (e : Tuple) (acc : Sum) → acc .changed < modulus → TreesAfter u k ch t add none b d e acc acc
   unfolding renewals gathered changes modulus

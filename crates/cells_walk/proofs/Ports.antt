@@ -21,7 +21,7 @@ reached-all u c every S x r h = let e : x ≡ u = omega (arith, r .below) in rw 
 
 -- S passes over ports that are not of the change, where only those of the change are visited.
 module _ (u : ℕ) (c : Changed) (order : c .p ≤ c .q) (last : c .q < u) (every : Bool) (S : ℕ → Type 0)
-    (pass : every ≡ false → (x x′ : ℕ) → x ≤ x′ → ((y : ℕ) → x ≤ y → y < x′ → (y ≢ c .p) × (y ≢ c .q)) → S x → S x′) where
+    (pass : every ≡ false → (x x′ : ℕ) → x ≤ x′ → x′ ≤ u → ((y : ℕ) → x ≤ y → y < x′ → (y ≢ c .p) × (y ≢ c .q)) → S x → S x′) where
   pub reached-first : (x : ℕ) → x ≡ cond every 0 (c .p) → S 0 → Reached u c every S x
   reached-first x q none = go every refl
     where
@@ -37,7 +37,7 @@ module _ (u : ℕ) (c : Changed) (order : c .p ≤ c .q) (last : c .q < u) (ever
           let z : x ≡ c .p = q ∙ ap (λ (y : Bool). cond y 0 (c .p)) h in
           record {
             below = omega arith;
-            so = rw z (pass h 0 (c .p) (omega arith) (λ y g k. (λ e. omega arith, λ e. omega arith)) none);
+            so = rw z (pass h 0 (c .p) (omega arith) (omega arith) (λ y g k. (λ e. omega arith, λ e. omega arith)) none);
             late = λ g. omega arith;
           }
 
@@ -65,7 +65,7 @@ module _ (u : ℕ) (c : Changed) (order : c .p ≤ c .q) (last : c .q < u) (ever
             omega arith,
             record {
               below = omega arith;
-              so = rw z (pass h (suc x) (c .q) (omega arith) (λ y g m. (λ e. omega arith, λ e. omega arith)) so);
+              so = rw z (pass h (suc x) (c .q) (omega arith) (omega arith) (λ y g m. (λ e. omega arith, λ e. omega arith)) so);
               late = λ g. omega arith;
             },
           )
@@ -76,7 +76,7 @@ module _ (u : ℕ) (c : Changed) (order : c .p ≤ c .q) (last : c .q < u) (ever
             omega arith,
             record {
               below = omega arith;
-              so = rw z (pass h (suc x) u (omega arith) (λ y g m. (λ e. omega arith, λ e. omega arith)) so);
+              so = rw z (pass h (suc x) u (omega arith) (omega arith) (λ y g m. (λ e. omega arith, λ e. omega arith)) so);
               late = λ g. omega arith;
             },
           )

@@ -23,7 +23,8 @@ use Rattle.cells_touch.specs.declared.Changed.{Changed}
 use Rattle.cells_touch.specs.inner.Hits.{Describes, firstWord}
 use Rattle.cells_touch.proofs.Touching.{first-word-is}
 use Rattle.cells_sum.specs.inner.Walk.{changes}
-use Rattle.cells_walk.proofs.Frame.{Agree, bounds, new-cell-agree}
+use Rattle.cells_walk.specs.inner.Below.{Agree}
+use Rattle.cells_walk.proofs.Frame.{bounds, new-cell-agree}
 use Rattle.cells_walk.proofs.Count.{count-changes, changes-own}
 use Rattle.cells_sum.specs.declared.After.{After}
 use Rattle.cells_walk.specs.inner.Nodes.{IndexHolds, Fitting}

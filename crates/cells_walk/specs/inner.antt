@@ -1,4 +1,5 @@
 -- What only proofs and inner contracts use.
+pub mod Below
 pub mod Nodes
 pub mod Root
 pub mod Visit

@@ -23,6 +23,14 @@ ghost use Rattle.cells_touch.specs.inner.Hits.{meets, restWord};
 ghost use Rattle.table_format.specs.Bytes.{recordLength, kindField, recordsOf, recordAt};
 ghost use Rattle.cells_walk.specs.inner.Visit.{LiteralReady, Afresh, RecordReady, RecordAfresh};
 
+// The place of a node's cell in the cell table.
+pub fn place_at(firsts: &[u32], i: usize, place: usize) -> usize
+    requires { ⌜ (i < length (now firsts)) × (place ≤ 16777216) ⌝ }
+    ensures { λ r. ⌜ r ≡ getD (now (firsts .entry)) i 0 + place ⌝ }
+{
+    wide(firsts[i]) + place
+}
+
 // A cell's number at a place of its node.
 pub fn cell_at(firsts: &[u32], i: usize, place: usize, cells: &[u32]) -> u32
     requires { ⌜ (i < length (now firsts)) × (getD (now firsts) i 0 + place < length (now cells)) ⌝ }
@@ -154,8 +162,19 @@ pub fn is_quantifier(kind: u8) -> bool
     false
 }
 
-// Whether every port below a quantifier must be visited: a minimum reads all of them, and a sum does if more than the ports
-// of the change can be touched.
+// Whether a row is renewed cell by cell: below a quantifier's cell stands a row of its own, and where only the ports of the change
+// can be touched, `every` being false, the others keep their numbers.
+pub fn by_cells(every: bool, kind: u8) -> bool
+    ensures { λ r. ⌜ r ≡ (not every || (leb 1 kind && leb kind 2)) ⌝ }
+{
+    if every {
+        return is_quantifier(kind);
+    }
+    true
+}
+
+// Whether the ports below a quantifier go into its number as a row: a minimum reads all of them, and a sum does if more than the
+// ports of the change can be touched.
 pub fn every_port(add: bool, used: u64, word: u64, depth: usize) -> bool
     ensures { λ r. ⌜ r ≡ (not add || meets used (restWord word depth)) ⌝ }
 {

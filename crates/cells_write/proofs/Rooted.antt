@@ -1,17 +1,17 @@
 -- The walk from the root leaves the new cells of the whole plan in place of the old ones. Assumes nothing.
-use mathlib.Core.Path.{_≡_, sym, ap, _∙_, subst}
+use mathlib.Core.Path.{_≡_, sym, subst}
 use mathlib.Core.List.{List, [], _++_}
 use Prim.Native.Nat.{ℕ}
 use lib.ListN.{take, drop}
 use Rattle.logic.specs.Formula.{root, Forest, none, tree, Plan}
 use Rattle.logic.specs.Configuration.{spelled, configuration}
 use Rattle.logic.specs.Cells.{ownCells}
-use Rattle.logic.specs.Change.{cellOf, newCells}
+use Rattle.logic.specs.Change.{newCells}
 use Rattle.table_format.proofs.Encoding.{decode-sound, one-plan}
 use Rattle.cells_touch.specs.declared.Changed.{Changed}
 use Rattle.cells_touch.specs.inner.Hits.{firstWord}
-use Rattle.cells_sum.specs.inner.Walk.{written}
-use Rattle.cells_walk.proofs.InPlace.{in-place}
+use Rattle.cells_walk.specs.inner.Below.{Only, Wrote}
+use Rattle.cells_walk.proofs.InPlace.{wrote-whole}
 use Rattle.cells_sum.specs.declared.After.{After}
 use Rattle.cells_walk.specs.inner.Root.{RootReady, RootGives}
 use Rattle.cells_walk.proofs.Rooting.{facts, below-root, formula-is, root-visit}
@@ -28,11 +28,11 @@ module _ (u sets : ℕ) (c : Changed) (bytes firsts ends uses masks cells : List
       let one : Q ≡ P = one-plan bytes Q P (decode-sound bytes Q (r .decodes)) (decode-sound bytes P d) in
       let f = below-root Q bytes (r .decodes) in
       let at = root-visit Q bytes (r .decodes) u (r .ports-are) sets (r .sets-are) c ch says firsts ends uses cells (r .indexed) (r .own-cells) in
-      let w : new ≡ written (Q .ports) (spelled Q masks) ch (cellOf (Q .ports) cells) (tree root f none) 0 0 [] cells =
+      let w : Wrote (Q .ports) (spelled Q masks) ch (tree root f none) 0 0 (Only []) cells new =
       rw (r .sets-are) at (rw (r .ports-are) at (writes ch root f none 0 [] record { says = says; masks-settled = r .masks-settled; cells-fit = r .cells-fit; long = r .long } (rw h at))) in
       subst (λ (R : Plan). new ≡ newCells R (spelled R masks) ch (take (ownCells R) cells) ++ drop (ownCells R) cells) one
-      (w ∙ ap (λ (g : Forest). written (Q .ports) (spelled Q masks) ch (cellOf (Q .ports) cells) g 0 0 [] cells) (sym (formula-is Q bytes (r .decodes)))
-      ∙ in-place Q (facts Q bytes (r .decodes) .ports1) (spelled Q masks) ch cells (r .own-cells))
+      (wrote-whole Q (facts Q bytes (r .decodes) .ports1) (spelled Q masks) ch cells new (r .own-cells)
+      (subst (λ (g : Forest). Wrote (Q .ports) (spelled Q masks) ch g 0 0 (Only []) cells new) (sym (formula-is Q bytes (r .decodes))) w))
 
   pub root-moved : (word : ℕ) (x : After) (new : List ℕ) → word ≡ firstWord c
       → CellGives u sets c bytes firsts ends uses masks cells 0 0 0 0 word x × CellWrites u sets c bytes firsts ends uses masks cells 0 0 0 0 word new

@@ -1,4 +1,14 @@
 // The walk that writes the touched cells in place. Paper 01, section One move.
+use cells_row::begin_row;
+use cells_row::cells_from;
+use cells_row::copy_row;
+use cells_row::count_row;
+use cells_row::fill_row;
+use cells_row::gather_row;
+use cells_row::join_row;
+use cells_row::keep_row;
+use cells_row::put_port;
+use cells_row::put_row;
 use cells_sum::After;
 use cells_sum::Sum;
 use cells_sum::adds_of;
@@ -9,6 +19,8 @@ use cells_touch::Changed;
 use cells_touch::first_word;
 use cells_touch::meet;
 use cells_touch::port_word;
+use cells_touch::rest_word;
+use cells_walk::by_cells;
 use cells_walk::cell_at;
 use cells_walk::end_at;
 use cells_walk::every_port;
@@ -18,14 +30,17 @@ use cells_walk::kept;
 use cells_walk::kind_at;
 use cells_walk::literal_at;
 use cells_walk::next_port;
+use cells_walk::place_at;
 use cells_walk::uses_at;
 use cells_walk::with_port;
+use std::num::wrapping_add_u32;
 ghost use mathlib.Core.Path.{_≡_};
+ghost use mathlib.Core.Bool.{true};
 ghost use Prim.Native.Nat.{_+_, _<_};
 ghost use lib.ListN.{length, getD, set};
 ghost use Rattle.cells_walk.specs.inner.Root.{RootReady, RootGives};
-ghost use Rattle.cells_try.specs.inner.Walking.{CellReady, CellGives, TreesReady, TreesGive, PortsReady, PortsSo};
-ghost use Rattle.cells_write.specs.inner.Writing.{CellWrites, TreesWrite, PortsWrite, RootWrites};
+ghost use Rattle.cells_try.specs.inner.Walking.{CellReady, CellGives, TreesReady, TreesGive, PortsReady, PairReady, PortsSo, RowGives, RowCellsReady, RowJoinReady, RowJoins, RowTreesReady, RowTreesGive};
+ghost use Rattle.cells_write.specs.inner.Writing.{CellWrites, TreesWrite, PortsWrite, RowMoveReady, RowWrites, RowTreesWrite, RootWrites};
 
 // Writes a cell's number at a place of its node.
 fn put_cell(firsts: &[u32], i: usize, place: usize, value: u32, cells: &mut [u32])
@@ -92,7 +107,6 @@ fn cell_written(
             place * ports,
             digits,
             word,
-            used,
             add,
             begun,
         );
@@ -174,7 +188,8 @@ fn trees_written(
     sum
 }
 
-// The tree below a quantifier, written at each port that can be touched, or visited at all of them: it has one child.
+// The tree below a quantifier at its ports: it has one child. A sum of which only the ports of the change can be touched takes
+// these; else the child's cells at all ports are one row, whose old numbers are kept for the sum.
 fn ports_written(
     table: &[u8],
     firsts: &[u32],
@@ -190,42 +205,347 @@ fn ports_written(
     row: usize,
     digits: u32,
     word: u64,
-    used: u64,
     add: bool,
     acc: Sum,
 ) -> Sum
-    requires { ⌜ PortsReady ports sets c (now table) (now firsts) (now ends) (now uses) (now masks) (now cells) i depth row digits word used acc ⌝ }
-    ensures { λ r. ⌜ PortsSo ports sets c (now (table .entry)) (now (firsts .entry)) (now (ends .entry)) (now (uses .entry)) (now (masks .entry)) (now (cells .entry)) i depth row digits word used add ports acc r × PortsWrite ports sets c (now (table .entry)) (now (firsts .entry)) (now (ends .entry)) (now (uses .entry)) (now (masks .entry)) (now (cells .entry)) i depth row digits word used ports (now (cells .exit)) ⌝ }
+    requires { ⌜ PortsReady ports sets c (now table) (now firsts) (now ends) (now uses) (now masks) (now cells) i depth row digits word acc ⌝ }
+    ensures { λ r. ⌜ PortsSo ports sets c (now (table .entry)) (now (firsts .entry)) (now (ends .entry)) (now (uses .entry)) (now (masks .entry)) (now (cells .entry)) i depth row digits word add ports acc r × PortsWrite ports sets c (now (table .entry)) (now (firsts .entry)) (now (ends .entry)) (now (uses .entry)) (now (masks .entry)) (now (cells .entry)) i depth row digits word (now (cells .exit)) ⌝ }
 {
-    let all = every_port(add, used, word, depth);
-    let mut sum = acc;
-    let mut x = first_port(all, c);
-    while x < ports {
-        let here = port_word(c, word, depth, x);
-        if meet(uses_at(uses, i), here) {
-            let r = cell_written(
-                table,
-                firsts,
-                ends,
-                uses,
-                masks,
-                cells,
-                ports,
-                sets,
-                c,
-                i,
-                depth + 1,
-                row + x,
-                with_port(digits, depth, x),
-                here,
-            );
-            sum = join(add, sum, r);
-        } else {
-            sum = join(add, sum, kept(firsts, i, row + x, &cells[..]));
-        }
-        x = next_port(all, c, x, ports);
+    if !every_port(add, uses_at(uses, i), word, depth) {
+        return pair_written(
+            table,
+            firsts,
+            ends,
+            uses,
+            masks,
+            cells,
+            ports,
+            sets,
+            c,
+            i,
+            depth,
+            row,
+            digits,
+            word,
+            acc,
+        );
     }
-    sum
+    let mut old = [0u32; 64];
+    copy_row(
+        cells_from(&cells[..], place_at(firsts, i, row)),
+        ports,
+        &mut old,
+    );
+    let mut new = [0u32; 64];
+    let changed = row_written(
+        table,
+        firsts,
+        ends,
+        uses,
+        masks,
+        cells,
+        ports,
+        sets,
+        c,
+        i,
+        depth,
+        row,
+        digits,
+        word,
+        &old,
+        &mut new,
+    );
+    Sum {
+        value: gather_row(add, acc.value, &new, &old, ports),
+        changed: wrapping_add_u32(acc.changed, changed),
+    }
+}
+
+// A sum with the child's cells at the ports of the change, written.
+fn pair_written(
+    table: &[u8],
+    firsts: &[u32],
+    ends: &[u16],
+    uses: &[u64],
+    masks: &[u64],
+    cells: &mut [u32],
+    ports: usize,
+    sets: usize,
+    c: Changed,
+    i: usize,
+    depth: usize,
+    row: usize,
+    digits: u32,
+    word: u64,
+    acc: Sum,
+) -> Sum
+    requires { ⌜ PairReady ports sets c (now table) (now firsts) (now ends) (now uses) (now masks) (now cells) i depth row digits word acc ⌝ }
+    ensures { λ r. ⌜ PortsSo ports sets c (now (table .entry)) (now (firsts .entry)) (now (ends .entry)) (now (uses .entry)) (now (masks .entry)) (now (cells .entry)) i depth row digits word true ports acc r × PortsWrite ports sets c (now (table .entry)) (now (firsts .entry)) (now (ends .entry)) (now (uses .entry)) (now (masks .entry)) (now (cells .entry)) i depth row digits word (now (cells .exit)) ⌝ }
+{
+    let first = cell_written(
+        table,
+        firsts,
+        ends,
+        uses,
+        masks,
+        cells,
+        ports,
+        sets,
+        c,
+        i,
+        depth + 1,
+        row + c.p,
+        with_port(digits, depth, c.p),
+        port_word(c, word, depth, c.p),
+    );
+    let sum = join(true, acc, first);
+    if c.q <= c.p {
+        return sum;
+    }
+    let second = cell_written(
+        table,
+        firsts,
+        ends,
+        uses,
+        masks,
+        cells,
+        ports,
+        sets,
+        c,
+        i,
+        depth + 1,
+        row + c.q,
+        with_port(digits, depth, c.q),
+        port_word(c, word, depth, c.q),
+    );
+    join(true, sum, second)
+}
+
+// A node's cells at every port of the variable above it, put into `out` and written with all that is touched below them; how
+// many of them differ from before. `old` has the numbers that the row is about to lose.
+fn row_written(
+    table: &[u8],
+    firsts: &[u32],
+    ends: &[u16],
+    uses: &[u64],
+    masks: &[u64],
+    cells: &mut [u32],
+    ports: usize,
+    sets: usize,
+    c: Changed,
+    i: usize,
+    depth: usize,
+    row: usize,
+    digits: u32,
+    word: u64,
+    old: &[u32],
+    out: &mut [u32],
+) -> u32
+    requires { ⌜ RowMoveReady ports sets c (now table) (now firsts) (now ends) (now uses) (now masks) (now cells) i depth row digits word (now old) (now out) ⌝ }
+    ensures { λ r. ⌜ RowGives ports sets c (now (table .entry)) (now (firsts .entry)) (now (ends .entry)) (now (uses .entry)) (now (masks .entry)) (now (cells .entry)) i depth row digits word (now (out .exit)) r × RowWrites ports sets c (now (table .entry)) (now (firsts .entry)) (now (ends .entry)) (now (uses .entry)) (now (masks .entry)) (now (cells .entry)) i depth row digits word (now (cells .exit)) ⌝ }
+{
+    let kind = kind_at(table, i);
+    let every = meet(uses_at(uses, i), rest_word(word, depth));
+    if by_cells(every, kind) {
+        copy_row(old, ports, out);
+        return row_cells_written(
+            table,
+            firsts,
+            ends,
+            uses,
+            masks,
+            cells,
+            ports,
+            sets,
+            c,
+            i,
+            depth,
+            row,
+            digits,
+            word,
+            every,
+            out,
+        );
+    }
+    if 5 <= kind {
+        let value = literal_at(table, i, ports, sets, depth + 1, masks, digits);
+        fill_row(value, ports, out);
+        put_row(&out[..], ports, place_at(firsts, i, row), cells);
+        return count_row(&out[..], old, ports);
+    }
+    let add = adds_of(kind);
+    begin_row(add, old, ports, out);
+    let changed = row_trees_written(
+        table,
+        firsts,
+        ends,
+        uses,
+        masks,
+        cells,
+        ports,
+        sets,
+        c,
+        i + 1,
+        end_at(ends, i),
+        depth,
+        row,
+        digits,
+        word,
+        add,
+        out,
+    );
+    put_row(&out[..], ports, place_at(firsts, i, row), cells);
+    wrapping_add_u32(changed, count_row(&out[..], old, ports))
+}
+
+// The cells of a row written one by one: at every port, or at those of the change where no other can be touched.
+fn row_cells_written(
+    table: &[u8],
+    firsts: &[u32],
+    ends: &[u16],
+    uses: &[u64],
+    masks: &[u64],
+    cells: &mut [u32],
+    ports: usize,
+    sets: usize,
+    c: Changed,
+    i: usize,
+    depth: usize,
+    row: usize,
+    digits: u32,
+    word: u64,
+    every: bool,
+    out: &mut [u32],
+) -> u32
+    requires { ⌜ RowCellsReady ports sets c (now table) (now firsts) (now ends) (now uses) (now masks) (now cells) i depth row digits word every (now out) ⌝ }
+    ensures { λ r. ⌜ RowGives ports sets c (now (table .entry)) (now (firsts .entry)) (now (ends .entry)) (now (uses .entry)) (now (masks .entry)) (now (cells .entry)) i depth row digits word (now (out .exit)) r × RowWrites ports sets c (now (table .entry)) (now (firsts .entry)) (now (ends .entry)) (now (uses .entry)) (now (masks .entry)) (now (cells .entry)) i depth row digits word (now (cells .exit)) ⌝ }
+{
+    let mut changed = 0;
+    let mut x = first_port(every, c);
+    while x < ports {
+        let r = cell_written(
+            table,
+            firsts,
+            ends,
+            uses,
+            masks,
+            cells,
+            ports,
+            sets,
+            c,
+            i,
+            depth + 1,
+            row + x,
+            with_port(digits, depth, x),
+            port_word(c, word, depth, x),
+        );
+        put_port(x, r.value, out);
+        changed = wrapping_add_u32(changed, r.changed);
+        x = next_port(every, c, x, ports);
+    }
+    changed
+}
+
+// The rows of a forest's trees, written one after the other and gone into a row of sums or minima.
+fn row_trees_written(
+    table: &[u8],
+    firsts: &[u32],
+    ends: &[u16],
+    uses: &[u64],
+    masks: &[u64],
+    cells: &mut [u32],
+    ports: usize,
+    sets: usize,
+    c: Changed,
+    i: usize,
+    until: usize,
+    depth: usize,
+    row: usize,
+    digits: u32,
+    word: u64,
+    add: bool,
+    out: &mut [u32],
+) -> u32
+    requires { ⌜ RowTreesReady ports sets c (now table) (now firsts) (now ends) (now uses) (now masks) (now cells) i until depth row digits word (now out) 0 ⌝ }
+    ensures { λ r. ⌜ RowTreesGive ports sets c (now (table .entry)) (now (firsts .entry)) (now (ends .entry)) (now (uses .entry)) (now (masks .entry)) (now (cells .entry)) i until depth row digits word add (now (out .entry)) 0 (now (out .exit)) r × RowTreesWrite ports sets c (now (table .entry)) (now (firsts .entry)) (now (ends .entry)) (now (uses .entry)) (now (masks .entry)) (now (cells .entry)) i until depth row digits word (now (cells .exit)) ⌝ }
+{
+    let mut changed = 0;
+    let mut j = i;
+    while j < until {
+        let more = row_tree_written(
+            table,
+            firsts,
+            ends,
+            uses,
+            masks,
+            cells,
+            ports,
+            sets,
+            c,
+            j,
+            depth,
+            row,
+            digits,
+            word,
+            add,
+            out,
+        );
+        changed = wrapping_add_u32(changed, more);
+        j = end_at(ends, j);
+    }
+    changed
+}
+
+// One of them.
+fn row_tree_written(
+    table: &[u8],
+    firsts: &[u32],
+    ends: &[u16],
+    uses: &[u64],
+    masks: &[u64],
+    cells: &mut [u32],
+    ports: usize,
+    sets: usize,
+    c: Changed,
+    i: usize,
+    depth: usize,
+    row: usize,
+    digits: u32,
+    word: u64,
+    add: bool,
+    out: &mut [u32],
+) -> u32
+    requires { ⌜ RowJoinReady ports sets c (now table) (now firsts) (now ends) (now uses) (now masks) (now cells) i depth row digits word (now out) ⌝ }
+    ensures { λ r. ⌜ RowJoins ports sets c (now (table .entry)) (now (firsts .entry)) (now (ends .entry)) (now (uses .entry)) (now (masks .entry)) (now (cells .entry)) i depth row digits word add (now (out .entry)) (now (out .exit)) r × RowWrites ports sets c (now (table .entry)) (now (firsts .entry)) (now (ends .entry)) (now (uses .entry)) (now (masks .entry)) (now (cells .entry)) i depth row digits word (now (cells .exit)) ⌝ }
+{
+    let at = place_at(firsts, i, row);
+    if !meet(uses_at(uses, i), word) {
+        keep_row(add, cells_from(&cells[..], at), ports, out);
+        return 0;
+    }
+    let mut old = [0u32; 64];
+    copy_row(cells_from(&cells[..], at), ports, &mut old);
+    let mut new = [0u32; 64];
+    let changed = row_written(
+        table,
+        firsts,
+        ends,
+        uses,
+        masks,
+        cells,
+        ports,
+        sets,
+        c,
+        i,
+        depth,
+        row,
+        digits,
+        word,
+        &old,
+        &mut new,
+    );
+    join_row(add, &new, &old, ports, out);
+    changed
 }
 
 // A change carried through all of a plan's own cells, under the masks after it.

@@ -69,7 +69,7 @@ pub fn known_move(m: Move, ports: u32, sets: u32) -> bool
 }
 
 // Whether port p is in set s.
-fn is_in(masks: &[u64], s: u32, p: u32) -> bool
+pub fn is_in(masks: &[u64], s: u32, p: u32) -> bool
     requires { ⌜ (s < length (now masks)) × (p < 64) ⌝ }
     ensures { λ r. ⌜ r ≡ inMasks (now (masks .entry)) s p ⌝ }
 {

@@ -3,14 +3,16 @@
 use logic::Move;
 use move_legal::fits_move;
 use move_legal::has_fields;
+use move_legal::is_in;
 use move_legal::q_end;
 use move_legal::t_end;
 ghost use mathlib.Core.Path.{_≡_};
-ghost use Prim.Native.Nat.{_/_, _%_};
+ghost use Prim.Native.Nat.{_/_, _%_, _<_};
 ghost use lib.Dec.{eqb};
+ghost use lib.ListN.{length};
 ghost use Rattle.logic.specs.Moves.{moveKind, kindWeight, kindsKnown};
 ghost use Rattle.contracts.specs.MoveOrder.{fieldsAre};
-ghost use Rattle.move_order.specs.inner.Stepping.{Suits, Begins, BeginsOver, SizedOver, StepsOn, StepsAny, outset, GivesNext};
+ghost use Rattle.move_order.specs.inner.Stepping.{Suits, BeginsOver, SizedOver, qEndAt, StepsOn, StepsAny, outset, GivesNext};
 ghost use Rattle.move_legal.specs.inner.Legal.{Decides};
 
 // The next candidate, if there is one.
@@ -55,12 +57,27 @@ fn at_fields(kind: u32, s: u32, t: u32, p: u32, q: u32) -> Move
     }
 }
 
-// The next position after m: q counts up first, then p, T, S and the kind.
-fn next_place(m: Move, ports: u32, sets: u32) -> Move
-    requires { ⌜ Begins ports sets m ⌝ }
-    ensures { λ r. ⌜ StepsAny ports sets m r ⌝ }
+// Where q ends at the position m: a swap with p not in S fits with no q, so all q are passed over at once.
+fn q_end_at(m: Move, ports: u32, masks: &[u64]) -> u32
+    requires { ⌜ (m .s < length (now masks)) × (m .p < 64) ⌝ }
+    ensures { λ r. ⌜ r ≡ qEndAt ports (now (masks .entry)) m ⌝ }
 {
-    if m.q + 1 < q_end(m.kind, ports) {
+    let end = q_end(m.kind, ports);
+    if m.kind != 4 {
+        return end;
+    }
+    if is_in(masks, m.s, m.p) {
+        return end;
+    }
+    0
+}
+
+// The next position after m that can fit: q counts up first, then p, T, S and the kind.
+fn next_place(m: Move, ports: u32, sets: u32, masks: &[u64]) -> Move
+    requires { ⌜ BeginsOver ports sets m (now masks) ⌝ }
+    ensures { λ r. ⌜ StepsAny ports sets (now (masks .entry)) m r ⌝ }
+{
+    if m.q + 1 < q_end_at(m, ports, masks) {
         return at_fields(m.kind, m.s, m.t, m.p, m.q + 1);
     }
     if m.p + 1 < ports {
@@ -75,13 +92,13 @@ fn next_place(m: Move, ports: u32, sets: u32) -> Move
     at_fields(m.kind + 1, 0, 0, 0, 0)
 }
 
-// The next position that can be of the kinds: a kind that is not asked for is passed over at once.
-fn advance(m: Move, kinds: u32, ports: u32, sets: u32) -> Move
-    requires { ⌜ Begins ports sets m ⌝ }
-    ensures { λ r. ⌜ StepsOn ports sets kinds m r ⌝ }
+// The next position that can be a candidate: a kind that is not asked for is passed over at once.
+fn advance(m: Move, kinds: u32, ports: u32, sets: u32, masks: &[u64]) -> Move
+    requires { ⌜ BeginsOver ports sets m (now masks) ⌝ }
+    ensures { λ r. ⌜ StepsOn ports sets kinds (now (masks .entry)) m r ⌝ }
 {
     if of_kinds(kinds, m.kind) {
-        return next_place(m, ports, sets);
+        return next_place(m, ports, sets, masks);
     }
     at_fields(m.kind + 1, 0, 0, 0, 0)
 }
@@ -105,12 +122,12 @@ pub fn next_candidate(m: Move, kinds: u32, ports: u32, sets: u32, masks: &[u64])
     requires { ⌜ BeginsOver ports sets m (now masks) ⌝ }
     ensures { λ r. ⌜ GivesNext ports sets kinds (now (masks .entry)) m r ⌝ }
 {
-    let mut at = advance(m, kinds, ports, sets);
+    let mut at = advance(m, kinds, ports, sets, masks);
     while at.kind < 5 {
         if is_candidate(at, kinds, ports, sets, masks) {
             return Next { found: true, m: at };
         }
-        at = advance(at, kinds, ports, sets);
+        at = advance(at, kinds, ports, sets, masks);
     }
     Next {
         found: false,

@@ -13,14 +13,10 @@ below-root-requires c κs =
     let r = ready (c .before .before .before .args .table .now) (c .before .before .before .pre .plan) (c .before .before .before .args .nodes) (c .before .before .before .pre .decodes) (c .before .before .before .pre .nodes-are) in
     (omega (arith, r .count), omega (arith, r .facts .nodes512, r .count), r .long)
 
-put-unit-requires : tie.Need-put-unit-requires
-put-unit-requires c κs =
-    omega (arith, (ready (c .before .before .before .before .before .args .table .now) (c .before .before .before .before .before .pre .plan) (c .before .before .before .before .before .args .nodes) (c .before .before .before .before .before .pre .decodes) (c .before .before .before .before .before .pre .nodes-are)) .total, c .before .before .before .before .before .pre .own-cells)
-
 own-masks-requires : tie.Need-own-masks-requires
 own-masks-requires c κs =
-    let r = ready (c .before .before .before .before .before .before .before .before .args .table .now) (c .before .before .before .before .before .before .before .before .pre .plan) (c .before .before .before .before .before .before .before .before .args .nodes) (c .before .before .before .before .before .before .before .before .pre .decodes) (c .before .before .before .before .before .before .before .before .pre .nodes-are) in
-    omega (arith, r .facts .sets16, c .before .before .before .before .before .before .before .before .pre .sets-are)
+    let r = ready (c .before .before .before .before .args .table .now) (c .before .before .before .before .pre .plan) (c .before .before .before .before .args .nodes) (c .before .before .before .before .pre .decodes) (c .before .before .before .before .pre .nodes-are) in
+    omega (arith, r .facts .sets16, c .before .before .before .before .pre .sets-are)
 
 sub-fill-forest : tie.Need-sub-fill-forest
 sub-fill-forest c = search needs
@@ -30,18 +26,18 @@ part-fill-forest-start c = search needs
 
 part-fill-forest-end : tie.Need-part-fill-forest-end
 part-fill-forest-end c =
-    omega (arith, c .own-masks .ensures, c .before .before .before .before .before .before .before .before .before .pre .own-masks)
+    omega (arith, c .own-masks .ensures, c .before .before .before .before .before .pre .own-masks)
 
 fill-forest-requires : tie.Need-fill-forest-requires
 unfolding ownMasks
 fill-forest-requires c κs =
-    let e0 = sub-zero (c .before .before .own-masks .result) ∙ c .before .before .own-masks .ensures ∙ ap maskCount (c .before .before .before .before .before .before .before .before .before .before .before .pre .sets-are) in
-    rw (e0, c .before .before .before .before .before .before .before .below-root .ensures, c .before .before .before .before .before .before .before .before .before .before .before .pre .ports-are, c .before .before .before .before .before .before .before .before .before .before .before .pre .sets-are)
-    (placed-plan (c .before .before .before .before .before .before .before .before .before .before .before .args .table .now) (c .before .before .before .before .before .before .before .before .before .before .before .pre .plan) (c .before .before .before .before .before .before .before .before .before .before .before .args .nodes) (c .before .before .before .before .before .before .before .before .before .before .before .args .masks .now) _
-    (ready (c .before .before .before .before .before .before .before .before .before .before .before .args .table .now) (c .before .before .before .before .before .before .before .before .before .before .before .pre .plan) (c .before .before .before .before .before .before .before .before .before .before .before .args .nodes) (c .before .before .before .before .before .before .before .before .before .before .before .pre .decodes) (c .before .before .before .before .before .before .before .before .before .before .before .pre .nodes-are))
-    (rw (c .before .before .before .before .before .before .before .before .before .before .before .pre .sets-are) at (c .before .before .before .before .before .before .before .before .before .before .before .pre .own-masks))
-    (rw (c .before .before .before .before .before .before .before .before .before .before .before .pre .ports-are, c .before .before .before .before .before .before .before .before .before .before .before .pre .sets-are) at (c .before .before .before .before .before .before .before .before .before .before .before .pre .within))
-    (omega (arith, c .before .before .before .before .before .put-unit .kept .1 .1 .0, c .before .before .before .before .before .before .before .before .before .before .before .pre .own-cells)))
+    let e0 = sub-zero (c .before .before .own-masks .result) ∙ c .before .before .own-masks .ensures ∙ ap maskCount (c .before .before .before .before .before .before .before .pre .sets-are) in
+    rw (e0, c .before .before .before .below-root .ensures, c .before .before .before .before .before .before .before .pre .ports-are, c .before .before .before .before .before .before .before .pre .sets-are)
+    (placed-plan (c .before .before .before .before .before .before .before .args .table .now) (c .before .before .before .before .before .before .before .pre .plan) (c .before .before .before .before .before .before .before .args .nodes) (c .before .before .before .before .before .before .before .args .masks .now) _
+    (ready (c .before .before .before .before .before .before .before .args .table .now) (c .before .before .before .before .before .before .before .pre .plan) (c .before .before .before .before .before .before .before .args .nodes) (c .before .before .before .before .before .before .before .pre .decodes) (c .before .before .before .before .before .before .before .pre .nodes-are))
+    (rw (c .before .before .before .before .before .before .before .pre .sets-are) at (c .before .before .before .before .before .before .before .pre .own-masks))
+    (rw (c .before .before .before .before .before .before .before .pre .ports-are, c .before .before .before .before .before .before .before .pre .sets-are) at (c .before .before .before .before .before .before .before .pre .within))
+    (omega (arith, c .before .before .before .before .before .before .before .pre .own-cells)))
 
 same-length : tie.Need-same-length
 same-length c = search needs
@@ -49,18 +45,17 @@ same-length c = search needs
 returns : tie.Need-returns
 unfolding ownMasks
 returns c =
-    let e0 = sub-zero (c .before .before .before .before .before .own-masks .result) ∙ c .before .before .before .before .before .own-masks .ensures ∙ ap maskCount (c .before .before .before .before .before .before .before .before .before .before .before .before .before .before .pre .sets-are) in
-    plan-filled (c .before .before .before .before .before .before .before .before .before .before .before .before .before .before .args .table .now) (c .before .before .before .before .before .before .before .before .before .before .before .before .before .before .pre .plan) (c .before .before .before .before .before .before .before .before .before .before .before .before .before .before .args .nodes) (c .before .before .fill-forest .result) (c .before .before .before .before .before .before .before .before .before .before .before .before .before .before .args .masks .now) (c .before .before .before .before .before .before .before .before .before .before .before .before .before .before .args .cells .now) _ _ (c .before .before .before .before .before .before .before .before .before .before .before .before .before .before .pre .decodes)
-    (ready (c .before .before .before .before .before .before .before .before .before .before .before .before .before .before .args .table .now) (c .before .before .before .before .before .before .before .before .before .before .before .before .before .before .pre .plan) (c .before .before .before .before .before .before .before .before .before .before .before .before .before .before .args .nodes) (c .before .before .before .before .before .before .before .before .before .before .before .before .before .before .pre .decodes) (c .before .before .before .before .before .before .before .before .before .before .before .before .before .before .pre .nodes-are))
-    (c .before .before .before .before .before .before .before .before .before .before .before .before .before .before .pre .own-cells) (c .before .before .before .before .before .before .before .before .put-unit .ensures)
-    (rw (e0, c .before .before .before .before .before .before .before .before .before .before .below-root .ensures, c .before .before .before .before .before .before .before .before .before .before .before .before .before .before .pre .ports-are, c .before .before .before .before .before .before .before .before .before .before .before .before .before .before .pre .sets-are) at (c .before .before .fill-forest .ensures))
+    let e0 = sub-zero (c .before .before .before .before .before .own-masks .result) ∙ c .before .before .before .before .before .own-masks .ensures ∙ ap maskCount (c .before .before .before .before .before .before .before .before .before .before .pre .sets-are) in
+    plan-filled (c .before .before .before .before .before .before .before .before .before .before .args .table .now) (c .before .before .before .before .before .before .before .before .before .before .pre .plan) (c .before .before .before .before .before .before .before .before .before .before .args .nodes) (c .before .before .fill-forest .result) (c .before .before .before .before .before .before .before .before .before .before .args .masks .now) (c .before .before .before .before .before .before .before .before .before .before .args .cells .now) _ (c .before .before .before .before .before .before .before .before .before .before .pre .decodes)
+    (ready (c .before .before .before .before .before .before .before .before .before .before .args .table .now) (c .before .before .before .before .before .before .before .before .before .before .pre .plan) (c .before .before .before .before .before .before .before .before .before .before .args .nodes) (c .before .before .before .before .before .before .before .before .before .before .pre .decodes) (c .before .before .before .before .before .before .before .before .before .before .pre .nodes-are))
+    (c .before .before .before .before .before .before .before .before .before .before .pre .own-cells)
+    (rw (e0, c .before .before .before .before .before .before .below-root .ensures, c .before .before .before .before .before .before .before .before .before .before .pre .ports-are, c .before .before .before .before .before .before .before .before .before .before .pre .sets-are) at (c .before .before .fill-forest .ensures))
 
 pub fill-spec : {M : Type 1} → statement M
 fill-spec =
     tie.close
     (tie.spec
     below-root-requires
-    put-unit-requires
     own-masks-requires
     sub-fill-forest
     part-fill-forest-start

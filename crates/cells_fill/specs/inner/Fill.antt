@@ -1,8 +1,10 @@
 -- What filling the cells of some trees asks and gives: internal to the crate.
 use mathlib.Core.Path.{_≡_}
 use mathlib.Core.Bool.{true}
+use mathlib.Core.Logic.{_⊎_}
 use mathlib.Core.List.{List, [], _∷_, _++_}
-use Prim.Native.Nat.{ℕ, _+_, _*_, _^_, _≤_}
+use Prim.Native.Nat.{ℕ, _+_, _-_, _*_, _^_, _≤_, min}
+use lib.Dec.{eqb}
 use lib.ListN.{length, getD, take}
 use Rattle.logic.specs.Formula.{Node, root, all, any, and, or, lit, Forest, none, tree, Plan, kindNumber, nodeCount, childDepth}
 use Rattle.logic.specs.Configuration.{Configuration, configured, inMasks, maskCount, ownMasks, spelled, allWithin}
@@ -10,19 +12,19 @@ use Rattle.logic.specs.Truth.{Tuple}
 use Rattle.logic.specs.Penalty.{literalPenalty, below, penalty}
 use Rattle.logic.specs.Cells.{cellCount, tupleAt, tabulate, layout, ownCells, cells as planCells}
 use Rattle.table_format.specs.Bytes.{recordLength, nodeOf, records}
-use Rattle.table_format.specs.Rules.{everyNode, nodeRule}
+use Rattle.table_format.specs.Rules.{treeCount, everyNode, nodeRule}
 use Rattle.table_format.specs.Decode.{sound, decode}
 use Rattle.table_format.specs.inner.Tests.{fieldRule}
-use Rattle.cells_join.specs.inner.Joined.{unitOf, joinAll, joinOf}
+use Rattle.cells_join.specs.inner.Joined.{joinInto, joinOf, spreadOf}
 
--- A cell before anything below it is joined to it.
-unfoldable pub startCell : Configuration → Node → Tuple → ℕ
-startCell k root e = unitOf (joinOf 0)
-startCell k all e = unitOf (joinOf 1)
-startCell k any e = unitOf (joinOf 2)
-startCell k and e = unitOf (joinOf 3)
-startCell k or e = unitOf (joinOf 4)
-startCell k (lit l) e = literalPenalty k l e
+-- A cell that holds x before anything below it is joined to it: a literal has its penalty, another node what was there.
+unfoldable pub startCell : Configuration → Node → Tuple → ℕ → ℕ
+startCell k root e x = x
+startCell k all e x = x
+startCell k any e x = x
+startCell k and e x = x
+startCell k or e x = x
+startCell k (lit l) e x = literalPenalty k l e
 
 -- The numbers directly below a cell, tree after tree.
 unfoldable pub treewise : ℕ → Configuration → Node → Forest → Tuple → List ℕ
@@ -47,12 +49,12 @@ pub record StartPlaced (kind relation a b sets ports depth width : ℕ) (masks c
   pub sets-masks : maskCount sets ≤ length masks
   pub within : allWithin ports masks ≡ true
 
-unfoldable pub started : ℕ → ℕ → ℕ → ℕ → ℕ → ℕ → ℕ → ℕ → List ℕ → List ℕ
-started kind relation a b sets ports depth width masks =
-    tabulate width (λ t. startCell (config ports sets masks) (nodeOf kind relation a b) (tupleAt ports depth t))
+unfoldable pub started : ℕ → ℕ → ℕ → ℕ → ℕ → ℕ → ℕ → ℕ → List ℕ → List ℕ → List ℕ
+started kind relation a b sets ports depth width masks cells =
+    tabulate width (λ t. startCell (config ports sets masks) (nodeOf kind relation a b) (tupleAt ports depth t) (getD cells t 0))
 
 -- Where the records of some trees stand below a node `parent`, and their cells from place `at` on; the first `over` cells are
--- the parent's.
+-- the parent's. Below a quantifier stands one tree, right behind them.
 pub record FillPlaced (l : List ℕ) (i above ports sets depth width over at : ℕ) (masks cells : List ℕ) : Type 0 where
   pub parent : Node
   pub outer : ℕ
@@ -72,14 +74,15 @@ pub record FillPlaced (l : List ℕ) (i above ports sets depth width over at : �
   pub sets-masks : maskCount sets ≤ length masks
   pub within : allWithin ports masks ≡ true
   pub after : over ≤ at
+  pub alone : (spreadOf above ports ≡ 1) ⊎ (treeCount forest + min 1 (at - over) ≤ 1)
   pub room : at + cellCount ports forest depth ≤ length cells
 
--- The cells afterwards: the parent's joined with those of the trees, what stood between as it was, the trees' own, and the rest
--- as it was.
+-- The cells afterwards: the parent's joined with those of the trees, or written from them where the first of them is its first
+-- child; what stood between as it was, the trees' own, and the rest as it was.
 pub record Filled (above ports sets depth over at outer : ℕ) (n : Node) (f : Forest) (masks before after : List ℕ) (r : ℕ) : Type 0 where
   pub ends-at : r ≡ at + cellCount ports f depth
   pub cells-are : (A G X R : List ℕ) → before ≡ A ++ (G ++ (X ++ R)) → length A ≡ over → length A + length G ≡ at → length X ≡ cellCount ports f depth
-      → after ≡ tabulate over (λ t. joinAll (joinOf above) (getD A t 0) (treewise ports (config ports sets masks) n f (tupleAt ports outer t)))
+      → after ≡ tabulate over (λ t. joinInto (joinOf above) (eqb at over) (getD A t 0) (treewise ports (config ports sets masks) n f (tupleAt ports outer t)))
       ++ (G ++ (table ports (config ports sets masks) f depth ++ R))
 
 unfoldable pub Fills : List ℕ → ℕ → ℕ → ℕ → ℕ → ℕ → ℕ → ℕ → List ℕ → List ℕ → List ℕ → ℕ → Type 0

@@ -1,23 +1,27 @@
-use mathlib.Core.Path.{_≡_, refl, ap, _∙_}
-use Prim.Native.Nat.{ℕ, _+_, _≤_, _-_}
+use mathlib.Core.Path.{_≡_, ap, _∙_}
+use Prim.Native.Nat.{ℕ, _≤_, _-_}
 use native.Mathlib.Omega.{arith}
-use lib.ListN.{length, take, drop}
+use lib.ListN.{take, drop}
 use borrow.Author.Needs.{needs}
-use Rattle.cells_join.specs.inner.Joined.{joinAll}
-use Rattle.cells_join.proofs.Prefix.{gather-next}
+use Rattle.cells_join.specs.inner.Joined.{unitOf, joinAll}
+use Rattle.cells_join.proofs.Prefix.{gather-next, from-unit}
 use Rattle.cells_join.proofs.gather.Statement.{statement}
 use Rattle.cells_join.proofs.gather.Tie as tie
 
 abbrev Inv-loop : tie.InvT-loop
-Inv-loop join x from s cells r₀ p₀ r p = (p ≤ s) × (from + s ≤ length cells) × (r ≡ joinAll join x (take p (drop from cells)))
+Inv-loop join from s cells r₀ p₀ r p = (p ≤ s) × (r ≡ joinAll join (unitOf join) (take p (drop from cells)))
 
 abbrev μ-loop : tie.MeasureT-loop
-μ-loop join x from s cells r₀ p₀ r p = s - p
+μ-loop join from s cells r₀ p₀ r p = s - p
+
+unit-of-requires : tie.Need-unit-of-requires Inv-loop μ-loop
+unit-of-requires c κs =
+    search needs
 
 loop-holds : tie.Need-loop-holds Inv-loop μ-loop
 unfolding joinAll
 loop-holds c =
-    (omega arith, c .before .pre, refl)
+    (omega arith, c .unit-of .ensures)
 
 add-meet-of : tie.Need-add-meet-of Inv-loop μ-loop
 add-meet-of c =
@@ -45,11 +49,11 @@ loop-less c =
 
 loop-again : tie.Need-loop-again Inv-loop μ-loop
 loop-again c =
-    (omega arith, c .before .before .before .loop .inv .1, gather-next (c .before .before .before .before .before .args .join) (c .before .before .before .before .before .args .x) (c .before .before .before .before .before .args .from) (c .before .before .before .loop .p) (c .before .before .before .loop .r) (c .meet-of .result) (c .before .before .before .before .before .args .cells .now) (omega arith) (c .before .before .before .loop .inv .2) (c .meet-of .ensures))
+    (omega arith, gather-next (c .before .before .before .before .before .before .args .join) _ (c .before .before .before .before .before .before .args .from) (c .before .before .before .loop .p) (c .before .before .before .loop .r) (c .meet-of .result) (c .before .before .before .before .before .before .args .cells .now) (omega (arith, c .before .before .before .before .before .before .pre)) (c .before .before .before .loop .inv .1) (c .meet-of .ensures))
 
 returns : tie.Need-returns Inv-loop μ-loop
 returns c =
-    let e : c .before .loop .p ≡ c .before .before .before .args .s = omega arith in c .before .loop .inv .2 ∙ ap (λ (m : ℕ). joinAll (c .before .before .before .args .join) (c .before .before .before .args .x) (take m (drop (c .before .before .before .args .from) (c .before .before .before .args .cells .now)))) e
+    λ x. let e : c .before .loop .p ≡ c .before .before .before .before .args .s = omega arith in c .before .loop .inv .1 ∙ ap (λ (m : ℕ). joinAll (c .before .before .before .before .args .join) (unitOf (c .before .before .before .before .args .join)) (take m (drop (c .before .before .before .before .args .from) (c .before .before .before .before .args .cells .now)))) e ∙ from-unit (c .before .before .before .before .args .join) x (c .before .before .before .before .args .from) (c .before .before .before .before .args .s) (c .before .before .before .before .args .cells .now) (c .before .before .before .before .pre .0) (c .before .before .before .before .pre .1) (omega (arith, c .before .before .before .shared-slice-known .given (c .before .before .before .before .args .from)))
 
 pub gather-spec : {M : Type 1} → statement M
 gather-spec =
@@ -57,6 +61,7 @@ gather-spec =
     (tie.spec
     Inv-loop
     μ-loop
+    unit-of-requires
     loop-holds
     add-meet-of
     mul-meet-of

@@ -1,4 +1,5 @@
 use mathlib.Core.Path.{_∙_}
+use mathlib.Core.Bool.{false}
 use Prim.Native.Nat.{_+_, _≤_, _-_}
 use native.Mathlib.Omega.{arith}
 use lib.ListN.{length, getD}
@@ -10,7 +11,7 @@ use Rattle.cells_join.proofs.merge_row.Statement.{statement}
 use Rattle.cells_join.proofs.merge_row.Tie as tie
 
 abbrev Inv-loop : tie.InvT-loop
-Inv-loop join over at cells₀ t₀ cells t = Written (joinedAt join 1 at cells₀) 0 over cells₀ cells t × (over ≤ at) × (at + over ≤ length cells₀)
+Inv-loop join over at cells₀ t₀ cells t = Written (joinedAt join false 1 at cells₀) 0 over cells₀ cells t × (over ≤ at) × (at + over ≤ length cells₀)
 
 abbrev μ-loop : tie.MeasureT-loop
 μ-loop join over at cells₀ t₀ cells t = over - t
@@ -61,7 +62,7 @@ loop-less c =
 
 loop-again : tie.Need-loop-again Inv-loop μ-loop
 loop-again c = (
-  merge-more _ 1 (c .before .before .before .before .before .before .args .at) _ (c .before .before .before .before .before .before .args .at + c .before .before .before .before .loop .t) _ _ _ _ (c .before .before .before .before .loop .inv .0) (omega arith) (omega arith) (omega arith) (omega arith)
+  merge-more _ false 1 (c .before .before .before .before .before .before .args .at) _ (c .before .before .before .before .before .before .args .at + c .before .before .before .before .loop .t) _ _ _ _ (c .before .before .before .before .loop .inv .0) (omega arith) (omega arith) (omega arith) (omega arith)
       (c .meet-of .ensures ∙ join-one (c .before .before .before .before .before .before .args .join) (getD (c .before .before .before .before .loop .cells) (c .before .before .before .before .loop .t) 0) (c .before .before .before .before .before .before .args .at + c .before .before .before .before .loop .t) (c .before .before .before .before .loop .cells) (omega arith)),
   c .before .before .before .before .loop .inv .1,
   c .before .before .before .before .loop .inv .2,

@@ -11,10 +11,8 @@ use Rattle.logic.specs.Penalty.{literalPenalty, eachPort, sum}
 use Rattle.logic.specs.Cells.{placeOf, cellCount}
 use Rattle.logic.specs.Change.{Change, modulus, OldCells, renewals, newCell}
 use Rattle.logic.proofs.Lists.{TupleOf}
-use Rattle.table_format.specs.Rules.{treeCount}
-use Rattle.table_format.specs.inner.Index.{forestUses}
 use Rattle.cells_touch.specs.inner.Hits.{HitWord}
-use Rattle.cells_sum.specs.inner.Walk.{gathered, changes}
+use Rattle.cells_sum.specs.inner.Walk.{taken, gathered, changes}
 use Rattle.cells_sum.specs.declared.After.{After}
 use Rattle.cells_sum.specs.declared.Sum.{Sum}
 use Rattle.table_format.specs.Bytes.{recordLength, kindField, relationField, aField, bField, recordsOf, recordAt, testRelation, testA, testB}
@@ -90,8 +88,8 @@ unfoldable pub RecordAfresh : ℕ → ℕ → ℕ → List ℕ → ℕ → List 
 RecordAfresh u sets d bytes i masks digits r =
     Afresh u sets d (kindField (recordAt bytes i)) (relationField (recordAt bytes i)) (aField (recordAt bytes i)) (bField (recordAt bytes i)) masks digits r
 
--- The walk stands below a quantifier at depth d, before the tree of its one child at each port: `row` is the place of the first.
-pub record PortsVisit (u sets : ℕ) (ch : Change) (bytes firsts ends uses cells : List ℕ) (i : ℕ) (f : Forest) (b d : ℕ) (e : Tuple) (row digits word used : ℕ) : Type 0 where
+-- The walk stands below a quantifier at depth d, before the trees of a forest at each port: `row` is the place of the first.
+pub record RowVisit (u sets : ℕ) (ch : Change) (bytes firsts ends uses cells : List ℕ) (i : ℕ) (f : Forest) (b d : ℕ) (e : Tuple) (row digits word : ℕ) : Type 0 where
   pub holds : IndexHolds u bytes firsts ends uses i f b (suc d)
   pub fitting : Fitting sets f (suc d)
   pub tuple : TupleOf u d e
@@ -101,13 +99,26 @@ pub record PortsVisit (u sets : ℕ) (ch : Change) (bytes firsts ends uses cells
   pub room : b + cellCount u f (suc d) ≤ length cells
   pub nodes : i + nodeCount f ≤ 512
   pub depth : d < 3
-  pub used-is : used ≡ forestUses f
-  pub one : treeCount f ≡ 1
 
 -- The trees of a forest at each port of a quantifier gone into a sum or a minimum, for the ports below m.
 pub record PortsAfter (u : ℕ) (k : Configuration) (ch : Change) (t : OldCells) (add : Bool) (f : Forest) (b d : ℕ) (e : Tuple) (m : ℕ) (acc r : Sum) : Type 0 where
   pub value-is : r .value ≡ gathered add (acc .value) (eachPort m (λ x. renewals u k ch t f b (suc d) (x ∷ e)))
   pub changed-is : r .changed ≡ (acc .changed + sum (eachPort m (λ x. changes u k ch t f b (suc d) (x ∷ e) ∷ []))) % modulus
+
+-- The row of a node, its cells at each port: their new numbers, and how many cells at or below them differ from before.
+pub record RowAfter (u : ℕ) (k : Configuration) (ch : Change) (t : OldCells) (n : Node) (c : Forest) (b d : ℕ) (e : Tuple) (out : List ℕ) (changed : ℕ) : Type 0 where
+  pub numbers : (x : ℕ) → x < u → getD out x 0 ≡ newCell u k ch t n c b (suc d) (x ∷ e)
+  pub changed-is : changed ≡ sum (eachPort u (λ x. changes u k ch t (tree n c none) b (suc d) (x ∷ e) ∷ [])) % modulus
+
+-- The row of a node gone into a row of sums or minima.
+pub record RowJoined (u : ℕ) (k : Configuration) (ch : Change) (t : OldCells) (add : Bool) (n : Node) (c : Forest) (b d : ℕ) (e : Tuple) (acc out : List ℕ) (changed : ℕ) : Type 0 where
+  pub numbers : (x : ℕ) → x < u → getD out x 0 ≡ taken add (getD acc x 0) record { hit = true; old = t b (x ∷ e); new = newCell u k ch t n c b (suc d) (x ∷ e) }
+  pub changed-is : changed ≡ sum (eachPort u (λ x. changes u k ch t (tree n c none) b (suc d) (x ∷ e) ∷ [])) % modulus
+
+-- The rows of a forest's trees gone into a row of sums or minima.
+pub record RowTreesAfter (u : ℕ) (k : Configuration) (ch : Change) (t : OldCells) (add : Bool) (f : Forest) (b d : ℕ) (e : Tuple) (acc : List ℕ) (before : ℕ) (out : List ℕ) (changed : ℕ) : Type 0 where
+  pub numbers : (x : ℕ) → x < u → getD out x 0 ≡ gathered add (getD acc x 0) (renewals u k ch t f b (suc d) (x ∷ e))
+  pub changed-is : changed ≡ (before + sum (eachPort u (λ x. changes u k ch t f b (suc d) (x ∷ e) ∷ []))) % modulus
 
 -- The tables that a walk reads have an entry for every node.
 pub record TablesLong (firsts ends uses : List ℕ) : Type 0 where

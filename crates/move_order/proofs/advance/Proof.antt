@@ -1,4 +1,5 @@
 use mathlib.Core.Path.{sym, _∙_}
+use denote.Ref.{now}
 use borrow.Author.Needs.{needs}
 use Rattle.logic.specs.Moves.{ofKinds}
 use Rattle.move_order.specs.inner.Stepping.{StepsAny}
@@ -15,7 +16,7 @@ next-place-requires c κs = search needs
 returns : tie.Need-returns
 unfolding StepsAny
 returns c =
-    c .next-place .ensures (c .before .before .before .args .kinds)
+    c .next-place .ensures (c .before .before .before .before .args .kinds)
 
 add-at-fields : tie.Need-add-at-fields
 add-at-fields c = search needs
@@ -26,9 +27,15 @@ at-fields-requires c κs = search needs
 returns-2 : tie.Need-returns-2
 unfolding ofKinds
 returns-2 c =
-    rw (c .at-fields .ensures) (skip-kind (c .before .before .before .before .args .ports) (c .before .before .before .before .args .sets) (c .before .before .before .before .args .kinds) (c .before .before .before .before .args .m) (c .before .before .before .before .pre) (sym (c .before .before .before .of-kinds .ensures) ∙ c .before .before .if1 .left))
+    rw (c .at-fields .ensures) (skip-kind (c .before .before .before .before .before .args .ports) (c .before .before .before .before .before .args .sets) (c .before .before .before .before .before .args .kinds) (now (c .before .before .before .before .before .args .masks)) (c .before .before .before .before .before .args .m) (c .before .before .before .before .before .pre .begins) (sym (c .before .before .before .of-kinds .ensures) ∙ c .before .before .if1 .left))
 
 pub advance-spec : {M : Type 1} → statement M
 advance-spec =
     tie.close
-    (tie.spec of-kinds-requires next-place-requires returns add-at-fields at-fields-requires returns-2)
+    (tie.spec
+    of-kinds-requires
+    next-place-requires
+    returns
+    add-at-fields
+    at-fields-requires
+    returns-2)

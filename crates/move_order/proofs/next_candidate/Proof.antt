@@ -15,7 +15,7 @@ abbrev μ-loop : tie.MeasureT-loop
 
 advance-requires : tie.Need-advance-requires Inv-loop μ-loop
 advance-requires c κs =
-    c .before .pre .begins
+    c .before .pre
 
 loop-holds : tie.Need-loop-holds Inv-loop μ-loop
 loop-holds c =
@@ -31,7 +31,7 @@ returns c =
 
 advance-requires-2 : tie.Need-advance-requires-2 Inv-loop μ-loop
 advance-requires-2 c κs =
-    record { position = c .before .before .before .before .loop .inv .position; not-past = c .before .before .if1 .taken }
+    record { begins = record { position = c .before .before .before .before .loop .inv .position; not-past = c .before .before .if1 .taken }; masks-enough = c .before .before .before .before .before .before .before .pre .masks-enough }
 
 loop-less : tie.Need-loop-less Inv-loop μ-loop
 loop-less c =

@@ -1,8 +1,9 @@
 -- The order of moves as one number, and what a step to the next candidate gives.
 use mathlib.Core.Path.{_≡_}
-use mathlib.Core.Bool.{Bool, true, false}
+use mathlib.Core.Bool.{Bool, true, false, cond, not, _&&_}
 use mathlib.Core.List.{List, [], _∷_}
 use Prim.Native.Nat.{ℕ, _+_, _*_, _≤_, _<_}
+use lib.Dec.{eqb}
 use lib.ListN.{length, take}
 use Rattle.logic.specs.declared.Move.{Move}
 use Rattle.logic.specs.Formula.{Plan}
@@ -10,7 +11,7 @@ use Rattle.logic.specs.Configuration.{inMasks, maskCount}
 use Rattle.logic.specs.Moves.{noMove, fits, ofKinds}
 use Rattle.contracts.specs.MoveOrder.{Candidate}
 use Rattle.move_order.specs.declared.Next.{Next}
-use Rattle.logic.specs.inner.MoveFields.{Fields, Sized}
+use Rattle.logic.specs.inner.MoveFields.{qEnd, Fields, Sized}
 
 -- The same order as one number, for sets below 16 and ports below 64: proofs/Order shows that both order the plan's moves alike.
 unfoldable pub place : Move → ℕ
@@ -70,14 +71,18 @@ unfoldable pub GivesNext : ℕ → ℕ → ℕ → List ℕ → Move → Next �
 GivesNext ports sets kinds masks m r =
     (P : Plan) → P .ports ≡ ports → P .sets ≡ sets → NextOr (r .found) P kinds (take (maskCount sets) masks) m (r .m)
 
--- One step through the known moves of the kinds: none of them lies between m and r.
-pub record StepsOn (ports sets kinds : ℕ) (m r : Move) : Type 0 where
+-- Candidates with the kind, S and p of m have their q below this: "4 swap: p in S", so there is none where p is not in S.
+unfoldable pub qEndAt : ℕ → List ℕ → Move → ℕ
+qEndAt ports masks m = cond (eqb (m .kind) 4 && not (inMasks masks (m .s) (m .p))) 0 (qEnd (m .kind) ports)
+
+-- One step through the positions: no candidate lies between m and r.
+pub record StepsOn (ports sets kinds : ℕ) (masks : List ℕ) (m r : Move) : Type 0 where
   pub position : Position ports sets r
   pub later : place m < place r
-  pub none-between : (m′ : Move) → Fields ports sets m′ → ofKinds kinds m′ ≡ true → place m < place m′ → place r ≤ place m′
+  pub none-between : (m′ : Move) → Suits ports sets kinds masks m′ → place m < place m′ → place r ≤ place m′
 
-unfoldable pub StepsAny : ℕ → ℕ → Move → Move → Type 0
-StepsAny ports sets m r = (kinds : ℕ) → StepsOn ports sets kinds m r
+unfoldable pub StepsAny : ℕ → ℕ → List ℕ → Move → Move → Type 0
+StepsAny ports sets masks m r = (kinds : ℕ) → StepsOn ports sets kinds masks m r
 
 -- What stands before the first move.
 unfoldable pub outset : Move

@@ -1,0 +1,3 @@
+-- Laws.
+pub mod Rows
+mod Steps
