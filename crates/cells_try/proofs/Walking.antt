@@ -30,7 +30,7 @@ use Rattle.cells_walk.specs.inner.Visit.{Visit, CellsFit, CellAfter, RowVisit, 
 use Rattle.cells_walk.proofs.KindOf.{adds-kind, Quantifier, Joint, quantifier-of, joint-of, literal-of}
 use Rattle.cells_walk.proofs.Visits.{all-constants, node-here, fits-here, node-below, room-here, visit-next, visit-children, visit-ports, touched-here}
 use Rattle.cells_walk.proofs.Outcomes.{begun-fits, untouched-after, literal-cell, inner-cell, trees-more, trees-none}
-use Rattle.cells_try.specs.inner.Walking.{WalkReady, CellReady, CellTouched, CellInner, CellGives, TreesReady, TreesGive, PortsReady, PortsSo}
+use Rattle.cells_try.specs.inner.Walking.{WalkReady, CellReady, CellTouched, CellGives, TreesReady, TreesGive, PortsReady, PortsSo}
 use Rattle.cells_try.proofs.Remaining.{Remaining, remains-first, remains-next}
 
 pub width-low : (u d : ℕ) → u ≤ 64 → d ≤ 3 → u ^ d ≤ 262144
@@ -39,9 +39,6 @@ width-low u d l e = le-trans (pow-le-pow-left l d) (pow-le-pow-right (omega arit
 all-fit : (cells : List ℕ) → CellsFit cells → (j : ℕ) → getD cells j 0 < modulus
 unfolding CellsFit
 all-fit cells h j = h j
-
-pub inner-low : (x y : ℕ) → x ≡ y → y < 5 → x < 5
-inner-low x y q h = rw q h
 
 -- a literal has no children
 pub no-children : (n : Node) (f : Forest) (l : Literal) → n ≡ lit l → arityRule (kindNumber n) (treeCount f) ≡ true → treeCount f ≡ 0
@@ -209,10 +206,6 @@ module _ (u sets : ℕ) (c : Changed) (bytes firsts ends uses masks cells : List
           ends-at = end-here (r .change) (r .node) (r .children) (r .siblings) (r .first) (r .tuple) (r .ready) (r .visit) end en;
           few = zero-few (start .changed) (st .1);
         }
-
-    pub inner-ready : CellTouched u sets c bytes firsts ends uses masks cells i d place digits word → (kind : ℕ) → kind ≡ kindField (recordAt bytes i) → kind < 5
-        → CellInner u sets c bytes firsts ends uses masks cells i d place digits word
-    inner-ready r kind q h = record { begins = r .begins; touched = r .touched; inner = inner-low (kindField (recordAt bytes i)) kind (sym q) h }
 
     -- what the steps at a cell come to
     module _ (old used : ℕ) (o : old ≡ getD cells (getD firsts i 0 + place) 0) (us : used ≡ getD uses i 0) where

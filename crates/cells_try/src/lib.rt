@@ -28,6 +28,7 @@ use cells_walk::is_quantifier;
 use cells_walk::kept;
 use cells_walk::kind_at;
 use cells_walk::literal_at;
+use cells_walk::literal_outcome;
 use cells_walk::next_port;
 use cells_walk::place_at;
 use cells_walk::uses_at;
@@ -35,7 +36,7 @@ use cells_walk::with_port;
 use std::num::wrapping_add_u32;
 ghost use mathlib.Core.Bool.{true};
 ghost use Rattle.cells_walk.specs.inner.Root.{RootReady, RootGives};
-ghost use Rattle.cells_try.specs.inner.Walking.{CellReady, CellTouched, CellInner, CellGives, TreesReady, TreesGive, PortsReady, PairReady, PortsSo, RowReady, RowGives, RowCellsReady, RowJoinReady, RowJoins, RowTreesReady, RowTreesGive};
+ghost use Rattle.cells_try.specs.inner.Walking.{CellReady, CellTouched, CellGives, TreesReady, TreesGive, PortsReady, PairReady, PortsSo, RowReady, RowGives, RowCellsReady, RowJoinReady, RowJoins, RowTreesReady, RowTreesGive};
 
 // A cell's old number, its new one, and how many cells at or below it differ from before.
 fn cell_after(
@@ -57,100 +58,18 @@ fn cell_after(
     requires { ⌜ CellReady ports sets c (now table) (now firsts) (now ends) (now uses) (now masks) (now cells) i depth place digits word ⌝ }
     ensures { λ r. ⌜ CellGives ports sets c (now (table .entry)) (now (firsts .entry)) (now (ends .entry)) (now (uses .entry)) (now (masks .entry)) (now (cells .entry)) i depth place digits word r ⌝ }
 {
-    if !meet(uses_at(uses, i), word) {
+    let old = cell_at(firsts, i, place, cells);
+    let used = uses_at(uses, i);
+    if !meet(used, word) {
         return kept(firsts, i, place, cells);
     }
-    tree_after(
-        table,
-        firsts,
-        ends,
-        uses,
-        masks,
-        cells,
-        ports,
-        sets,
-        c,
-        i,
-        depth,
-        place,
-        digits,
-        word,
-    )
-}
-
-// A cell that is touched. A literal's is done here, so that a loop over siblings makes no call for one.
-fn tree_after(
-    table: &[u8],
-    firsts: &[u32],
-    ends: &[u16],
-    uses: &[u64],
-    masks: &[u64],
-    cells: &[u32],
-    ports: usize,
-    sets: usize,
-    c: Changed,
-    i: usize,
-    depth: usize,
-    place: usize,
-    digits: u32,
-    word: u64,
-) -> After
-    requires { ⌜ CellTouched ports sets c (now table) (now firsts) (now ends) (now uses) (now masks) (now cells) i depth place digits word ⌝ }
-    ensures { λ r. ⌜ CellGives ports sets c (now (table .entry)) (now (firsts .entry)) (now (ends .entry)) (now (uses .entry)) (now (masks .entry)) (now (cells .entry)) i depth place digits word r ⌝ }
-{
-    if kind_at(table, i) < 5 {
-        return inner_after(
-            table,
-            firsts,
-            ends,
-            uses,
-            masks,
-            cells,
-            ports,
-            sets,
-            c,
-            i,
-            depth,
-            place,
-            digits,
-            word,
-        );
-    }
-    let old = cell_at(firsts, i, place, cells);
-    let value = literal_at(table, i, ports, sets, depth, masks, digits);
-    outcome(
-        old,
-        Sum {
-            value: value,
-            changed: 0,
-        },
-    )
-}
-
-// A touched cell of another node, from what stands below it.
-fn inner_after(
-    table: &[u8],
-    firsts: &[u32],
-    ends: &[u16],
-    uses: &[u64],
-    masks: &[u64],
-    cells: &[u32],
-    ports: usize,
-    sets: usize,
-    c: Changed,
-    i: usize,
-    depth: usize,
-    place: usize,
-    digits: u32,
-    word: u64,
-) -> After
-    requires { ⌜ CellInner ports sets c (now table) (now firsts) (now ends) (now uses) (now masks) (now cells) i depth place digits word ⌝ }
-    ensures { λ r. ⌜ CellGives ports sets c (now (table .entry)) (now (firsts .entry)) (now (ends .entry)) (now (uses .entry)) (now (masks .entry)) (now (cells .entry)) i depth place digits word r ⌝ }
-{
     let kind = kind_at(table, i);
-    let old = cell_at(firsts, i, place, cells);
+    if 5 <= kind {
+        return literal_outcome(old, table, i, ports, sets, depth, masks, digits);
+    }
     let add = adds_of(kind);
     let begun = begin(add, old);
+    let end = end_at(ends, i);
     if is_quantifier(kind) {
         let r = ports_after(
             table,
@@ -183,7 +102,7 @@ fn inner_after(
         sets,
         c,
         i + 1,
-        end_at(ends, i),
+        end,
         depth,
         place,
         digits,
@@ -192,6 +111,48 @@ fn inner_after(
         begun,
     );
     outcome(old, r)
+}
+
+// A touched cell among its siblings. A literal's is done here, so that the loop over them makes no call for one.
+fn tree_after(
+    table: &[u8],
+    firsts: &[u32],
+    ends: &[u16],
+    uses: &[u64],
+    masks: &[u64],
+    cells: &[u32],
+    ports: usize,
+    sets: usize,
+    c: Changed,
+    i: usize,
+    depth: usize,
+    place: usize,
+    digits: u32,
+    word: u64,
+) -> After
+    requires { ⌜ CellTouched ports sets c (now table) (now firsts) (now ends) (now uses) (now masks) (now cells) i depth place digits word ⌝ }
+    ensures { λ r. ⌜ CellGives ports sets c (now (table .entry)) (now (firsts .entry)) (now (ends .entry)) (now (uses .entry)) (now (masks .entry)) (now (cells .entry)) i depth place digits word r ⌝ }
+{
+    if 5 <= kind_at(table, i) {
+        let old = cell_at(firsts, i, place, cells);
+        return literal_outcome(old, table, i, ports, sets, depth, masks, digits);
+    }
+    cell_after(
+        table,
+        firsts,
+        ends,
+        uses,
+        masks,
+        cells,
+        ports,
+        sets,
+        c,
+        i,
+        depth,
+        place,
+        digits,
+        word,
+    )
 }
 
 // The trees of a forest at a tuple, gone into a sum or a minimum.

@@ -1,5 +1,5 @@
 -- What a visited cell, the trees of a forest and the ports of a quantifier come to. Assumes nothing.
-use mathlib.Core.Path.{_≡_, refl, sym, ap, _∙_}
+use mathlib.Core.Path.{_≡_, refl, sym, ap, _∙_, subst}
 use mathlib.Core.Bool.{Bool, true, false, cond, not, _||_}
 use mathlib.Core.List.{List, [], _∷_}
 use Prim.Native.Nat.{ℕ, suc, _+_, _-_, _^_, _%_, _≤_, _<_}
@@ -22,7 +22,7 @@ use Rattle.cells_walk.proofs.Count.{changes-untouched}
 use Rattle.cells_walk.proofs.Gather.{new-cell-gathered}
 use Rattle.cells_sum.specs.declared.After.{After}
 use Rattle.cells_sum.specs.declared.Sum.{Sum}
-use Rattle.cells_walk.specs.inner.Visit.{CellAfter, TreesAfter, PortsAfter}
+use Rattle.cells_walk.specs.inner.Visit.{CellAfter, TreesAfter, PortsAfter, RecordAfresh}
 
 -- numbers modulo 2^32
 count-more : (a x y r s : ℕ) → r ≡ (a + x) % modulus → s ≡ (r + y) % modulus → s ≡ (a + (x + y)) % modulus
@@ -183,3 +183,13 @@ module _ (u : ℕ) (k : Configuration) (ch : Change) (t : OldCells) where
   pub ports-none : (add : Bool) (f : Forest) (b d : ℕ) (e : Tuple) (acc : Sum) → acc .changed < modulus → PortsAfter u k ch t add f b d e 0 acc acc
   unfolding eachPort gathered sum modulus
   ports-none add f b d e acc h = record { value-is = refl; changed-is = omega arith }
+
+-- a literal's outcome by its own number
+pub literal-outcome : (u sets d : ℕ) (bytes : List ℕ) (i : ℕ) (masks : List ℕ) (digits old value : ℕ) (r : After) → RecordAfresh u sets d bytes i masks digits value
+    → (r .old ≡ old) × (r .value ≡ value) × (r .changed ≡ (indicator (not (eqb value old)) + 0) % 4294967296)
+    → RecordAfresh u sets d bytes i masks digits (r .value) × (r .old ≡ old) × (r .changed ≡ (indicator (not (eqb (r .value) old)) + 0) % 4294967296)
+literal-outcome u sets d bytes i masks digits old value r fresh is = (
+  subst (λ (v : ℕ). RecordAfresh u sets d bytes i masks digits v) (sym (is .1)) fresh,
+  is .0,
+  is .2 ∙ ap (λ (v : ℕ). (indicator (not (eqb v old)) + 0) % 4294967296) (sym (is .1)),
+)

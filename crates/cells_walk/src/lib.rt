@@ -4,6 +4,8 @@ use cells_rule::literal_penalty;
 use cells_size::mask_at;
 use cells_size::set_size;
 use cells_sum::After;
+use cells_sum::Sum;
+use cells_sum::outcome;
 use cells_touch::Changed;
 use cells_touch::meet;
 use cells_touch::rest_word;
@@ -17,8 +19,9 @@ use table_format::relation_of;
 ghost use mathlib.Core.Path.{_≡_};
 ghost use mathlib.Core.Bool.{cond, not, _&&_, _||_};
 ghost use Prim.Native.Nat.{_+_, _*_, _/_, _%_, _^_, _≤_, _<_};
-ghost use lib.Dec.{leb, ltb};
+ghost use lib.Dec.{eqb, leb, ltb};
 ghost use lib.ListN.{length, getD};
+ghost use Rattle.logic.specs.Configuration.{indicator};
 ghost use Rattle.cells_touch.specs.inner.Hits.{meets, restWord};
 ghost use Rattle.table_format.specs.Bytes.{recordLength, kindField, recordsOf, recordAt};
 ghost use Rattle.cells_walk.specs.inner.Visit.{LiteralReady, Afresh, RecordReady, RecordAfresh};
@@ -149,6 +152,30 @@ pub fn literal_at(
         depth,
         masks,
         digits,
+    )
+}
+
+// A touched cell of literal i, from its old number.
+pub fn literal_outcome(
+    old: u32,
+    table: &[u8],
+    i: usize,
+    ports: usize,
+    sets: usize,
+    depth: usize,
+    masks: &[u64],
+    digits: u32,
+) -> After
+    requires { ⌜ RecordReady ports sets depth (now table) i (now masks) digits ⌝ }
+    ensures { λ r. ⌜ RecordAfresh ports sets depth (now (table .entry)) i (now (masks .entry)) digits (r .value) × (r .old ≡ old) × (r .changed ≡ (indicator (not (eqb (r .value) old)) + 0) % 4294967296) ⌝ }
+{
+    let value = literal_at(table, i, ports, sets, depth, masks, digits);
+    outcome(
+        old,
+        Sum {
+            value: value,
+            changed: 0,
+        },
     )
 }
 

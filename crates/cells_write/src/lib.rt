@@ -29,6 +29,7 @@ use cells_walk::is_quantifier;
 use cells_walk::kept;
 use cells_walk::kind_at;
 use cells_walk::literal_at;
+use cells_walk::literal_outcome;
 use cells_walk::next_port;
 use cells_walk::place_at;
 use cells_walk::uses_at;
@@ -39,7 +40,7 @@ ghost use mathlib.Core.Bool.{true};
 ghost use Prim.Native.Nat.{_+_, _<_};
 ghost use lib.ListN.{length, getD, set};
 ghost use Rattle.cells_walk.specs.inner.Root.{RootReady, RootGives};
-ghost use Rattle.cells_try.specs.inner.Walking.{CellReady, CellTouched, CellInner, CellGives, TreesReady, TreesGive, PortsReady, PairReady, PortsSo, RowGives, RowCellsReady, RowJoinReady, RowJoins, RowTreesReady, RowTreesGive};
+ghost use Rattle.cells_try.specs.inner.Walking.{CellReady, CellTouched, CellGives, TreesReady, TreesGive, PortsReady, PairReady, PortsSo, RowGives, RowCellsReady, RowJoinReady, RowJoins, RowTreesReady, RowTreesGive};
 ghost use Rattle.cells_write.specs.inner.Writing.{CellWrites, TreesWrite, PortsWrite, RowMoveReady, RowWrites, RowTreesWrite, RootWrites};
 
 // Writes a cell's number at a place of its node.
@@ -71,101 +72,20 @@ fn cell_written(
     requires { ⌜ CellReady ports sets c (now table) (now firsts) (now ends) (now uses) (now masks) (now cells) i depth place digits word ⌝ }
     ensures { λ r. ⌜ CellGives ports sets c (now (table .entry)) (now (firsts .entry)) (now (ends .entry)) (now (uses .entry)) (now (masks .entry)) (now (cells .entry)) i depth place digits word r × CellWrites ports sets c (now (table .entry)) (now (firsts .entry)) (now (ends .entry)) (now (uses .entry)) (now (masks .entry)) (now (cells .entry)) i depth place digits word (now (cells .exit)) ⌝ }
 {
-    if !meet(uses_at(uses, i), word) {
+    let old = cell_at(firsts, i, place, &cells[..]);
+    let used = uses_at(uses, i);
+    if !meet(used, word) {
         return kept(firsts, i, place, &cells[..]);
     }
-    tree_written(
-        table,
-        firsts,
-        ends,
-        uses,
-        masks,
-        cells,
-        ports,
-        sets,
-        c,
-        i,
-        depth,
-        place,
-        digits,
-        word,
-    )
-}
-
-// A cell that is touched. A literal's is done here, so that a loop over siblings makes no call for one.
-fn tree_written(
-    table: &[u8],
-    firsts: &[u32],
-    ends: &[u16],
-    uses: &[u64],
-    masks: &[u64],
-    cells: &mut [u32],
-    ports: usize,
-    sets: usize,
-    c: Changed,
-    i: usize,
-    depth: usize,
-    place: usize,
-    digits: u32,
-    word: u64,
-) -> After
-    requires { ⌜ CellTouched ports sets c (now table) (now firsts) (now ends) (now uses) (now masks) (now cells) i depth place digits word ⌝ }
-    ensures { λ r. ⌜ CellGives ports sets c (now (table .entry)) (now (firsts .entry)) (now (ends .entry)) (now (uses .entry)) (now (masks .entry)) (now (cells .entry)) i depth place digits word r × CellWrites ports sets c (now (table .entry)) (now (firsts .entry)) (now (ends .entry)) (now (uses .entry)) (now (masks .entry)) (now (cells .entry)) i depth place digits word (now (cells .exit)) ⌝ }
-{
-    if kind_at(table, i) < 5 {
-        return inner_written(
-            table,
-            firsts,
-            ends,
-            uses,
-            masks,
-            cells,
-            ports,
-            sets,
-            c,
-            i,
-            depth,
-            place,
-            digits,
-            word,
-        );
-    }
-    let old = cell_at(firsts, i, place, &cells[..]);
-    let value = literal_at(table, i, ports, sets, depth, masks, digits);
-    put_cell(firsts, i, place, value, cells);
-    outcome(
-        old,
-        Sum {
-            value: value,
-            changed: 0,
-        },
-    )
-}
-
-// A touched cell of another node, from what stands below it.
-fn inner_written(
-    table: &[u8],
-    firsts: &[u32],
-    ends: &[u16],
-    uses: &[u64],
-    masks: &[u64],
-    cells: &mut [u32],
-    ports: usize,
-    sets: usize,
-    c: Changed,
-    i: usize,
-    depth: usize,
-    place: usize,
-    digits: u32,
-    word: u64,
-) -> After
-    requires { ⌜ CellInner ports sets c (now table) (now firsts) (now ends) (now uses) (now masks) (now cells) i depth place digits word ⌝ }
-    ensures { λ r. ⌜ CellGives ports sets c (now (table .entry)) (now (firsts .entry)) (now (ends .entry)) (now (uses .entry)) (now (masks .entry)) (now (cells .entry)) i depth place digits word r × CellWrites ports sets c (now (table .entry)) (now (firsts .entry)) (now (ends .entry)) (now (uses .entry)) (now (masks .entry)) (now (cells .entry)) i depth place digits word (now (cells .exit)) ⌝ }
-{
     let kind = kind_at(table, i);
-    let old = cell_at(firsts, i, place, &cells[..]);
+    if 5 <= kind {
+        let r = literal_outcome(old, table, i, ports, sets, depth, masks, digits);
+        put_cell(firsts, i, place, r.value, cells);
+        return r;
+    }
     let add = adds_of(kind);
     let begun = begin(add, old);
+    let end = end_at(ends, i);
     if is_quantifier(kind) {
         let r = ports_written(
             table,
@@ -199,7 +119,7 @@ fn inner_written(
         sets,
         c,
         i + 1,
-        end_at(ends, i),
+        end,
         depth,
         place,
         digits,
@@ -209,6 +129,50 @@ fn inner_written(
     );
     put_cell(firsts, i, place, r.value, cells);
     outcome(old, r)
+}
+
+// A touched cell among its siblings. A literal's is done here, so that the loop over them makes no call for one.
+fn tree_written(
+    table: &[u8],
+    firsts: &[u32],
+    ends: &[u16],
+    uses: &[u64],
+    masks: &[u64],
+    cells: &mut [u32],
+    ports: usize,
+    sets: usize,
+    c: Changed,
+    i: usize,
+    depth: usize,
+    place: usize,
+    digits: u32,
+    word: u64,
+) -> After
+    requires { ⌜ CellTouched ports sets c (now table) (now firsts) (now ends) (now uses) (now masks) (now cells) i depth place digits word ⌝ }
+    ensures { λ r. ⌜ CellGives ports sets c (now (table .entry)) (now (firsts .entry)) (now (ends .entry)) (now (uses .entry)) (now (masks .entry)) (now (cells .entry)) i depth place digits word r × CellWrites ports sets c (now (table .entry)) (now (firsts .entry)) (now (ends .entry)) (now (uses .entry)) (now (masks .entry)) (now (cells .entry)) i depth place digits word (now (cells .exit)) ⌝ }
+{
+    if 5 <= kind_at(table, i) {
+        let old = cell_at(firsts, i, place, &cells[..]);
+        let r = literal_outcome(old, table, i, ports, sets, depth, masks, digits);
+        put_cell(firsts, i, place, r.value, cells);
+        return r;
+    }
+    cell_written(
+        table,
+        firsts,
+        ends,
+        uses,
+        masks,
+        cells,
+        ports,
+        sets,
+        c,
+        i,
+        depth,
+        place,
+        digits,
+        word,
+    )
 }
 
 // The trees of a forest at a tuple, written one after the other and gone into a sum or a minimum.

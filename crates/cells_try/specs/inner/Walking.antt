@@ -8,7 +8,6 @@ use Rattle.logic.specs.Formula.{Node, Forest, tree, nodeCount}
 use Rattle.logic.specs.Configuration.{configured, inMasks}
 use Rattle.logic.specs.Truth.{Tuple}
 use Rattle.logic.specs.Change.{Change, modulus, cellOf}
-use Rattle.table_format.specs.Bytes.{kindField, recordAt}
 use Rattle.table_format.specs.Rules.{treeCount}
 use Rattle.cells_touch.specs.declared.Changed.{Changed}
 use Rattle.cells_touch.specs.inner.Hits.{Describes, meets, restWord}
@@ -40,15 +39,10 @@ CellGives u sets c bytes firsts ends uses masks cells i d place digits word r =
     → Visit u sets ch bytes firsts ends uses cells i (tree n f s) b d e place digits word
     → CellAfter u (configured u sets (inMasks masks)) ch (cellOf u cells) n f b d e r
 
--- The cell is touched; and it is no literal's.
+-- The cell is touched.
 pub record CellTouched (u sets : ℕ) (c : Changed) (bytes firsts ends uses masks cells : List ℕ) (i d place digits word : ℕ) : Type 0 where
   pub begins : CellReady u sets c bytes firsts ends uses masks cells i d place digits word
   pub touched : meets (getD uses i 0) word ≡ true
-
-pub record CellInner (u sets : ℕ) (c : Changed) (bytes firsts ends uses masks cells : List ℕ) (i d place digits word : ℕ) : Type 0 where
-  pub begins : CellReady u sets c bytes firsts ends uses masks cells i d place digits word
-  pub touched : meets (getD uses i 0) word ≡ true
-  pub inner : kindField (recordAt bytes i) < 5
 
 -- The walk stands before the trees of a forest, which end at node `until`.
 pub record TreesReady (u sets : ℕ) (c : Changed) (bytes firsts ends uses masks cells : List ℕ) (i until d place digits word : ℕ) (acc : Sum) : Type 0 where

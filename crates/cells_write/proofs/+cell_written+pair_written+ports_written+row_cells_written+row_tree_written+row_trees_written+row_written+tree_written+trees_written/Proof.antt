@@ -4,41 +4,38 @@ use Prim.Native.Nat.{ℕ, _+_, _-_, _*_, _<_}
 use native.Mathlib.Omega.{arith}
 use borrow.Author.Needs.{needs}
 use borrow.Author.Tests.{not-true, not-false}
-use Rattle.cells_try.proofs.Walking.{node-low, firsts-room, ends-room, uses-room, cell-room, record-room, place-low, times-fits, literal-ready, touched-ready, inner-ready, inner-low, ports-ready, trees-ready, gives-untouched, gives-literal, gives-ports, gives-trees, some-left}
+use Rattle.cells_try.proofs.Walking.{node-low, firsts-room, ends-room, uses-room, cell-room, record-room, place-low, times-fits, literal-ready, touched-ready, ports-ready, trees-ready, gives-untouched, gives-literal, gives-ports, gives-trees, some-left}
 use Rattle.cells_try.proofs.Rowing.{port-ready, first-ready, row-low, row-fits-64, digits-ready, row-within, part-room, part-old, copy-old, port-gives, gives-literal-row, gives-joint-row, row-trees-ready, row-cells-ready, RowPassed, row-start, row-step, row-finished, joins-kept, joins-row, ports-row, any-row, ports-by-row, pair-of, pair-gives, pair-first, pair-next, pair-only, pair-second, pair-last, row-left, again, by-rows}
 use Rattle.cells_write.proofs.Writes.{room-kept, all-fit, cell-kept, moved-as, untouched-moved, literal-moved, ports-moved, trees-moved, port-gives-later, row-below, pair-wrote-one, second-next, pair-wrote-two, RowCarried, row-carried-start, row-carried-step, row-carried-all, literal-row-moved, joint-row-moved, row-unmoved, Ahead, ahead-first, ahead-next, ahead-last, RowsAhead, rows-ahead-first, rows-ahead-next, rows-ahead-last}
 use borrow.Fn.Kinds.{In}
 use borrow.Fn.PlainCycle.{Measures, is, falls, and}
 use Rattle.cells_write.proofs.cell_written.Reads as cell-written
 use Rattle.cells_write.proofs.cell_written.Kinds as cell-written-kinds
-use Rattle.cells_write.proofs.+cell_written+inner_written+pair_written+ports_written+row_cells_written+row_tree_written+row_trees_written+row_written+tree_written+trees_written.Lts-cell_written as cell-written-lts
-use Rattle.cells_write.proofs.inner_written.Reads as inner-written
-use Rattle.cells_write.proofs.inner_written.Kinds as inner-written-kinds
-use Rattle.cells_write.proofs.+cell_written+inner_written+pair_written+ports_written+row_cells_written+row_tree_written+row_trees_written+row_written+tree_written+trees_written.Lts-inner_written as inner-written-lts
+use Rattle.cells_write.proofs.+cell_written+pair_written+ports_written+row_cells_written+row_tree_written+row_trees_written+row_written+tree_written+trees_written.Lts-cell_written as cell-written-lts
 use Rattle.cells_write.proofs.pair_written.Reads as pair-written
 use Rattle.cells_write.proofs.pair_written.Kinds as pair-written-kinds
-use Rattle.cells_write.proofs.+cell_written+inner_written+pair_written+ports_written+row_cells_written+row_tree_written+row_trees_written+row_written+tree_written+trees_written.Lts-pair_written as pair-written-lts
+use Rattle.cells_write.proofs.+cell_written+pair_written+ports_written+row_cells_written+row_tree_written+row_trees_written+row_written+tree_written+trees_written.Lts-pair_written as pair-written-lts
 use Rattle.cells_write.proofs.ports_written.Reads as ports-written
 use Rattle.cells_write.proofs.ports_written.Kinds as ports-written-kinds
-use Rattle.cells_write.proofs.+cell_written+inner_written+pair_written+ports_written+row_cells_written+row_tree_written+row_trees_written+row_written+tree_written+trees_written.Lts-ports_written as ports-written-lts
+use Rattle.cells_write.proofs.+cell_written+pair_written+ports_written+row_cells_written+row_tree_written+row_trees_written+row_written+tree_written+trees_written.Lts-ports_written as ports-written-lts
 use Rattle.cells_write.proofs.row_cells_written.Reads as row-cells-written
 use Rattle.cells_write.proofs.row_cells_written.Kinds as row-cells-written-kinds
-use Rattle.cells_write.proofs.+cell_written+inner_written+pair_written+ports_written+row_cells_written+row_tree_written+row_trees_written+row_written+tree_written+trees_written.Lts-row_cells_written as row-cells-written-lts
+use Rattle.cells_write.proofs.+cell_written+pair_written+ports_written+row_cells_written+row_tree_written+row_trees_written+row_written+tree_written+trees_written.Lts-row_cells_written as row-cells-written-lts
 use Rattle.cells_write.proofs.row_tree_written.Reads as row-tree-written
 use Rattle.cells_write.proofs.row_tree_written.Kinds as row-tree-written-kinds
-use Rattle.cells_write.proofs.+cell_written+inner_written+pair_written+ports_written+row_cells_written+row_tree_written+row_trees_written+row_written+tree_written+trees_written.Lts-row_tree_written as row-tree-written-lts
+use Rattle.cells_write.proofs.+cell_written+pair_written+ports_written+row_cells_written+row_tree_written+row_trees_written+row_written+tree_written+trees_written.Lts-row_tree_written as row-tree-written-lts
 use Rattle.cells_write.proofs.row_trees_written.Reads as row-trees-written
 use Rattle.cells_write.proofs.row_trees_written.Kinds as row-trees-written-kinds
-use Rattle.cells_write.proofs.+cell_written+inner_written+pair_written+ports_written+row_cells_written+row_tree_written+row_trees_written+row_written+tree_written+trees_written.Lts-row_trees_written as row-trees-written-lts
+use Rattle.cells_write.proofs.+cell_written+pair_written+ports_written+row_cells_written+row_tree_written+row_trees_written+row_written+tree_written+trees_written.Lts-row_trees_written as row-trees-written-lts
 use Rattle.cells_write.proofs.row_written.Reads as row-written
 use Rattle.cells_write.proofs.row_written.Kinds as row-written-kinds
-use Rattle.cells_write.proofs.+cell_written+inner_written+pair_written+ports_written+row_cells_written+row_tree_written+row_trees_written+row_written+tree_written+trees_written.Lts-row_written as row-written-lts
+use Rattle.cells_write.proofs.+cell_written+pair_written+ports_written+row_cells_written+row_tree_written+row_trees_written+row_written+tree_written+trees_written.Lts-row_written as row-written-lts
 use Rattle.cells_write.proofs.tree_written.Reads as tree-written
 use Rattle.cells_write.proofs.tree_written.Kinds as tree-written-kinds
-use Rattle.cells_write.proofs.+cell_written+inner_written+pair_written+ports_written+row_cells_written+row_tree_written+row_trees_written+row_written+tree_written+trees_written.Lts-tree_written as tree-written-lts
+use Rattle.cells_write.proofs.+cell_written+pair_written+ports_written+row_cells_written+row_tree_written+row_trees_written+row_written+tree_written+trees_written.Lts-tree_written as tree-written-lts
 use Rattle.cells_write.proofs.trees_written.Reads as trees-written
 use Rattle.cells_write.proofs.trees_written.Kinds as trees-written-kinds
-use Rattle.cells_write.proofs.+cell_written+inner_written+pair_written+ports_written+row_cells_written+row_tree_written+row_trees_written+row_written+tree_written+trees_written.Lts-trees_written as trees-written-lts
+use Rattle.cells_write.proofs.+cell_written+pair_written+ports_written+row_cells_written+row_tree_written+row_trees_written+row_written+tree_written+trees_written.Lts-trees_written as trees-written-lts
 use Rattle.cells_row.proofs.begin_row.Reads as begin-row-reads
 use Rattle.cells_row.proofs.cells_from.Reads as cells-from-reads
 use Rattle.cells_row.proofs.copy_row.Reads as copy-row-reads
@@ -65,48 +62,46 @@ use Rattle.cells_walk.proofs.is_quantifier.Reads as is-quantifier-reads
 use Rattle.cells_walk.proofs.kept.Reads as kept-reads
 use Rattle.cells_walk.proofs.kind_at.Reads as kind-at-reads
 use Rattle.cells_walk.proofs.literal_at.Reads as literal-at-reads
+use Rattle.cells_walk.proofs.literal_outcome.Reads as literal-outcome-reads
 use Rattle.cells_walk.proofs.next_port.Reads as next-port-reads
 use Rattle.cells_walk.proofs.place_at.Reads as place-at-reads
 use Rattle.cells_walk.proofs.uses_at.Reads as uses-at-reads
 use Rattle.cells_walk.proofs.with_port.Reads as with-port-reads
 use Rattle.cells_write.proofs.put_cell.Reads as put-cell-reads
 use Rattle.std.proofs.num.wrapping_add_u32.Reads as wrapping-add-u32-reads
-use Rattle.cells_write.proofs.+cell_written+inner_written+pair_written+ports_written+row_cells_written+row_tree_written+row_trees_written+row_written+tree_written+trees_written.{
+use Rattle.cells_write.proofs.+cell_written+pair_written+ports_written+row_cells_written+row_tree_written+row_trees_written+row_written+tree_written+trees_written.{
   statement,
 }
-use Rattle.cells_write.proofs.+cell_written+inner_written+pair_written+ports_written+row_cells_written+row_tree_written+row_trees_written+row_written+tree_written+trees_written.Tie.{
+use Rattle.cells_write.proofs.+cell_written+pair_written+ports_written+row_cells_written+row_tree_written+row_trees_written+row_written+tree_written+trees_written.Tie.{
   close,
 }
 
 abbrev μ-cell-written : Measures 6 cell-written-kinds.ps ℕ
-μ-cell-written κs a = 10 * (512 - a .1 .1 .1 .1 .1 .1 .1 .1 .1 .0) + 3
-
-abbrev μ-inner-written : Measures 6 inner-written-kinds.ps ℕ
-μ-inner-written κs a = 10 * (512 - a .1 .1 .1 .1 .1 .1 .1 .1 .1 .0) + 1
+μ-cell-written κs a = 8 * (512 - a .1 .1 .1 .1 .1 .1 .1 .1 .1 .0) + 1
 
 abbrev μ-pair-written : Measures 6 pair-written-kinds.ps ℕ
-μ-pair-written κs a = 10 * (512 - a .1 .1 .1 .1 .1 .1 .1 .1 .1 .0) + 4
+μ-pair-written κs a = 8 * (512 - a .1 .1 .1 .1 .1 .1 .1 .1 .1 .0) + 2
 
 abbrev μ-ports-written : Measures 6 ports-written-kinds.ps ℕ
-μ-ports-written κs a = 10 * (512 - a .1 .1 .1 .1 .1 .1 .1 .1 .1 .0) + 8
+μ-ports-written κs a = 8 * (512 - a .1 .1 .1 .1 .1 .1 .1 .1 .1 .0) + 6
 
 abbrev μ-row-cells-written : Measures 7 row-cells-written-kinds.ps ℕ
-μ-row-cells-written κs a = 10 * (512 - a .1 .1 .1 .1 .1 .1 .1 .1 .1 .0) + 4
+μ-row-cells-written κs a = 8 * (512 - a .1 .1 .1 .1 .1 .1 .1 .1 .1 .0) + 2
 
 abbrev μ-row-tree-written : Measures 7 row-tree-written-kinds.ps ℕ
-μ-row-tree-written κs a = 10 * (512 - a .1 .1 .1 .1 .1 .1 .1 .1 .1 .0) + 6
+μ-row-tree-written κs a = 8 * (512 - a .1 .1 .1 .1 .1 .1 .1 .1 .1 .0) + 4
 
 abbrev μ-row-trees-written : Measures 7 row-trees-written-kinds.ps ℕ
-μ-row-trees-written κs a = 10 * (512 - a .1 .1 .1 .1 .1 .1 .1 .1 .1 .0) + 7
+μ-row-trees-written κs a = 8 * (512 - a .1 .1 .1 .1 .1 .1 .1 .1 .1 .0) + 5
 
 abbrev μ-row-written : Measures 8 row-written-kinds.ps ℕ
-μ-row-written κs a = 10 * (512 - a .1 .1 .1 .1 .1 .1 .1 .1 .1 .0) + 5
+μ-row-written κs a = 8 * (512 - a .1 .1 .1 .1 .1 .1 .1 .1 .1 .0) + 3
 
 abbrev μ-tree-written : Measures 6 tree-written-kinds.ps ℕ
-μ-tree-written κs a = 10 * (512 - a .1 .1 .1 .1 .1 .1 .1 .1 .1 .0) + 2
+μ-tree-written κs a = 8 * (512 - a .1 .1 .1 .1 .1 .1 .1 .1 .1 .0) + 2
 
 abbrev μ-trees-written : Measures 6 trees-written-kinds.ps ℕ
-μ-trees-written κs a = 10 * (512 - a .1 .1 .1 .1 .1 .1 .1 .1 .1 .0) + 3
+μ-trees-written κs a = 8 * (512 - a .1 .1 .1 .1 .1 .1 .1 .1 .1 .0) + 3
 
 abbrev cell-written-at : ℕ → In 6 cell-written-kinds.ps
 cell-written-at t =
@@ -119,18 +114,6 @@ cell-written-below t =
     cell-written-kinds.ps
     (falls 6 cell-written-kinds.ps _<_ μ-cell-written t)
     cell-written.Pre
-
-abbrev inner-written-at : ℕ → In 6 inner-written-kinds.ps
-inner-written-at t =
-    and 6 inner-written-kinds.ps (is 6 inner-written-kinds.ps μ-inner-written t) inner-written.Pre
-
-abbrev inner-written-below : ℕ → In 6 inner-written-kinds.ps
-inner-written-below t =
-    and
-    6
-    inner-written-kinds.ps
-    (falls 6 inner-written-kinds.ps _<_ μ-inner-written t)
-    inner-written.Pre
 
 abbrev pair-written-at : ℕ → In 6 pair-written-kinds.ps
 pair-written-at t =
@@ -238,11 +221,7 @@ trees-written-below t =
 
 -- what the callees of `cell-written` ask and give
 abbrev cell-written-claims : ℕ → cell-written-lts.Claims
-cell-written-claims t = (uses-at-reads.Asked, uses-at-reads.Learnt, meet-reads.Asked, meet-reads.Learnt, kept-reads.Asked, kept-reads.Learnt, tree-written-below t, tree-written.Post)
-
--- what the callees of `inner-written` ask and give
-abbrev inner-written-claims : ℕ → inner-written-lts.Claims
-inner-written-claims t = (kind-at-reads.Asked, kind-at-reads.Learnt, cell-at-reads.Asked, cell-at-reads.Learnt, adds-of-reads.Asked, adds-of-reads.Learnt, begin-reads.Asked, begin-reads.Learnt, is-quantifier-reads.Asked, is-quantifier-reads.Learnt, ports-written-below t, ports-written.Post, put-cell-reads.Asked, put-cell-reads.Learnt, outcome-reads.Asked, outcome-reads.Learnt, end-at-reads.Asked, end-at-reads.Learnt, trees-written-below t, trees-written.Post)
+cell-written-claims t = (cell-at-reads.Asked, cell-at-reads.Learnt, uses-at-reads.Asked, uses-at-reads.Learnt, meet-reads.Asked, meet-reads.Learnt, kept-reads.Asked, kept-reads.Learnt, kind-at-reads.Asked, kind-at-reads.Learnt, literal-outcome-reads.Asked, literal-outcome-reads.Learnt, put-cell-reads.Asked, put-cell-reads.Learnt, adds-of-reads.Asked, adds-of-reads.Learnt, begin-reads.Asked, begin-reads.Learnt, end-at-reads.Asked, end-at-reads.Learnt, is-quantifier-reads.Asked, is-quantifier-reads.Learnt, ports-written-below t, ports-written.Post, outcome-reads.Asked, outcome-reads.Learnt, trees-written-below t, trees-written.Post)
 
 -- what the callees of `pair-written` ask and give
 abbrev pair-written-claims : ℕ → pair-written-lts.Claims
@@ -270,15 +249,19 @@ row-written-claims t = (kind-at-reads.Asked, kind-at-reads.Learnt, uses-at-reads
 
 -- what the callees of `tree-written` ask and give
 abbrev tree-written-claims : ℕ → tree-written-lts.Claims
-tree-written-claims t = (kind-at-reads.Asked, kind-at-reads.Learnt, inner-written-below t, inner-written.Post, cell-at-reads.Asked, cell-at-reads.Learnt, literal-at-reads.Asked, literal-at-reads.Learnt, put-cell-reads.Asked, put-cell-reads.Learnt, outcome-reads.Asked, outcome-reads.Learnt)
+tree-written-claims t = (kind-at-reads.Asked, kind-at-reads.Learnt, cell-at-reads.Asked, cell-at-reads.Learnt, literal-outcome-reads.Asked, literal-outcome-reads.Learnt, put-cell-reads.Asked, put-cell-reads.Learnt, cell-written-below t, cell-written.Post)
 
 -- what the callees of `trees-written` ask and give
 abbrev trees-written-claims : ℕ → trees-written-lts.Claims
 trees-written-claims t = (uses-at-reads.Asked, uses-at-reads.Learnt, meet-reads.Asked, meet-reads.Learnt, tree-written-below t, tree-written.Post, join-reads.Asked, join-reads.Learnt, kept-reads.Asked, kept-reads.Learnt, end-at-reads.Asked, end-at-reads.Learnt)
 
+cell-written-cell-at-requires : (t : ℕ) → cell-written-lts.Need-cell-at-requires (cell-written-claims t) (cell-written-at t) cell-written.Post
+cell-written-cell-at-requires t c κs =
+    (firsts-room _ _ _ _ _ _ _ _ _ _ _ _ _ _ (c .before .before .before .before .before .before .before .pre .1), cell-room _ _ _ _ _ _ _ _ _ _ _ _ _ _ (c .before .before .before .before .before .before .before .pre .1))
+
 cell-written-uses-at-requires : (t : ℕ) → cell-written-lts.Need-uses-at-requires (cell-written-claims t) (cell-written-at t) cell-written.Post
 cell-written-uses-at-requires t c κs =
-    uses-room _ _ _ _ _ _ _ _ _ _ _ _ _ _ (c .before .before .before .before .before .before .pre .1)
+    uses-room _ _ _ _ _ _ _ _ _ _ _ _ _ _ (c .before .before .before .before .before .before .before .before .pre .1)
 
 cell-written-meet-requires : (t : ℕ) → cell-written-lts.Need-meet-requires (cell-written-claims t) (cell-written-at t) cell-written.Post
 cell-written-meet-requires t c κs =
@@ -286,7 +269,7 @@ cell-written-meet-requires t c κs =
 
 cell-written-kept-requires : (t : ℕ) → cell-written-lts.Need-kept-requires (cell-written-claims t) (cell-written-at t) cell-written.Post
 cell-written-kept-requires t c κs =
-    (firsts-room _ _ _ _ _ _ _ _ _ _ _ _ _ _ (c .before .before .before .before .before .before .before .before .before .before .pre .1), cell-room _ _ _ _ _ _ _ _ _ _ _ _ _ _ (c .before .before .before .before .before .before .before .before .before .before .pre .1))
+    (firsts-room _ _ _ _ _ _ _ _ _ _ _ _ _ _ (c .before .before .before .before .before .before .before .before .before .before .before .before .pre .1), cell-room _ _ _ _ _ _ _ _ _ _ _ _ _ _ (c .before .before .before .before .before .before .before .before .before .before .before .before .pre .1))
 
 cell-written-same-length : (t : ℕ) → cell-written-lts.Need-same-length (cell-written-claims t) (cell-written-at t) cell-written.Post
 cell-written-same-length t c =
@@ -296,9 +279,17 @@ cell-written-returns : (t : ℕ) → cell-written-lts.Need-returns (cell-written
 cell-written-returns t c =
     untouched-moved _ _ _ _ _ _ _ _ _ _ _ _ _ _ _ (c .before .before .before .before .uses-at .ensures) (sym (c .before .before .before .meet .ensures) ∙ not-true _ (c .before .before .if1 .taken)) _ (gives-untouched _ _ _ _ _ _ _ _ _ _ _ _ _ _ _ _ (c .kept .ensures .0) (c .before .before .before .before .uses-at .ensures) _ (sym (c .before .before .before .meet .ensures) ∙ not-true _ (c .before .before .if1 .taken)) refl (c .kept .ensures .1) (c .kept .ensures .2))
 
-cell-written-tree-written-requires : (t : ℕ) → cell-written-lts.Need-tree-written-requires (cell-written-claims t) (cell-written-at t) cell-written.Post
-cell-written-tree-written-requires t c κs =
-    (omega (arith, c .before .before .before .before .before .before .before .before .before .before .pre .0), touched-ready _ _ _ _ _ _ _ _ _ _ _ _ _ _ (c .before .before .before .before .before .before .before .before .before .before .pre .1) _ _ (c .before .before .before .uses-at .ensures) (c .before .before .meet .ensures) (not-false _ (c .before .if1 .left)))
+cell-written-kind-at-requires : (t : ℕ) → cell-written-lts.Need-kind-at-requires (cell-written-claims t) (cell-written-at t) cell-written.Post
+cell-written-kind-at-requires t c κs =
+    record-room _ _ _ _ _ _ _ _ _ _ _ _ _ _ (c .before .before .before .before .before .before .before .before .before .before .before .pre .1)
+
+cell-written-literal-outcome-requires : (t : ℕ) → cell-written-lts.Need-literal-outcome-requires (cell-written-claims t) (cell-written-at t) cell-written.Post
+cell-written-literal-outcome-requires t c κs =
+    literal-ready _ _ _ _ _ _ _ _ _ _ _ _ _ _ (c .before .before .before .before .before .before .before .before .before .before .before .before .before .pre .1) _ (c .before .kind-at .ensures) (c .if2 .taken)
+
+cell-written-put-cell-requires : (t : ℕ) → cell-written-lts.Need-put-cell-requires (cell-written-claims t) (cell-written-at t) cell-written.Post
+cell-written-put-cell-requires t c κs =
+    (firsts-room _ _ _ _ _ _ _ _ _ _ _ _ _ _ (c .before .before .before .before .before .before .before .before .before .before .before .before .before .before .before .pre .1), cell-room _ _ _ _ _ _ _ _ _ _ _ _ _ _ (c .before .before .before .before .before .before .before .before .before .before .before .before .before .before .before .pre .1))
 
 cell-written-same-length-2 : (t : ℕ) → cell-written-lts.Need-same-length-2 (cell-written-claims t) (cell-written-at t) cell-written.Post
 cell-written-same-length-2 t c =
@@ -306,83 +297,75 @@ cell-written-same-length-2 t c =
 
 cell-written-returns-2 : (t : ℕ) → cell-written-lts.Need-returns-2 (cell-written-claims t) (cell-written-at t) cell-written.Post
 cell-written-returns-2 t c =
-    c .before .before .tree-written .ensures
+    literal-moved _ _ _ _ _ _ _ _ _ _ _ _ _ _ _ (c .before .before .before .before .before .before .before .before .before .uses-at .ensures) _ (c .before .before .before .before .before .before .kind-at .ensures) _ (gives-literal _ _ _ _ _ _ _ _ _ _ _ _ _ _ _ _ (c .before .before .before .before .before .before .before .before .before .before .cell-at .ensures) (c .before .before .before .before .before .before .before .before .before .uses-at .ensures) _ (sym (c .before .before .before .before .before .before .before .before .meet .ensures) ∙ not-false _ (c .before .before .before .before .before .before .before .if1 .left)) (c .before .before .before .before .before .before .kind-at .ensures) _ _ (c .before .before .before .before .before .if2 .taken) (c .before .before .before .before .literal-outcome .ensures .0) (c .before .before .before .before .literal-outcome .ensures .1, refl, c .before .before .before .before .literal-outcome .ensures .2)) _ refl _ _ (c .before .before .put-cell .ensures) (c .before .before .before .before .before .if2 .taken) refl
 
-inner-written-kind-at-requires : (t : ℕ) → inner-written-lts.Need-kind-at-requires (inner-written-claims t) (inner-written-at t) inner-written.Post
-inner-written-kind-at-requires t c κs =
-    record-room _ _ _ _ _ _ _ _ _ _ _ _ _ _ (c .before .before .before .before .before .before .pre .1 .begins)
-
-inner-written-cell-at-requires : (t : ℕ) → inner-written-lts.Need-cell-at-requires (inner-written-claims t) (inner-written-at t) inner-written.Post
-inner-written-cell-at-requires t c κs =
-    (firsts-room _ _ _ _ _ _ _ _ _ _ _ _ _ _ (c .before .before .before .before .before .before .before .before .pre .1 .begins), cell-room _ _ _ _ _ _ _ _ _ _ _ _ _ _ (c .before .before .before .before .before .before .before .before .pre .1 .begins))
-
-inner-written-adds-of-requires : (t : ℕ) → inner-written-lts.Need-adds-of-requires (inner-written-claims t) (inner-written-at t) inner-written.Post
-inner-written-adds-of-requires t c κs =
+cell-written-adds-of-requires : (t : ℕ) → cell-written-lts.Need-adds-of-requires (cell-written-claims t) (cell-written-at t) cell-written.Post
+cell-written-adds-of-requires t c κs =
     search needs
 
-inner-written-begin-requires : (t : ℕ) → inner-written-lts.Need-begin-requires (inner-written-claims t) (inner-written-at t) inner-written.Post
-inner-written-begin-requires t c κs =
+cell-written-begin-requires : (t : ℕ) → cell-written-lts.Need-begin-requires (cell-written-claims t) (cell-written-at t) cell-written.Post
+cell-written-begin-requires t c κs =
     search needs
 
-inner-written-is-quantifier-requires : (t : ℕ) → inner-written-lts.Need-is-quantifier-requires (inner-written-claims t) (inner-written-at t) inner-written.Post
-inner-written-is-quantifier-requires t c κs =
+cell-written-end-at-requires : (t : ℕ) → cell-written-lts.Need-end-at-requires (cell-written-claims t) (cell-written-at t) cell-written.Post
+cell-written-end-at-requires t c κs =
+    ends-room _ _ _ _ _ _ _ _ _ _ _ _ _ _ (c .before .before .before .before .before .before .before .before .before .before .before .before .before .before .before .pre .1)
+
+cell-written-is-quantifier-requires : (t : ℕ) → cell-written-lts.Need-is-quantifier-requires (cell-written-claims t) (cell-written-at t) cell-written.Post
+cell-written-is-quantifier-requires t c κs =
     search needs
 
-inner-written-add-ports-written : (t : ℕ) → inner-written-lts.Need-add-ports-written (inner-written-claims t) (inner-written-at t) inner-written.Post
-inner-written-add-ports-written t c =
-    omega (arith, node-low _ _ _ _ _ _ _ _ _ _ _ _ _ _ (c .before .before .before .before .before .before .before .before .before .before .before .before .before .before .pre .1 .begins))
+cell-written-add-ports-written : (t : ℕ) → cell-written-lts.Need-add-ports-written (cell-written-claims t) (cell-written-at t) cell-written.Post
+cell-written-add-ports-written t c =
+    omega (arith, node-low _ _ _ _ _ _ _ _ _ _ _ _ _ _ (c .before .before .before .before .before .before .before .before .before .before .before .before .before .before .before .before .before .before .before .pre .1))
 
-inner-written-mul-ports-written : (t : ℕ) → inner-written-lts.Need-mul-ports-written (inner-written-claims t) (inner-written-at t) inner-written.Post
-inner-written-mul-ports-written t c =
-    record { fits = times-fits _ _ (place-low _ _ _ _ _ _ _ _ _ _ _ _ _ _ (c .before .before .before .before .before .before .before .before .before .before .before .before .before .before .pre .1 .begins)) }
+cell-written-mul-ports-written : (t : ℕ) → cell-written-lts.Need-mul-ports-written (cell-written-claims t) (cell-written-at t) cell-written.Post
+cell-written-mul-ports-written t c =
+    record { fits = times-fits _ _ (place-low _ _ _ _ _ _ _ _ _ _ _ _ _ _ (c .before .before .before .before .before .before .before .before .before .before .before .before .before .before .before .before .before .before .before .pre .1)) }
 
-inner-written-ports-written-requires : (t : ℕ) → inner-written-lts.Need-ports-written-requires (inner-written-claims t) (inner-written-at t) inner-written.Post
-inner-written-ports-written-requires t c κs =
-    (omega (arith, c .before .before .before .before .before .before .before .before .before .before .before .before .before .before .pre .0, node-low _ _ _ _ _ _ _ _ _ _ _ _ _ _ (c .before .before .before .before .before .before .before .before .before .before .before .before .before .before .pre .1 .begins)), ports-ready _ _ _ _ _ _ _ _ _ _ _ _ _ _ (c .before .before .before .before .before .before .before .before .before .before .before .before .before .before .pre .1 .begins) _ _ _ _ _ (c .before .before .before .before .before .cell-at .ensures) (c .before .before .before .before .before .before .before .kind-at .ensures) refl (c .before .before .before .before .adds-of .ensures) (c .before .before .before .begin .ensures) (sym (c .before .before .is-quantifier .ensures) ∙ c .before .if1 .taken))
+cell-written-ports-written-requires : (t : ℕ) → cell-written-lts.Need-ports-written-requires (cell-written-claims t) (cell-written-at t) cell-written.Post
+cell-written-ports-written-requires t c κs =
+    (omega (arith, c .before .before .before .before .before .before .before .before .before .before .before .before .before .before .before .before .before .before .before .pre .0, node-low _ _ _ _ _ _ _ _ _ _ _ _ _ _ (c .before .before .before .before .before .before .before .before .before .before .before .before .before .before .before .before .before .before .before .pre .1)), ports-ready _ _ _ _ _ _ _ _ _ _ _ _ _ _ (c .before .before .before .before .before .before .before .before .before .before .before .before .before .before .before .before .before .before .before .pre .1) _ _ _ _ _ (c .before .before .before .before .before .before .before .before .before .before .before .cell-at .ensures) (c .before .before .before .before .before .before .before .kind-at .ensures) (c .before .before .before .end-at .ensures) (c .before .before .before .before .before .adds-of .ensures) (c .before .before .before .before .begin .ensures) (sym (c .before .before .is-quantifier .ensures) ∙ c .before .if3 .taken))
 
-inner-written-put-cell-requires : (t : ℕ) → inner-written-lts.Need-put-cell-requires (inner-written-claims t) (inner-written-at t) inner-written.Post
-inner-written-put-cell-requires t c κs =
-    (firsts-room _ _ _ _ _ _ _ _ _ _ _ _ _ _ (c .before .before .before .before .before .before .before .before .before .before .before .before .before .before .before .before .before .before .pre .1 .begins), room-kept _ (c .before .before .before .before .before .before .before .before .before .before .before .before .before .before .before .before .before .before .args .cells .now) (c .before .before .before .ports-written .last .1 .1 .1 .1 .1 .0) (c .before .before .before .ports-written .kept .1 .1 .1 .1 .1 .0) (cell-room _ _ _ _ _ _ _ _ _ _ _ _ _ _ (c .before .before .before .before .before .before .before .before .before .before .before .before .before .before .before .before .before .before .pre .1 .begins)))
+cell-written-put-cell-requires-2 : (t : ℕ) → cell-written-lts.Need-put-cell-requires-2 (cell-written-claims t) (cell-written-at t) cell-written.Post
+cell-written-put-cell-requires-2 t c κs =
+    (firsts-room _ _ _ _ _ _ _ _ _ _ _ _ _ _ (c .before .before .before .before .before .before .before .before .before .before .before .before .before .before .before .before .before .before .before .before .before .before .before .pre .1), room-kept _ (c .before .before .before .before .before .before .before .before .before .before .before .before .before .before .before .before .before .before .before .before .before .before .before .args .cells .now) (c .before .before .before .ports-written .last .1 .1 .1 .1 .1 .0) (c .before .before .before .ports-written .kept .1 .1 .1 .1 .1 .0) (cell-room _ _ _ _ _ _ _ _ _ _ _ _ _ _ (c .before .before .before .before .before .before .before .before .before .before .before .before .before .before .before .before .before .before .before .before .before .before .before .pre .1)))
 
-inner-written-outcome-requires : (t : ℕ) → inner-written-lts.Need-outcome-requires (inner-written-claims t) (inner-written-at t) inner-written.Post
-inner-written-outcome-requires t c κs =
+cell-written-outcome-requires : (t : ℕ) → cell-written-lts.Need-outcome-requires (cell-written-claims t) (cell-written-at t) cell-written.Post
+cell-written-outcome-requires t c κs =
     search needs
 
-inner-written-same-length : (t : ℕ) → inner-written-lts.Need-same-length (inner-written-claims t) (inner-written-at t) inner-written.Post
-inner-written-same-length t c =
-    c .before .before .before .put-cell .kept .1 .1 .1 .1 .0 ∙ c .before .before .before .before .before .before .before .ports-written .kept .1 .1 .1 .1 .1 .0
+cell-written-same-length-3 : (t : ℕ) → cell-written-lts.Need-same-length-3 (cell-written-claims t) (cell-written-at t) cell-written.Post
+cell-written-same-length-3 t c =
+    c .before .before .before .put-cell2 .kept .1 .1 .1 .1 .0 ∙ c .before .before .before .before .before .before .before .ports-written .kept .1 .1 .1 .1 .1 .0
 
-inner-written-returns : (t : ℕ) → inner-written-lts.Need-returns (inner-written-claims t) (inner-written-at t) inner-written.Post
-inner-written-returns t c =
-    ports-moved _ _ _ _ _ _ _ _ _ _ _ _ _ _ _ refl _ (c .before .before .before .before .before .before .before .before .before .before .before .before .before .before .before .kind-at .ensures) _ (gives-ports _ _ _ _ _ _ _ _ _ _ _ _ _ _ _ _ (c .before .before .before .before .before .before .before .before .before .before .before .before .before .cell-at .ensures) refl _ (c .before .before .before .before .before .before .before .before .before .before .before .before .before .before .before .before .before .before .before .before .before .before .pre .1 .touched) (c .before .before .before .before .before .before .before .before .before .before .before .before .before .before .before .kind-at .ensures) _ _ _ _ _ refl (c .before .before .before .before .before .before .before .before .before .before .before .before .adds-of .ensures) (inner-low _ _ (c .before .before .before .before .before .before .before .before .before .before .before .before .before .before .before .kind-at .ensures) (c .before .before .before .before .before .before .before .before .before .before .before .before .before .before .before .before .before .before .before .before .before .before .pre .1 .inner)) (c .before .before .before .before .before .before .before .before .before .before .before .begin .ensures) (c .outcome .ensures) (sym (c .before .before .before .before .before .before .before .before .before .before .is-quantifier .ensures) ∙ c .before .before .before .before .before .before .before .before .before .if1 .taken) (c .before .before .before .before .before .before .before .ports-written .ensures .0)) _ (c .outcome .ensures .1) _ _ (c .before .before .before .put-cell .ensures) (sym (c .before .before .before .before .before .before .before .before .before .before .is-quantifier .ensures) ∙ c .before .before .before .before .before .before .before .before .before .if1 .taken) (c .before .before .before .before .before .before .before .ports-written .ensures .1)
+cell-written-returns-3 : (t : ℕ) → cell-written-lts.Need-returns-3 (cell-written-claims t) (cell-written-at t) cell-written.Post
+cell-written-returns-3 t c =
+    ports-moved _ _ _ _ _ _ _ _ _ _ _ _ _ _ _ (c .before .before .before .before .before .before .before .before .before .before .before .before .before .before .before .before .before .before .uses-at .ensures) _ (c .before .before .before .before .before .before .before .before .before .before .before .before .before .before .before .kind-at .ensures) _ (gives-ports _ _ _ _ _ _ _ _ _ _ _ _ _ _ _ _ (c .before .before .before .before .before .before .before .before .before .before .before .before .before .before .before .before .before .before .before .cell-at .ensures) (c .before .before .before .before .before .before .before .before .before .before .before .before .before .before .before .before .before .before .uses-at .ensures) _ (sym (c .before .before .before .before .before .before .before .before .before .before .before .before .before .before .before .before .before .meet .ensures) ∙ not-false _ (c .before .before .before .before .before .before .before .before .before .before .before .before .before .before .before .before .if1 .left)) (c .before .before .before .before .before .before .before .before .before .before .before .before .before .before .before .kind-at .ensures) _ _ _ _ _ (c .before .before .before .before .before .before .before .before .before .before .before .end-at .ensures) (c .before .before .before .before .before .before .before .before .before .before .before .before .before .adds-of .ensures) (c .before .before .before .before .before .before .before .before .before .before .before .before .before .before .if2 .left) (c .before .before .before .before .before .before .before .before .before .before .before .before .begin .ensures) (c .outcome .ensures) (sym (c .before .before .before .before .before .before .before .before .before .before .is-quantifier .ensures) ∙ c .before .before .before .before .before .before .before .before .before .if3 .taken) (c .before .before .before .before .before .before .before .ports-written .ensures .0)) _ (c .outcome .ensures .1) _ _ (c .before .before .before .put-cell2 .ensures) (sym (c .before .before .before .before .before .before .before .before .before .before .is-quantifier .ensures) ∙ c .before .before .before .before .before .before .before .before .before .if3 .taken) (c .before .before .before .before .before .before .before .ports-written .ensures .1)
 
-inner-written-add-trees-written : (t : ℕ) → inner-written-lts.Need-add-trees-written (inner-written-claims t) (inner-written-at t) inner-written.Post
-inner-written-add-trees-written t c =
-    omega (arith, node-low _ _ _ _ _ _ _ _ _ _ _ _ _ _ (c .before .before .before .before .before .before .before .before .before .before .before .before .before .before .pre .1 .begins))
+cell-written-add-trees-written : (t : ℕ) → cell-written-lts.Need-add-trees-written (cell-written-claims t) (cell-written-at t) cell-written.Post
+cell-written-add-trees-written t c =
+    omega (arith, node-low _ _ _ _ _ _ _ _ _ _ _ _ _ _ (c .before .before .before .before .before .before .before .before .before .before .before .before .before .before .before .before .before .before .before .pre .1))
 
-inner-written-end-at-requires : (t : ℕ) → inner-written-lts.Need-end-at-requires (inner-written-claims t) (inner-written-at t) inner-written.Post
-inner-written-end-at-requires t c κs =
-    ends-room _ _ _ _ _ _ _ _ _ _ _ _ _ _ (c .before .before .before .before .before .before .before .before .before .before .before .before .before .before .pre .1 .begins)
+cell-written-trees-written-requires : (t : ℕ) → cell-written-lts.Need-trees-written-requires (cell-written-claims t) (cell-written-at t) cell-written.Post
+cell-written-trees-written-requires t c κs =
+    (omega (arith, c .before .before .before .before .before .before .before .before .before .before .before .before .before .before .before .before .before .before .before .pre .0, node-low _ _ _ _ _ _ _ _ _ _ _ _ _ _ (c .before .before .before .before .before .before .before .before .before .before .before .before .before .before .before .before .before .before .before .pre .1)), trees-ready _ _ _ _ _ _ _ _ _ _ _ _ _ _ (c .before .before .before .before .before .before .before .before .before .before .before .before .before .before .before .before .before .before .before .pre .1) _ _ _ _ _ (c .before .before .before .before .before .before .before .before .before .before .before .cell-at .ensures) (c .before .before .before .before .before .before .before .kind-at .ensures) (c .before .before .before .end-at .ensures) (c .before .before .before .before .before .adds-of .ensures) (c .before .before .before .before .begin .ensures) (c .before .before .before .before .before .before .if2 .left) (sym (c .before .before .is-quantifier .ensures) ∙ c .before .if3 .left))
 
-inner-written-trees-written-requires : (t : ℕ) → inner-written-lts.Need-trees-written-requires (inner-written-claims t) (inner-written-at t) inner-written.Post
-inner-written-trees-written-requires t c κs =
-    (omega (arith, c .before .before .before .before .before .before .before .before .before .before .before .before .before .before .before .pre .0, node-low _ _ _ _ _ _ _ _ _ _ _ _ _ _ (c .before .before .before .before .before .before .before .before .before .before .before .before .before .before .before .pre .1 .begins)), trees-ready _ _ _ _ _ _ _ _ _ _ _ _ _ _ (c .before .before .before .before .before .before .before .before .before .before .before .before .before .before .before .pre .1 .begins) _ _ _ _ _ (c .before .before .before .before .before .before .cell-at .ensures) (c .before .before .before .before .before .before .before .before .kind-at .ensures) (c .end-at .ensures) (c .before .before .before .before .before .adds-of .ensures) (c .before .before .before .before .begin .ensures) (inner-low _ _ (c .before .before .before .before .before .before .before .before .kind-at .ensures) (c .before .before .before .before .before .before .before .before .before .before .before .before .before .before .before .pre .1 .inner)) (sym (c .before .before .before .is-quantifier .ensures) ∙ c .before .before .if1 .left))
+cell-written-put-cell-requires-3 : (t : ℕ) → cell-written-lts.Need-put-cell-requires-3 (cell-written-claims t) (cell-written-at t) cell-written.Post
+cell-written-put-cell-requires-3 t c κs =
+    (firsts-room _ _ _ _ _ _ _ _ _ _ _ _ _ _ (c .before .before .before .before .before .before .before .before .before .before .before .before .before .before .before .before .before .before .before .before .before .before .before .pre .1), room-kept _ (c .before .before .before .before .before .before .before .before .before .before .before .before .before .before .before .before .before .before .before .before .before .before .before .args .cells .now) (c .before .before .before .trees-written .last .1 .1 .1 .1 .1 .0) (c .before .before .before .trees-written .kept .1 .1 .1 .1 .1 .0) (cell-room _ _ _ _ _ _ _ _ _ _ _ _ _ _ (c .before .before .before .before .before .before .before .before .before .before .before .before .before .before .before .before .before .before .before .before .before .before .before .pre .1)))
 
-inner-written-put-cell-requires-2 : (t : ℕ) → inner-written-lts.Need-put-cell-requires-2 (inner-written-claims t) (inner-written-at t) inner-written.Post
-inner-written-put-cell-requires-2 t c κs =
-    (firsts-room _ _ _ _ _ _ _ _ _ _ _ _ _ _ (c .before .before .before .before .before .before .before .before .before .before .before .before .before .before .before .before .before .before .before .pre .1 .begins), room-kept _ (c .before .before .before .before .before .before .before .before .before .before .before .before .before .before .before .before .before .before .before .args .cells .now) (c .before .before .before .trees-written .last .1 .1 .1 .1 .1 .0) (c .before .before .before .trees-written .kept .1 .1 .1 .1 .1 .0) (cell-room _ _ _ _ _ _ _ _ _ _ _ _ _ _ (c .before .before .before .before .before .before .before .before .before .before .before .before .before .before .before .before .before .before .before .pre .1 .begins)))
-
-inner-written-outcome-requires-2 : (t : ℕ) → inner-written-lts.Need-outcome-requires-2 (inner-written-claims t) (inner-written-at t) inner-written.Post
-inner-written-outcome-requires-2 t c κs =
+cell-written-outcome-requires-2 : (t : ℕ) → cell-written-lts.Need-outcome-requires-2 (cell-written-claims t) (cell-written-at t) cell-written.Post
+cell-written-outcome-requires-2 t c κs =
     search needs
 
-inner-written-same-length-2 : (t : ℕ) → inner-written-lts.Need-same-length-2 (inner-written-claims t) (inner-written-at t) inner-written.Post
-inner-written-same-length-2 t c =
-    c .before .before .before .put-cell2 .kept .1 .1 .1 .1 .0 ∙ c .before .before .before .before .before .before .before .trees-written .kept .1 .1 .1 .1 .1 .0
+cell-written-same-length-4 : (t : ℕ) → cell-written-lts.Need-same-length-4 (cell-written-claims t) (cell-written-at t) cell-written.Post
+cell-written-same-length-4 t c =
+    c .before .before .before .put-cell3 .kept .1 .1 .1 .1 .0 ∙ c .before .before .before .before .before .before .before .trees-written .kept .1 .1 .1 .1 .1 .0
 
-inner-written-returns-2 : (t : ℕ) → inner-written-lts.Need-returns-2 (inner-written-claims t) (inner-written-at t) inner-written.Post
-inner-written-returns-2 t c =
-    trees-moved _ _ _ _ _ _ _ _ _ _ _ _ _ _ _ refl _ (c .before .before .before .before .before .before .before .before .before .before .before .before .before .before .before .before .kind-at .ensures) _ (gives-trees _ _ _ _ _ _ _ _ _ _ _ _ _ _ _ _ (c .before .before .before .before .before .before .before .before .before .before .before .before .before .before .cell-at .ensures) refl _ (c .before .before .before .before .before .before .before .before .before .before .before .before .before .before .before .before .before .before .before .before .before .before .before .pre .1 .touched) (c .before .before .before .before .before .before .before .before .before .before .before .before .before .before .before .before .kind-at .ensures) _ _ _ _ _ (c .before .before .before .before .before .before .before .before .end-at .ensures) (c .before .before .before .before .before .before .before .before .before .before .before .before .before .adds-of .ensures) (inner-low _ _ (c .before .before .before .before .before .before .before .before .before .before .before .before .before .before .before .before .kind-at .ensures) (c .before .before .before .before .before .before .before .before .before .before .before .before .before .before .before .before .before .before .before .before .before .before .before .pre .1 .inner)) (c .before .before .before .before .before .before .before .before .before .before .before .before .begin .ensures) (c .outcome2 .ensures) (sym (c .before .before .before .before .before .before .before .before .before .before .before .is-quantifier .ensures) ∙ c .before .before .before .before .before .before .before .before .before .before .if1 .left) (c .before .before .before .before .before .before .before .trees-written .ensures .0)) _ (c .outcome2 .ensures .1) _ _ (c .before .before .before .put-cell2 .ensures) _ (c .before .before .before .before .before .before .before .before .end-at .ensures) (inner-low _ _ (c .before .before .before .before .before .before .before .before .before .before .before .before .before .before .before .before .kind-at .ensures) (c .before .before .before .before .before .before .before .before .before .before .before .before .before .before .before .before .before .before .before .before .before .before .before .pre .1 .inner)) (sym (c .before .before .before .before .before .before .before .before .before .before .before .is-quantifier .ensures) ∙ c .before .before .before .before .before .before .before .before .before .before .if1 .left) (c .before .before .before .before .before .before .before .trees-written .ensures .1)
+cell-written-returns-4 : (t : ℕ) → cell-written-lts.Need-returns-4 (cell-written-claims t) (cell-written-at t) cell-written.Post
+cell-written-returns-4 t c =
+    trees-moved _ _ _ _ _ _ _ _ _ _ _ _ _ _ _ (c .before .before .before .before .before .before .before .before .before .before .before .before .before .before .before .before .before .before .uses-at .ensures) _ (c .before .before .before .before .before .before .before .before .before .before .before .before .before .before .before .kind-at .ensures) _ (gives-trees _ _ _ _ _ _ _ _ _ _ _ _ _ _ _ _ (c .before .before .before .before .before .before .before .before .before .before .before .before .before .before .before .before .before .before .before .cell-at .ensures) (c .before .before .before .before .before .before .before .before .before .before .before .before .before .before .before .before .before .before .uses-at .ensures) _ (sym (c .before .before .before .before .before .before .before .before .before .before .before .before .before .before .before .before .before .meet .ensures) ∙ not-false _ (c .before .before .before .before .before .before .before .before .before .before .before .before .before .before .before .before .if1 .left)) (c .before .before .before .before .before .before .before .before .before .before .before .before .before .before .before .kind-at .ensures) _ _ _ _ _ (c .before .before .before .before .before .before .before .before .before .before .before .end-at .ensures) (c .before .before .before .before .before .before .before .before .before .before .before .before .before .adds-of .ensures) (c .before .before .before .before .before .before .before .before .before .before .before .before .before .before .if2 .left) (c .before .before .before .before .before .before .before .before .before .before .before .before .begin .ensures) (c .outcome2 .ensures) (sym (c .before .before .before .before .before .before .before .before .before .before .is-quantifier .ensures) ∙ c .before .before .before .before .before .before .before .before .before .if3 .left) (c .before .before .before .before .before .before .before .trees-written .ensures .0)) _ (c .outcome2 .ensures .1) _ _ (c .before .before .before .put-cell3 .ensures) _ (c .before .before .before .before .before .before .before .before .before .before .before .end-at .ensures) (c .before .before .before .before .before .before .before .before .before .before .before .before .before .before .if2 .left) (sym (c .before .before .before .before .before .before .before .before .before .before .is-quantifier .ensures) ∙ c .before .before .before .before .before .before .before .before .before .if3 .left) (c .before .before .before .before .before .before .before .trees-written .ensures .1)
 
 pair-written-add-cell-written : (t : ℕ) → pair-written-lts.Need-add-cell-written (pair-written-claims t) (pair-written-at t) pair-written.Post
 pair-written-add-cell-written t c =
@@ -946,9 +929,17 @@ tree-written-kind-at-requires : (t : ℕ) → tree-written-lts.Need-kind-at-requ
 tree-written-kind-at-requires t c κs =
     record-room _ _ _ _ _ _ _ _ _ _ _ _ _ _ (c .before .before .before .before .before .before .pre .1 .begins)
 
-tree-written-inner-written-requires : (t : ℕ) → tree-written-lts.Need-inner-written-requires (tree-written-claims t) (tree-written-at t) tree-written.Post
-tree-written-inner-written-requires t c κs =
-    (omega (arith, c .before .before .before .before .before .before .before .before .before .pre .0), inner-ready _ _ _ _ _ _ _ _ _ _ _ _ _ _ (c .before .before .before .before .before .before .before .before .before .pre .1) _ (c .before .before .kind-at .ensures) (c .before .if1 .taken))
+tree-written-cell-at-requires : (t : ℕ) → tree-written-lts.Need-cell-at-requires (tree-written-claims t) (tree-written-at t) tree-written.Post
+tree-written-cell-at-requires t c κs =
+    (firsts-room _ _ _ _ _ _ _ _ _ _ _ _ _ _ (c .before .before .before .before .before .before .before .before .before .pre .1 .begins), cell-room _ _ _ _ _ _ _ _ _ _ _ _ _ _ (c .before .before .before .before .before .before .before .before .before .pre .1 .begins))
+
+tree-written-literal-outcome-requires : (t : ℕ) → tree-written-lts.Need-literal-outcome-requires (tree-written-claims t) (tree-written-at t) tree-written.Post
+tree-written-literal-outcome-requires t c κs =
+    literal-ready _ _ _ _ _ _ _ _ _ _ _ _ _ _ (c .before .before .before .before .before .before .before .before .before .before .pre .1 .begins) _ (c .before .before .before .kind-at .ensures) (c .before .before .if1 .taken)
+
+tree-written-put-cell-requires : (t : ℕ) → tree-written-lts.Need-put-cell-requires (tree-written-claims t) (tree-written-at t) tree-written.Post
+tree-written-put-cell-requires t c κs =
+    (firsts-room _ _ _ _ _ _ _ _ _ _ _ _ _ _ (c .before .before .before .before .before .before .before .before .before .before .before .before .pre .1 .begins), cell-room _ _ _ _ _ _ _ _ _ _ _ _ _ _ (c .before .before .before .before .before .before .before .before .before .before .before .before .pre .1 .begins))
 
 tree-written-same-length : (t : ℕ) → tree-written-lts.Need-same-length (tree-written-claims t) (tree-written-at t) tree-written.Post
 tree-written-same-length t c =
@@ -956,31 +947,19 @@ tree-written-same-length t c =
 
 tree-written-returns : (t : ℕ) → tree-written-lts.Need-returns (tree-written-claims t) (tree-written-at t) tree-written.Post
 tree-written-returns t c =
-    c .before .before .inner-written .ensures
+    literal-moved _ _ _ _ _ _ _ _ _ _ _ _ _ _ _ refl _ (c .before .before .before .before .before .before .before .before .kind-at .ensures) _ (gives-literal _ _ _ _ _ _ _ _ _ _ _ _ _ _ _ _ (c .before .before .before .before .before .cell-at .ensures) refl _ (c .before .before .before .before .before .before .before .before .before .before .before .before .before .before .before .pre .1 .touched) (c .before .before .before .before .before .before .before .before .kind-at .ensures) _ _ (c .before .before .before .before .before .before .before .if1 .taken) (c .before .before .before .before .literal-outcome .ensures .0) (c .before .before .before .before .literal-outcome .ensures .1, refl, c .before .before .before .before .literal-outcome .ensures .2)) _ refl _ _ (c .before .before .put-cell .ensures) (c .before .before .before .before .before .before .before .if1 .taken) refl
 
-tree-written-cell-at-requires : (t : ℕ) → tree-written-lts.Need-cell-at-requires (tree-written-claims t) (tree-written-at t) tree-written.Post
-tree-written-cell-at-requires t c κs =
-    (firsts-room _ _ _ _ _ _ _ _ _ _ _ _ _ _ (c .before .before .before .before .before .before .before .before .before .pre .1 .begins), cell-room _ _ _ _ _ _ _ _ _ _ _ _ _ _ (c .before .before .before .before .before .before .before .before .before .pre .1 .begins))
-
-tree-written-literal-at-requires : (t : ℕ) → tree-written-lts.Need-literal-at-requires (tree-written-claims t) (tree-written-at t) tree-written.Post
-tree-written-literal-at-requires t c κs =
-    literal-ready _ _ _ _ _ _ _ _ _ _ _ _ _ _ (c .before .before .before .before .before .before .before .before .before .before .pre .1 .begins) _ (c .before .before .before .kind-at .ensures) (c .before .before .if1 .left)
-
-tree-written-put-cell-requires : (t : ℕ) → tree-written-lts.Need-put-cell-requires (tree-written-claims t) (tree-written-at t) tree-written.Post
-tree-written-put-cell-requires t c κs =
-    (firsts-room _ _ _ _ _ _ _ _ _ _ _ _ _ _ (c .before .before .before .before .before .before .before .before .before .before .before .before .pre .1 .begins), cell-room _ _ _ _ _ _ _ _ _ _ _ _ _ _ (c .before .before .before .before .before .before .before .before .before .before .before .before .pre .1 .begins))
-
-tree-written-outcome-requires : (t : ℕ) → tree-written-lts.Need-outcome-requires (tree-written-claims t) (tree-written-at t) tree-written.Post
-tree-written-outcome-requires t c κs =
-    search needs
+tree-written-cell-written-requires : (t : ℕ) → tree-written-lts.Need-cell-written-requires (tree-written-claims t) (tree-written-at t) tree-written.Post
+tree-written-cell-written-requires t c κs =
+    (omega (arith, c .before .before .before .before .before .before .before .before .before .pre .0), c .before .before .before .before .before .before .before .before .before .pre .1 .begins)
 
 tree-written-same-length-2 : (t : ℕ) → tree-written-lts.Need-same-length-2 (tree-written-claims t) (tree-written-at t) tree-written.Post
 tree-written-same-length-2 t c =
-    search needs
+    c .before .before .cell-written .kept .1 .1 .1 .1 .1 .0
 
 tree-written-returns-2 : (t : ℕ) → tree-written-lts.Need-returns-2 (tree-written-claims t) (tree-written-at t) tree-written.Post
 tree-written-returns-2 t c =
-    literal-moved _ _ _ _ _ _ _ _ _ _ _ _ _ _ _ refl _ (c .before .before .before .before .before .before .before .before .before .kind-at .ensures) _ (gives-literal _ _ _ _ _ _ _ _ _ _ _ _ _ _ _ _ (c .before .before .before .before .before .before .cell-at .ensures) refl _ (c .before .before .before .before .before .before .before .before .before .before .before .before .before .before .before .before .pre .1 .touched) (c .before .before .before .before .before .before .before .before .before .kind-at .ensures) _ _ (c .before .before .before .before .before .before .before .before .if1 .left) (c .before .before .before .before .before .literal-at .ensures) (c .outcome .ensures)) _ (c .outcome .ensures .1) _ _ (c .before .before .before .put-cell .ensures) (c .before .before .before .before .before .before .before .before .if1 .left) refl
+    c .before .before .cell-written .ensures
 
 abbrev trees-written-Inv-loop : trees-written-lts.InvT-loop
 trees-written-Inv-loop table firsts ends uses masks cells₀ ports sets c i until depth place digits word add sum₀ j₀ cells sum j = Ahead ports sets c table firsts ends uses masks cells₀ j₀ until depth place digits word add sum₀ j sum cells
@@ -1036,12 +1015,11 @@ trees-written-returns : (t : ℕ) → trees-written-lts.Need-returns (trees-writ
 trees-written-returns t c =
     ahead-last _ _ _ _ _ _ _ _ _ _ _ _ _ _ _ _ _ _ _ _ (c .before .loop .inv) (c .loop-test .left)
 
-pub +cell-written+inner-written+pair-written+ports-written+row-cells-written+row-tree-written+row-trees-written+row-written+tree-written+trees-written-spec :
+pub +cell-written+pair-written+ports-written+row-cells-written+row-tree-written+row-trees-written+row-written+tree-written+trees-written-spec :
     {M : Type 1} → statement M
-+cell-written+inner-written+pair-written+ports-written+row-cells-written+row-tree-written+row-trees-written+row-written+tree-written+trees-written-spec =
++cell-written+pair-written+ports-written+row-cells-written+row-tree-written+row-trees-written+row-written+tree-written+trees-written-spec =
     close
     μ-cell-written
-    μ-inner-written
     μ-pair-written
     μ-ports-written
     μ-row-cells-written
@@ -1053,36 +1031,34 @@ pub +cell-written+inner-written+pair-written+ports-written+row-cells-written+row
     (λ t. cell-written-lts.spec (cell-written-claims t)
     (cell-written-at t)
     cell-written.Post
+    (cell-written-cell-at-requires t)
     (cell-written-uses-at-requires t)
     (cell-written-meet-requires t)
     (cell-written-kept-requires t)
     (cell-written-same-length t)
     (cell-written-returns t)
-    (cell-written-tree-written-requires t)
+    (cell-written-kind-at-requires t)
+    (cell-written-literal-outcome-requires t)
+    (cell-written-put-cell-requires t)
     (cell-written-same-length-2 t)
-    (cell-written-returns-2 t))
-    (λ t. inner-written-lts.spec (inner-written-claims t)
-    (inner-written-at t)
-    inner-written.Post
-    (inner-written-kind-at-requires t)
-    (inner-written-cell-at-requires t)
-    (inner-written-adds-of-requires t)
-    (inner-written-begin-requires t)
-    (inner-written-is-quantifier-requires t)
-    (inner-written-add-ports-written t)
-    (inner-written-mul-ports-written t)
-    (inner-written-ports-written-requires t)
-    (inner-written-put-cell-requires t)
-    (inner-written-outcome-requires t)
-    (inner-written-same-length t)
-    (inner-written-returns t)
-    (inner-written-add-trees-written t)
-    (inner-written-end-at-requires t)
-    (inner-written-trees-written-requires t)
-    (inner-written-put-cell-requires-2 t)
-    (inner-written-outcome-requires-2 t)
-    (inner-written-same-length-2 t)
-    (inner-written-returns-2 t))
+    (cell-written-returns-2 t)
+    (cell-written-adds-of-requires t)
+    (cell-written-begin-requires t)
+    (cell-written-end-at-requires t)
+    (cell-written-is-quantifier-requires t)
+    (cell-written-add-ports-written t)
+    (cell-written-mul-ports-written t)
+    (cell-written-ports-written-requires t)
+    (cell-written-put-cell-requires-2 t)
+    (cell-written-outcome-requires t)
+    (cell-written-same-length-3 t)
+    (cell-written-returns-3 t)
+    (cell-written-add-trees-written t)
+    (cell-written-trees-written-requires t)
+    (cell-written-put-cell-requires-3 t)
+    (cell-written-outcome-requires-2 t)
+    (cell-written-same-length-4 t)
+    (cell-written-returns-4 t))
     (λ t. pair-written-lts.spec (pair-written-claims t)
     (pair-written-at t)
     pair-written.Post
@@ -1218,13 +1194,12 @@ pub +cell-written+inner-written+pair-written+ports-written+row-cells-written+row
     (tree-written-at t)
     tree-written.Post
     (tree-written-kind-at-requires t)
-    (tree-written-inner-written-requires t)
+    (tree-written-cell-at-requires t)
+    (tree-written-literal-outcome-requires t)
+    (tree-written-put-cell-requires t)
     (tree-written-same-length t)
     (tree-written-returns t)
-    (tree-written-cell-at-requires t)
-    (tree-written-literal-at-requires t)
-    (tree-written-put-cell-requires t)
-    (tree-written-outcome-requires t)
+    (tree-written-cell-written-requires t)
     (tree-written-same-length-2 t)
     (tree-written-returns-2 t))
     λ t. trees-written-lts.spec (trees-written-claims t)

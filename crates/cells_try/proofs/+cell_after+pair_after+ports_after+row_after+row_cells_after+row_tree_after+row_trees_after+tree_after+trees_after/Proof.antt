@@ -4,7 +4,7 @@ use Prim.Native.Nat.{ℕ, _+_, _-_, _*_, _<_}
 use native.Mathlib.Omega.{arith}
 use borrow.Author.Needs.{needs}
 use borrow.Author.Tests.{not-true, not-false}
-use Rattle.cells_try.proofs.Walking.{node-low, firsts-room, ends-room, uses-room, cell-room, record-room, place-low, times-fits, literal-ready, touched-ready, inner-ready, inner-low, ports-ready, trees-ready, gives-untouched, gives-literal, gives-ports, gives-trees, some-left, Onward, onward-first, onward-next, onward-last}
+use Rattle.cells_try.proofs.Walking.{node-low, firsts-room, ends-room, uses-room, cell-room, record-room, place-low, times-fits, literal-ready, touched-ready, ports-ready, trees-ready, gives-untouched, gives-literal, gives-ports, gives-trees, some-left, Onward, onward-first, onward-next, onward-last}
 use Rattle.cells_try.proofs.Rowing.{port-ready, first-ready, row-low, row-fits-64, digits-ready, row-within, part-room, part-old, port-gives, gives-literal-row, gives-joint-row, row-trees-ready, row-cells-ready, RowPassed, row-start, row-step, row-finished, joins-kept, joins-row, ports-row, any-row, ports-by-row, pair-of, pair-gives, pair-first, pair-next, pair-only, pair-second, pair-last, row-left, again, by-rows, RowsOnward, rows-onward-first, rows-onward-next, rows-onward-last}
 use Rattle.cells_sum.specs.declared.Sum.{Sum}
 use Rattle.cells_sum.specs.inner.Walk.{Joined}
@@ -12,34 +12,31 @@ use borrow.Fn.Kinds.{In}
 use borrow.Fn.PlainCycle.{Measures, is, falls, and}
 use Rattle.cells_try.proofs.cell_after.Reads as cell-after
 use Rattle.cells_try.proofs.cell_after.Kinds as cell-after-kinds
-use Rattle.cells_try.proofs.+cell_after+inner_after+pair_after+ports_after+row_after+row_cells_after+row_tree_after+row_trees_after+tree_after+trees_after.Lts-cell_after as cell-after-lts
-use Rattle.cells_try.proofs.inner_after.Reads as inner-after
-use Rattle.cells_try.proofs.inner_after.Kinds as inner-after-kinds
-use Rattle.cells_try.proofs.+cell_after+inner_after+pair_after+ports_after+row_after+row_cells_after+row_tree_after+row_trees_after+tree_after+trees_after.Lts-inner_after as inner-after-lts
+use Rattle.cells_try.proofs.+cell_after+pair_after+ports_after+row_after+row_cells_after+row_tree_after+row_trees_after+tree_after+trees_after.Lts-cell_after as cell-after-lts
 use Rattle.cells_try.proofs.pair_after.Reads as pair-after
 use Rattle.cells_try.proofs.pair_after.Kinds as pair-after-kinds
-use Rattle.cells_try.proofs.+cell_after+inner_after+pair_after+ports_after+row_after+row_cells_after+row_tree_after+row_trees_after+tree_after+trees_after.Lts-pair_after as pair-after-lts
+use Rattle.cells_try.proofs.+cell_after+pair_after+ports_after+row_after+row_cells_after+row_tree_after+row_trees_after+tree_after+trees_after.Lts-pair_after as pair-after-lts
 use Rattle.cells_try.proofs.ports_after.Reads as ports-after
 use Rattle.cells_try.proofs.ports_after.Kinds as ports-after-kinds
-use Rattle.cells_try.proofs.+cell_after+inner_after+pair_after+ports_after+row_after+row_cells_after+row_tree_after+row_trees_after+tree_after+trees_after.Lts-ports_after as ports-after-lts
+use Rattle.cells_try.proofs.+cell_after+pair_after+ports_after+row_after+row_cells_after+row_tree_after+row_trees_after+tree_after+trees_after.Lts-ports_after as ports-after-lts
 use Rattle.cells_try.proofs.row_after.Reads as row-after
 use Rattle.cells_try.proofs.row_after.Kinds as row-after-kinds
-use Rattle.cells_try.proofs.+cell_after+inner_after+pair_after+ports_after+row_after+row_cells_after+row_tree_after+row_trees_after+tree_after+trees_after.Lts-row_after as row-after-lts
+use Rattle.cells_try.proofs.+cell_after+pair_after+ports_after+row_after+row_cells_after+row_tree_after+row_trees_after+tree_after+trees_after.Lts-row_after as row-after-lts
 use Rattle.cells_try.proofs.row_cells_after.Reads as row-cells-after
 use Rattle.cells_try.proofs.row_cells_after.Kinds as row-cells-after-kinds
-use Rattle.cells_try.proofs.+cell_after+inner_after+pair_after+ports_after+row_after+row_cells_after+row_tree_after+row_trees_after+tree_after+trees_after.Lts-row_cells_after as row-cells-after-lts
+use Rattle.cells_try.proofs.+cell_after+pair_after+ports_after+row_after+row_cells_after+row_tree_after+row_trees_after+tree_after+trees_after.Lts-row_cells_after as row-cells-after-lts
 use Rattle.cells_try.proofs.row_tree_after.Reads as row-tree-after
 use Rattle.cells_try.proofs.row_tree_after.Kinds as row-tree-after-kinds
-use Rattle.cells_try.proofs.+cell_after+inner_after+pair_after+ports_after+row_after+row_cells_after+row_tree_after+row_trees_after+tree_after+trees_after.Lts-row_tree_after as row-tree-after-lts
+use Rattle.cells_try.proofs.+cell_after+pair_after+ports_after+row_after+row_cells_after+row_tree_after+row_trees_after+tree_after+trees_after.Lts-row_tree_after as row-tree-after-lts
 use Rattle.cells_try.proofs.row_trees_after.Reads as row-trees-after
 use Rattle.cells_try.proofs.row_trees_after.Kinds as row-trees-after-kinds
-use Rattle.cells_try.proofs.+cell_after+inner_after+pair_after+ports_after+row_after+row_cells_after+row_tree_after+row_trees_after+tree_after+trees_after.Lts-row_trees_after as row-trees-after-lts
+use Rattle.cells_try.proofs.+cell_after+pair_after+ports_after+row_after+row_cells_after+row_tree_after+row_trees_after+tree_after+trees_after.Lts-row_trees_after as row-trees-after-lts
 use Rattle.cells_try.proofs.tree_after.Reads as tree-after
 use Rattle.cells_try.proofs.tree_after.Kinds as tree-after-kinds
-use Rattle.cells_try.proofs.+cell_after+inner_after+pair_after+ports_after+row_after+row_cells_after+row_tree_after+row_trees_after+tree_after+trees_after.Lts-tree_after as tree-after-lts
+use Rattle.cells_try.proofs.+cell_after+pair_after+ports_after+row_after+row_cells_after+row_tree_after+row_trees_after+tree_after+trees_after.Lts-tree_after as tree-after-lts
 use Rattle.cells_try.proofs.trees_after.Reads as trees-after
 use Rattle.cells_try.proofs.trees_after.Kinds as trees-after-kinds
-use Rattle.cells_try.proofs.+cell_after+inner_after+pair_after+ports_after+row_after+row_cells_after+row_tree_after+row_trees_after+tree_after+trees_after.Lts-trees_after as trees-after-lts
+use Rattle.cells_try.proofs.+cell_after+pair_after+ports_after+row_after+row_cells_after+row_tree_after+row_trees_after+tree_after+trees_after.Lts-trees_after as trees-after-lts
 use Rattle.cells_row.proofs.begin_row.Reads as begin-row-reads
 use Rattle.cells_row.proofs.cells_from.Reads as cells-from-reads
 use Rattle.cells_row.proofs.copy_row.Reads as copy-row-reads
@@ -65,47 +62,45 @@ use Rattle.cells_walk.proofs.is_quantifier.Reads as is-quantifier-reads
 use Rattle.cells_walk.proofs.kept.Reads as kept-reads
 use Rattle.cells_walk.proofs.kind_at.Reads as kind-at-reads
 use Rattle.cells_walk.proofs.literal_at.Reads as literal-at-reads
+use Rattle.cells_walk.proofs.literal_outcome.Reads as literal-outcome-reads
 use Rattle.cells_walk.proofs.next_port.Reads as next-port-reads
 use Rattle.cells_walk.proofs.place_at.Reads as place-at-reads
 use Rattle.cells_walk.proofs.uses_at.Reads as uses-at-reads
 use Rattle.cells_walk.proofs.with_port.Reads as with-port-reads
 use Rattle.std.proofs.num.wrapping_add_u32.Reads as wrapping-add-u32-reads
-use Rattle.cells_try.proofs.+cell_after+inner_after+pair_after+ports_after+row_after+row_cells_after+row_tree_after+row_trees_after+tree_after+trees_after.{
+use Rattle.cells_try.proofs.+cell_after+pair_after+ports_after+row_after+row_cells_after+row_tree_after+row_trees_after+tree_after+trees_after.{
   statement,
 }
-use Rattle.cells_try.proofs.+cell_after+inner_after+pair_after+ports_after+row_after+row_cells_after+row_tree_after+row_trees_after+tree_after+trees_after.Tie.{
+use Rattle.cells_try.proofs.+cell_after+pair_after+ports_after+row_after+row_cells_after+row_tree_after+row_trees_after+tree_after+trees_after.Tie.{
   close,
 }
 
 abbrev μ-cell-after : Measures 6 cell-after-kinds.ps ℕ
-μ-cell-after κs a = 10 * (512 - a .1 .1 .1 .1 .1 .1 .1 .1 .1 .0) + 3
-
-abbrev μ-inner-after : Measures 6 inner-after-kinds.ps ℕ
-μ-inner-after κs a = 10 * (512 - a .1 .1 .1 .1 .1 .1 .1 .1 .1 .0) + 1
+μ-cell-after κs a = 8 * (512 - a .1 .1 .1 .1 .1 .1 .1 .1 .1 .0) + 1
 
 abbrev μ-pair-after : Measures 6 pair-after-kinds.ps ℕ
-μ-pair-after κs a = 10 * (512 - a .1 .1 .1 .1 .1 .1 .1 .1 .1 .0) + 4
+μ-pair-after κs a = 8 * (512 - a .1 .1 .1 .1 .1 .1 .1 .1 .1 .0) + 2
 
 abbrev μ-ports-after : Measures 6 ports-after-kinds.ps ℕ
-μ-ports-after κs a = 10 * (512 - a .1 .1 .1 .1 .1 .1 .1 .1 .1 .0) + 8
+μ-ports-after κs a = 8 * (512 - a .1 .1 .1 .1 .1 .1 .1 .1 .1 .0) + 6
 
 abbrev μ-row-after : Measures 7 row-after-kinds.ps ℕ
-μ-row-after κs a = 10 * (512 - a .1 .1 .1 .1 .1 .1 .1 .1 .1 .0) + 5
+μ-row-after κs a = 8 * (512 - a .1 .1 .1 .1 .1 .1 .1 .1 .1 .0) + 3
 
 abbrev μ-row-cells-after : Measures 7 row-cells-after-kinds.ps ℕ
-μ-row-cells-after κs a = 10 * (512 - a .1 .1 .1 .1 .1 .1 .1 .1 .1 .0) + 4
+μ-row-cells-after κs a = 8 * (512 - a .1 .1 .1 .1 .1 .1 .1 .1 .1 .0) + 2
 
 abbrev μ-row-tree-after : Measures 7 row-tree-after-kinds.ps ℕ
-μ-row-tree-after κs a = 10 * (512 - a .1 .1 .1 .1 .1 .1 .1 .1 .1 .0) + 6
+μ-row-tree-after κs a = 8 * (512 - a .1 .1 .1 .1 .1 .1 .1 .1 .1 .0) + 4
 
 abbrev μ-row-trees-after : Measures 7 row-trees-after-kinds.ps ℕ
-μ-row-trees-after κs a = 10 * (512 - a .1 .1 .1 .1 .1 .1 .1 .1 .1 .0) + 7
+μ-row-trees-after κs a = 8 * (512 - a .1 .1 .1 .1 .1 .1 .1 .1 .1 .0) + 5
 
 abbrev μ-tree-after : Measures 6 tree-after-kinds.ps ℕ
-μ-tree-after κs a = 10 * (512 - a .1 .1 .1 .1 .1 .1 .1 .1 .1 .0) + 2
+μ-tree-after κs a = 8 * (512 - a .1 .1 .1 .1 .1 .1 .1 .1 .1 .0) + 2
 
 abbrev μ-trees-after : Measures 6 trees-after-kinds.ps ℕ
-μ-trees-after κs a = 10 * (512 - a .1 .1 .1 .1 .1 .1 .1 .1 .1 .0) + 3
+μ-trees-after κs a = 8 * (512 - a .1 .1 .1 .1 .1 .1 .1 .1 .1 .0) + 3
 
 abbrev cell-after-at : ℕ → In 6 cell-after-kinds.ps
 cell-after-at t =
@@ -114,14 +109,6 @@ cell-after-at t =
 abbrev cell-after-below : ℕ → In 6 cell-after-kinds.ps
 cell-after-below t =
     and 6 cell-after-kinds.ps (falls 6 cell-after-kinds.ps _<_ μ-cell-after t) cell-after.Pre
-
-abbrev inner-after-at : ℕ → In 6 inner-after-kinds.ps
-inner-after-at t =
-    and 6 inner-after-kinds.ps (is 6 inner-after-kinds.ps μ-inner-after t) inner-after.Pre
-
-abbrev inner-after-below : ℕ → In 6 inner-after-kinds.ps
-inner-after-below t =
-    and 6 inner-after-kinds.ps (falls 6 inner-after-kinds.ps _<_ μ-inner-after t) inner-after.Pre
 
 abbrev pair-after-at : ℕ → In 6 pair-after-kinds.ps
 pair-after-at t =
@@ -212,11 +199,7 @@ trees-after-below t =
 
 -- what the callees of `cell-after` ask and give
 abbrev cell-after-claims : ℕ → cell-after-lts.Claims
-cell-after-claims t = (uses-at-reads.Asked, uses-at-reads.Learnt, meet-reads.Asked, meet-reads.Learnt, kept-reads.Asked, kept-reads.Learnt, tree-after-below t, tree-after.Post)
-
--- what the callees of `inner-after` ask and give
-abbrev inner-after-claims : ℕ → inner-after-lts.Claims
-inner-after-claims t = (kind-at-reads.Asked, kind-at-reads.Learnt, cell-at-reads.Asked, cell-at-reads.Learnt, adds-of-reads.Asked, adds-of-reads.Learnt, begin-reads.Asked, begin-reads.Learnt, is-quantifier-reads.Asked, is-quantifier-reads.Learnt, ports-after-below t, ports-after.Post, outcome-reads.Asked, outcome-reads.Learnt, end-at-reads.Asked, end-at-reads.Learnt, trees-after-below t, trees-after.Post)
+cell-after-claims t = (cell-at-reads.Asked, cell-at-reads.Learnt, uses-at-reads.Asked, uses-at-reads.Learnt, meet-reads.Asked, meet-reads.Learnt, kept-reads.Asked, kept-reads.Learnt, kind-at-reads.Asked, kind-at-reads.Learnt, literal-outcome-reads.Asked, literal-outcome-reads.Learnt, adds-of-reads.Asked, adds-of-reads.Learnt, begin-reads.Asked, begin-reads.Learnt, end-at-reads.Asked, end-at-reads.Learnt, is-quantifier-reads.Asked, is-quantifier-reads.Learnt, ports-after-below t, ports-after.Post, outcome-reads.Asked, outcome-reads.Learnt, trees-after-below t, trees-after.Post)
 
 -- what the callees of `pair-after` ask and give
 abbrev pair-after-claims : ℕ → pair-after-lts.Claims
@@ -244,15 +227,19 @@ row-trees-after-claims t = (row-tree-after-below t, row-tree-after.Post, wrappin
 
 -- what the callees of `tree-after` ask and give
 abbrev tree-after-claims : ℕ → tree-after-lts.Claims
-tree-after-claims t = (kind-at-reads.Asked, kind-at-reads.Learnt, inner-after-below t, inner-after.Post, cell-at-reads.Asked, cell-at-reads.Learnt, literal-at-reads.Asked, literal-at-reads.Learnt, outcome-reads.Asked, outcome-reads.Learnt)
+tree-after-claims t = (kind-at-reads.Asked, kind-at-reads.Learnt, cell-at-reads.Asked, cell-at-reads.Learnt, literal-outcome-reads.Asked, literal-outcome-reads.Learnt, cell-after-below t, cell-after.Post)
 
 -- what the callees of `trees-after` ask and give
 abbrev trees-after-claims : ℕ → trees-after-lts.Claims
 trees-after-claims t = (uses-at-reads.Asked, uses-at-reads.Learnt, meet-reads.Asked, meet-reads.Learnt, tree-after-below t, tree-after.Post, join-reads.Asked, join-reads.Learnt, kept-reads.Asked, kept-reads.Learnt, end-at-reads.Asked, end-at-reads.Learnt)
 
+cell-after-cell-at-requires : (t : ℕ) → cell-after-lts.Need-cell-at-requires (cell-after-claims t) (cell-after-at t) cell-after.Post
+cell-after-cell-at-requires t c κs =
+    (firsts-room _ _ _ _ _ _ _ _ _ _ _ _ _ _ (c .before .before .before .before .before .before .pre .1), cell-room _ _ _ _ _ _ _ _ _ _ _ _ _ _ (c .before .before .before .before .before .before .pre .1))
+
 cell-after-uses-at-requires : (t : ℕ) → cell-after-lts.Need-uses-at-requires (cell-after-claims t) (cell-after-at t) cell-after.Post
 cell-after-uses-at-requires t c κs =
-    uses-room _ _ _ _ _ _ _ _ _ _ _ _ _ _ (c .before .before .before .before .before .before .pre .1)
+    uses-room _ _ _ _ _ _ _ _ _ _ _ _ _ _ (c .before .before .before .before .before .before .before .pre .1)
 
 cell-after-meet-requires : (t : ℕ) → cell-after-lts.Need-meet-requires (cell-after-claims t) (cell-after-at t) cell-after.Post
 cell-after-meet-requires t c κs =
@@ -260,79 +247,75 @@ cell-after-meet-requires t c κs =
 
 cell-after-kept-requires : (t : ℕ) → cell-after-lts.Need-kept-requires (cell-after-claims t) (cell-after-at t) cell-after.Post
 cell-after-kept-requires t c κs =
-    (firsts-room _ _ _ _ _ _ _ _ _ _ _ _ _ _ (c .before .before .before .before .before .before .before .before .before .pre .1), cell-room _ _ _ _ _ _ _ _ _ _ _ _ _ _ (c .before .before .before .before .before .before .before .before .before .pre .1))
+    (firsts-room _ _ _ _ _ _ _ _ _ _ _ _ _ _ (c .before .before .before .before .before .before .before .before .before .before .pre .1), cell-room _ _ _ _ _ _ _ _ _ _ _ _ _ _ (c .before .before .before .before .before .before .before .before .before .before .pre .1))
 
 cell-after-returns : (t : ℕ) → cell-after-lts.Need-returns (cell-after-claims t) (cell-after-at t) cell-after.Post
 cell-after-returns t c =
     gives-untouched _ _ _ _ _ _ _ _ _ _ _ _ _ _ _ _ (c .kept .ensures .0) (c .before .before .before .uses-at .ensures) _ (sym (c .before .before .meet .ensures) ∙ not-true _ (c .before .if1 .taken)) refl (c .kept .ensures .1) (c .kept .ensures .2)
 
-cell-after-tree-after-requires : (t : ℕ) → cell-after-lts.Need-tree-after-requires (cell-after-claims t) (cell-after-at t) cell-after.Post
-cell-after-tree-after-requires t c κs =
-    (omega (arith, c .before .before .before .before .before .before .before .before .before .pre .0), touched-ready _ _ _ _ _ _ _ _ _ _ _ _ _ _ (c .before .before .before .before .before .before .before .before .before .pre .1) _ _ (c .before .before .uses-at .ensures) (c .before .meet .ensures) (not-false _ (c .if1 .left)))
+cell-after-kind-at-requires : (t : ℕ) → cell-after-lts.Need-kind-at-requires (cell-after-claims t) (cell-after-at t) cell-after.Post
+cell-after-kind-at-requires t c κs =
+    record-room _ _ _ _ _ _ _ _ _ _ _ _ _ _ (c .before .before .before .before .before .before .before .before .before .before .pre .1)
+
+cell-after-literal-outcome-requires : (t : ℕ) → cell-after-lts.Need-literal-outcome-requires (cell-after-claims t) (cell-after-at t) cell-after.Post
+cell-after-literal-outcome-requires t c κs =
+    literal-ready _ _ _ _ _ _ _ _ _ _ _ _ _ _ (c .before .before .before .before .before .before .before .before .before .before .before .before .pre .1) _ (c .before .kind-at .ensures) (c .if2 .taken)
 
 cell-after-returns-2 : (t : ℕ) → cell-after-lts.Need-returns-2 (cell-after-claims t) (cell-after-at t) cell-after.Post
 cell-after-returns-2 t c =
-    c .tree-after .ensures
+    gives-literal _ _ _ _ _ _ _ _ _ _ _ _ _ _ _ _ (c .before .before .before .before .before .before .cell-at .ensures) (c .before .before .before .before .before .uses-at .ensures) _ (sym (c .before .before .before .before .meet .ensures) ∙ not-false _ (c .before .before .before .if1 .left)) (c .before .before .kind-at .ensures) _ _ (c .before .if2 .taken) (c .literal-outcome .ensures .0) (c .literal-outcome .ensures .1, refl, c .literal-outcome .ensures .2)
 
-inner-after-kind-at-requires : (t : ℕ) → inner-after-lts.Need-kind-at-requires (inner-after-claims t) (inner-after-at t) inner-after.Post
-inner-after-kind-at-requires t c κs =
-    record-room _ _ _ _ _ _ _ _ _ _ _ _ _ _ (c .before .before .before .before .before .before .pre .1 .begins)
-
-inner-after-cell-at-requires : (t : ℕ) → inner-after-lts.Need-cell-at-requires (inner-after-claims t) (inner-after-at t) inner-after.Post
-inner-after-cell-at-requires t c κs =
-    (firsts-room _ _ _ _ _ _ _ _ _ _ _ _ _ _ (c .before .before .before .before .before .before .before .pre .1 .begins), cell-room _ _ _ _ _ _ _ _ _ _ _ _ _ _ (c .before .before .before .before .before .before .before .pre .1 .begins))
-
-inner-after-adds-of-requires : (t : ℕ) → inner-after-lts.Need-adds-of-requires (inner-after-claims t) (inner-after-at t) inner-after.Post
-inner-after-adds-of-requires t c κs =
+cell-after-adds-of-requires : (t : ℕ) → cell-after-lts.Need-adds-of-requires (cell-after-claims t) (cell-after-at t) cell-after.Post
+cell-after-adds-of-requires t c κs =
     search needs
 
-inner-after-begin-requires : (t : ℕ) → inner-after-lts.Need-begin-requires (inner-after-claims t) (inner-after-at t) inner-after.Post
-inner-after-begin-requires t c κs =
+cell-after-begin-requires : (t : ℕ) → cell-after-lts.Need-begin-requires (cell-after-claims t) (cell-after-at t) cell-after.Post
+cell-after-begin-requires t c κs =
     search needs
 
-inner-after-is-quantifier-requires : (t : ℕ) → inner-after-lts.Need-is-quantifier-requires (inner-after-claims t) (inner-after-at t) inner-after.Post
-inner-after-is-quantifier-requires t c κs =
+cell-after-end-at-requires : (t : ℕ) → cell-after-lts.Need-end-at-requires (cell-after-claims t) (cell-after-at t) cell-after.Post
+cell-after-end-at-requires t c κs =
+    ends-room _ _ _ _ _ _ _ _ _ _ _ _ _ _ (c .before .before .before .before .before .before .before .before .before .before .before .before .before .before .pre .1)
+
+cell-after-is-quantifier-requires : (t : ℕ) → cell-after-lts.Need-is-quantifier-requires (cell-after-claims t) (cell-after-at t) cell-after.Post
+cell-after-is-quantifier-requires t c κs =
     search needs
 
-inner-after-add-ports-after : (t : ℕ) → inner-after-lts.Need-add-ports-after (inner-after-claims t) (inner-after-at t) inner-after.Post
-inner-after-add-ports-after t c =
-    omega (arith, node-low _ _ _ _ _ _ _ _ _ _ _ _ _ _ (c .before .before .before .before .before .before .before .before .before .before .before .before .pre .1 .begins))
+cell-after-add-ports-after : (t : ℕ) → cell-after-lts.Need-add-ports-after (cell-after-claims t) (cell-after-at t) cell-after.Post
+cell-after-add-ports-after t c =
+    omega (arith, node-low _ _ _ _ _ _ _ _ _ _ _ _ _ _ (c .before .before .before .before .before .before .before .before .before .before .before .before .before .before .before .before .before .pre .1))
 
-inner-after-mul-ports-after : (t : ℕ) → inner-after-lts.Need-mul-ports-after (inner-after-claims t) (inner-after-at t) inner-after.Post
-inner-after-mul-ports-after t c =
-    record { fits = times-fits _ _ (place-low _ _ _ _ _ _ _ _ _ _ _ _ _ _ (c .before .before .before .before .before .before .before .before .before .before .before .before .pre .1 .begins)) }
+cell-after-mul-ports-after : (t : ℕ) → cell-after-lts.Need-mul-ports-after (cell-after-claims t) (cell-after-at t) cell-after.Post
+cell-after-mul-ports-after t c =
+    record { fits = times-fits _ _ (place-low _ _ _ _ _ _ _ _ _ _ _ _ _ _ (c .before .before .before .before .before .before .before .before .before .before .before .before .before .before .before .before .before .pre .1)) }
 
-inner-after-ports-after-requires : (t : ℕ) → inner-after-lts.Need-ports-after-requires (inner-after-claims t) (inner-after-at t) inner-after.Post
-inner-after-ports-after-requires t c κs =
-    (omega (arith, c .before .before .before .before .before .before .before .before .before .before .before .before .pre .0, node-low _ _ _ _ _ _ _ _ _ _ _ _ _ _ (c .before .before .before .before .before .before .before .before .before .before .before .before .pre .1 .begins)), ports-ready _ _ _ _ _ _ _ _ _ _ _ _ _ _ (c .before .before .before .before .before .before .before .before .before .before .before .before .pre .1 .begins) _ _ _ _ _ (c .before .before .before .before .cell-at .ensures) (c .before .before .before .before .before .kind-at .ensures) refl (c .before .before .before .adds-of .ensures) (c .before .before .begin .ensures) (sym (c .before .is-quantifier .ensures) ∙ c .if1 .taken))
+cell-after-ports-after-requires : (t : ℕ) → cell-after-lts.Need-ports-after-requires (cell-after-claims t) (cell-after-at t) cell-after.Post
+cell-after-ports-after-requires t c κs =
+    (omega (arith, c .before .before .before .before .before .before .before .before .before .before .before .before .before .before .before .before .before .pre .0, node-low _ _ _ _ _ _ _ _ _ _ _ _ _ _ (c .before .before .before .before .before .before .before .before .before .before .before .before .before .before .before .before .before .pre .1)), ports-ready _ _ _ _ _ _ _ _ _ _ _ _ _ _ (c .before .before .before .before .before .before .before .before .before .before .before .before .before .before .before .before .before .pre .1) _ _ _ _ _ (c .before .before .before .before .before .before .before .before .before .before .cell-at .ensures) (c .before .before .before .before .before .before .kind-at .ensures) (c .before .before .end-at .ensures) (c .before .before .before .before .adds-of .ensures) (c .before .before .before .begin .ensures) (sym (c .before .is-quantifier .ensures) ∙ c .if3 .taken))
 
-inner-after-outcome-requires : (t : ℕ) → inner-after-lts.Need-outcome-requires (inner-after-claims t) (inner-after-at t) inner-after.Post
-inner-after-outcome-requires t c κs =
+cell-after-outcome-requires : (t : ℕ) → cell-after-lts.Need-outcome-requires (cell-after-claims t) (cell-after-at t) cell-after.Post
+cell-after-outcome-requires t c κs =
     search needs
 
-inner-after-returns : (t : ℕ) → inner-after-lts.Need-returns (inner-after-claims t) (inner-after-at t) inner-after.Post
-inner-after-returns t c =
-    gives-ports _ _ _ _ _ _ _ _ _ _ _ _ _ _ _ _ (c .before .before .before .before .before .before .cell-at .ensures) refl _ (c .before .before .before .before .before .before .before .before .before .before .before .before .before .before .pre .1 .touched) (c .before .before .before .before .before .before .before .kind-at .ensures) _ _ _ _ _ refl (c .before .before .before .before .before .adds-of .ensures) (inner-low _ _ (c .before .before .before .before .before .before .before .kind-at .ensures) (c .before .before .before .before .before .before .before .before .before .before .before .before .before .before .pre .1 .inner)) (c .before .before .before .before .begin .ensures) (c .outcome .ensures) (sym (c .before .before .before .is-quantifier .ensures) ∙ c .before .before .if1 .taken) (c .before .ports-after .ensures)
+cell-after-returns-3 : (t : ℕ) → cell-after-lts.Need-returns-3 (cell-after-claims t) (cell-after-at t) cell-after.Post
+cell-after-returns-3 t c =
+    gives-ports _ _ _ _ _ _ _ _ _ _ _ _ _ _ _ _ (c .before .before .before .before .before .before .before .before .before .before .before .before .cell-at .ensures) (c .before .before .before .before .before .before .before .before .before .before .before .uses-at .ensures) _ (sym (c .before .before .before .before .before .before .before .before .before .before .meet .ensures) ∙ not-false _ (c .before .before .before .before .before .before .before .before .before .if1 .left)) (c .before .before .before .before .before .before .before .before .kind-at .ensures) _ _ _ _ _ (c .before .before .before .before .end-at .ensures) (c .before .before .before .before .before .before .adds-of .ensures) (c .before .before .before .before .before .before .before .if2 .left) (c .before .before .before .before .before .begin .ensures) (c .outcome .ensures) (sym (c .before .before .before .is-quantifier .ensures) ∙ c .before .before .if3 .taken) (c .before .ports-after .ensures)
 
-inner-after-add-trees-after : (t : ℕ) → inner-after-lts.Need-add-trees-after (inner-after-claims t) (inner-after-at t) inner-after.Post
-inner-after-add-trees-after t c =
-    omega (arith, node-low _ _ _ _ _ _ _ _ _ _ _ _ _ _ (c .before .before .before .before .before .before .before .before .before .before .before .before .pre .1 .begins))
+cell-after-add-trees-after : (t : ℕ) → cell-after-lts.Need-add-trees-after (cell-after-claims t) (cell-after-at t) cell-after.Post
+cell-after-add-trees-after t c =
+    omega (arith, node-low _ _ _ _ _ _ _ _ _ _ _ _ _ _ (c .before .before .before .before .before .before .before .before .before .before .before .before .before .before .before .before .before .pre .1))
 
-inner-after-end-at-requires : (t : ℕ) → inner-after-lts.Need-end-at-requires (inner-after-claims t) (inner-after-at t) inner-after.Post
-inner-after-end-at-requires t c κs =
-    ends-room _ _ _ _ _ _ _ _ _ _ _ _ _ _ (c .before .before .before .before .before .before .before .before .before .before .before .before .pre .1 .begins)
+cell-after-trees-after-requires : (t : ℕ) → cell-after-lts.Need-trees-after-requires (cell-after-claims t) (cell-after-at t) cell-after.Post
+cell-after-trees-after-requires t c κs =
+    (omega (arith, c .before .before .before .before .before .before .before .before .before .before .before .before .before .before .before .before .before .pre .0, node-low _ _ _ _ _ _ _ _ _ _ _ _ _ _ (c .before .before .before .before .before .before .before .before .before .before .before .before .before .before .before .before .before .pre .1)), trees-ready _ _ _ _ _ _ _ _ _ _ _ _ _ _ (c .before .before .before .before .before .before .before .before .before .before .before .before .before .before .before .before .before .pre .1) _ _ _ _ _ (c .before .before .before .before .before .before .before .before .before .before .cell-at .ensures) (c .before .before .before .before .before .before .kind-at .ensures) (c .before .before .end-at .ensures) (c .before .before .before .before .adds-of .ensures) (c .before .before .before .begin .ensures) (c .before .before .before .before .before .if2 .left) (sym (c .before .is-quantifier .ensures) ∙ c .if3 .left))
 
-inner-after-trees-after-requires : (t : ℕ) → inner-after-lts.Need-trees-after-requires (inner-after-claims t) (inner-after-at t) inner-after.Post
-inner-after-trees-after-requires t c κs =
-    (omega (arith, c .before .before .before .before .before .before .before .before .before .before .before .before .before .pre .0, node-low _ _ _ _ _ _ _ _ _ _ _ _ _ _ (c .before .before .before .before .before .before .before .before .before .before .before .before .before .pre .1 .begins)), trees-ready _ _ _ _ _ _ _ _ _ _ _ _ _ _ (c .before .before .before .before .before .before .before .before .before .before .before .before .before .pre .1 .begins) _ _ _ _ _ (c .before .before .before .before .before .cell-at .ensures) (c .before .before .before .before .before .before .kind-at .ensures) (c .end-at .ensures) (c .before .before .before .before .adds-of .ensures) (c .before .before .before .begin .ensures) (inner-low _ _ (c .before .before .before .before .before .before .kind-at .ensures) (c .before .before .before .before .before .before .before .before .before .before .before .before .before .pre .1 .inner)) (sym (c .before .before .is-quantifier .ensures) ∙ c .before .if1 .left))
-
-inner-after-outcome-requires-2 : (t : ℕ) → inner-after-lts.Need-outcome-requires-2 (inner-after-claims t) (inner-after-at t) inner-after.Post
-inner-after-outcome-requires-2 t c κs =
+cell-after-outcome-requires-2 : (t : ℕ) → cell-after-lts.Need-outcome-requires-2 (cell-after-claims t) (cell-after-at t) cell-after.Post
+cell-after-outcome-requires-2 t c κs =
     search needs
 
-inner-after-returns-2 : (t : ℕ) → inner-after-lts.Need-returns-2 (inner-after-claims t) (inner-after-at t) inner-after.Post
-inner-after-returns-2 t c =
-    gives-trees _ _ _ _ _ _ _ _ _ _ _ _ _ _ _ _ (c .before .before .before .before .before .before .before .cell-at .ensures) refl _ (c .before .before .before .before .before .before .before .before .before .before .before .before .before .before .before .pre .1 .touched) (c .before .before .before .before .before .before .before .before .kind-at .ensures) _ _ _ _ _ (c .before .before .end-at .ensures) (c .before .before .before .before .before .before .adds-of .ensures) (inner-low _ _ (c .before .before .before .before .before .before .before .before .kind-at .ensures) (c .before .before .before .before .before .before .before .before .before .before .before .before .before .before .before .pre .1 .inner)) (c .before .before .before .before .before .begin .ensures) (c .outcome2 .ensures) (sym (c .before .before .before .before .is-quantifier .ensures) ∙ c .before .before .before .if1 .left) (c .before .trees-after .ensures)
+cell-after-returns-4 : (t : ℕ) → cell-after-lts.Need-returns-4 (cell-after-claims t) (cell-after-at t) cell-after.Post
+cell-after-returns-4 t c =
+    gives-trees _ _ _ _ _ _ _ _ _ _ _ _ _ _ _ _ (c .before .before .before .before .before .before .before .before .before .before .before .before .cell-at .ensures) (c .before .before .before .before .before .before .before .before .before .before .before .uses-at .ensures) _ (sym (c .before .before .before .before .before .before .before .before .before .before .meet .ensures) ∙ not-false _ (c .before .before .before .before .before .before .before .before .before .if1 .left)) (c .before .before .before .before .before .before .before .before .kind-at .ensures) _ _ _ _ _ (c .before .before .before .before .end-at .ensures) (c .before .before .before .before .before .before .adds-of .ensures) (c .before .before .before .before .before .before .before .if2 .left) (c .before .before .before .before .before .begin .ensures) (c .outcome2 .ensures) (sym (c .before .before .before .is-quantifier .ensures) ∙ c .before .before .if3 .left) (c .before .trees-after .ensures)
 
 pair-after-add-cell-after : (t : ℕ) → pair-after-lts.Need-add-cell-after (pair-after-claims t) (pair-after-at t) pair-after.Post
 pair-after-add-cell-after t c =
@@ -703,29 +686,25 @@ tree-after-kind-at-requires : (t : ℕ) → tree-after-lts.Need-kind-at-requires
 tree-after-kind-at-requires t c κs =
     record-room _ _ _ _ _ _ _ _ _ _ _ _ _ _ (c .before .before .before .before .before .before .pre .1 .begins)
 
-tree-after-inner-after-requires : (t : ℕ) → tree-after-lts.Need-inner-after-requires (tree-after-claims t) (tree-after-at t) tree-after.Post
-tree-after-inner-after-requires t c κs =
-    (omega (arith, c .before .before .before .before .before .before .before .before .pre .0), inner-ready _ _ _ _ _ _ _ _ _ _ _ _ _ _ (c .before .before .before .before .before .before .before .before .pre .1) _ (c .before .kind-at .ensures) (c .if1 .taken))
-
-tree-after-returns : (t : ℕ) → tree-after-lts.Need-returns (tree-after-claims t) (tree-after-at t) tree-after.Post
-tree-after-returns t c =
-    c .inner-after .ensures
-
 tree-after-cell-at-requires : (t : ℕ) → tree-after-lts.Need-cell-at-requires (tree-after-claims t) (tree-after-at t) tree-after.Post
 tree-after-cell-at-requires t c κs =
     (firsts-room _ _ _ _ _ _ _ _ _ _ _ _ _ _ (c .before .before .before .before .before .before .before .before .pre .1 .begins), cell-room _ _ _ _ _ _ _ _ _ _ _ _ _ _ (c .before .before .before .before .before .before .before .before .pre .1 .begins))
 
-tree-after-literal-at-requires : (t : ℕ) → tree-after-lts.Need-literal-at-requires (tree-after-claims t) (tree-after-at t) tree-after.Post
-tree-after-literal-at-requires t c κs =
-    literal-ready _ _ _ _ _ _ _ _ _ _ _ _ _ _ (c .before .before .before .before .before .before .before .before .before .pre .1 .begins) _ (c .before .before .kind-at .ensures) (c .before .if1 .left)
+tree-after-literal-outcome-requires : (t : ℕ) → tree-after-lts.Need-literal-outcome-requires (tree-after-claims t) (tree-after-at t) tree-after.Post
+tree-after-literal-outcome-requires t c κs =
+    literal-ready _ _ _ _ _ _ _ _ _ _ _ _ _ _ (c .before .before .before .before .before .before .before .before .before .pre .1 .begins) _ (c .before .before .kind-at .ensures) (c .before .if1 .taken)
 
-tree-after-outcome-requires : (t : ℕ) → tree-after-lts.Need-outcome-requires (tree-after-claims t) (tree-after-at t) tree-after.Post
-tree-after-outcome-requires t c κs =
-    search needs
+tree-after-returns : (t : ℕ) → tree-after-lts.Need-returns (tree-after-claims t) (tree-after-at t) tree-after.Post
+tree-after-returns t c =
+    gives-literal _ _ _ _ _ _ _ _ _ _ _ _ _ _ _ _ (c .before .cell-at .ensures) refl _ (c .before .before .before .before .before .before .before .before .before .before .pre .1 .touched) (c .before .before .before .kind-at .ensures) _ _ (c .before .before .if1 .taken) (c .literal-outcome .ensures .0) (c .literal-outcome .ensures .1, refl, c .literal-outcome .ensures .2)
+
+tree-after-cell-after-requires : (t : ℕ) → tree-after-lts.Need-cell-after-requires (tree-after-claims t) (tree-after-at t) tree-after.Post
+tree-after-cell-after-requires t c κs =
+    (omega (arith, c .before .before .before .before .before .before .before .before .pre .0), c .before .before .before .before .before .before .before .before .pre .1 .begins)
 
 tree-after-returns-2 : (t : ℕ) → tree-after-lts.Need-returns-2 (tree-after-claims t) (tree-after-at t) tree-after.Post
 tree-after-returns-2 t c =
-    gives-literal _ _ _ _ _ _ _ _ _ _ _ _ _ _ _ _ (c .before .before .cell-at .ensures) refl _ (c .before .before .before .before .before .before .before .before .before .before .before .pre .1 .touched) (c .before .before .before .before .kind-at .ensures) _ _ (c .before .before .before .if1 .left) (c .before .literal-at .ensures) (c .outcome .ensures)
+    c .cell-after .ensures
 
 abbrev trees-after-Inv-loop : trees-after-lts.InvT-loop
 trees-after-Inv-loop table firsts ends uses masks cells ports sets c i until depth place digits word add sum₀ j₀ sum j = Onward ports sets c table firsts ends uses masks cells j₀ until depth place digits word add sum₀ j sum
@@ -777,12 +756,11 @@ trees-after-returns : (t : ℕ) → trees-after-lts.Need-returns (trees-after-cl
 trees-after-returns t c =
     onward-last _ _ _ _ _ _ _ _ _ _ _ _ _ _ _ _ _ _ _ (c .before .loop .inv) (c .loop-test .left)
 
-pub +cell-after+inner-after+pair-after+ports-after+row-after+row-cells-after+row-tree-after+row-trees-after+tree-after+trees-after-spec :
+pub +cell-after+pair-after+ports-after+row-after+row-cells-after+row-tree-after+row-trees-after+tree-after+trees-after-spec :
     {M : Type 1} → statement M
-+cell-after+inner-after+pair-after+ports-after+row-after+row-cells-after+row-tree-after+row-trees-after+tree-after+trees-after-spec =
++cell-after+pair-after+ports-after+row-after+row-cells-after+row-tree-after+row-trees-after+tree-after+trees-after-spec =
     close
     μ-cell-after
-    μ-inner-after
     μ-pair-after
     μ-ports-after
     μ-row-after
@@ -794,30 +772,27 @@ pub +cell-after+inner-after+pair-after+ports-after+row-after+row-cells-after+row
     (λ t. cell-after-lts.spec (cell-after-claims t)
     (cell-after-at t)
     cell-after.Post
+    (cell-after-cell-at-requires t)
     (cell-after-uses-at-requires t)
     (cell-after-meet-requires t)
     (cell-after-kept-requires t)
     (cell-after-returns t)
-    (cell-after-tree-after-requires t)
-    (cell-after-returns-2 t))
-    (λ t. inner-after-lts.spec (inner-after-claims t)
-    (inner-after-at t)
-    inner-after.Post
-    (inner-after-kind-at-requires t)
-    (inner-after-cell-at-requires t)
-    (inner-after-adds-of-requires t)
-    (inner-after-begin-requires t)
-    (inner-after-is-quantifier-requires t)
-    (inner-after-add-ports-after t)
-    (inner-after-mul-ports-after t)
-    (inner-after-ports-after-requires t)
-    (inner-after-outcome-requires t)
-    (inner-after-returns t)
-    (inner-after-add-trees-after t)
-    (inner-after-end-at-requires t)
-    (inner-after-trees-after-requires t)
-    (inner-after-outcome-requires-2 t)
-    (inner-after-returns-2 t))
+    (cell-after-kind-at-requires t)
+    (cell-after-literal-outcome-requires t)
+    (cell-after-returns-2 t)
+    (cell-after-adds-of-requires t)
+    (cell-after-begin-requires t)
+    (cell-after-end-at-requires t)
+    (cell-after-is-quantifier-requires t)
+    (cell-after-add-ports-after t)
+    (cell-after-mul-ports-after t)
+    (cell-after-ports-after-requires t)
+    (cell-after-outcome-requires t)
+    (cell-after-returns-3 t)
+    (cell-after-add-trees-after t)
+    (cell-after-trees-after-requires t)
+    (cell-after-outcome-requires-2 t)
+    (cell-after-returns-4 t))
     (λ t. pair-after-lts.spec (pair-after-claims t)
     (pair-after-at t)
     pair-after.Post
@@ -931,11 +906,10 @@ pub +cell-after+inner-after+pair-after+ports-after+row-after+row-cells-after+row
     (tree-after-at t)
     tree-after.Post
     (tree-after-kind-at-requires t)
-    (tree-after-inner-after-requires t)
-    (tree-after-returns t)
     (tree-after-cell-at-requires t)
-    (tree-after-literal-at-requires t)
-    (tree-after-outcome-requires t)
+    (tree-after-literal-outcome-requires t)
+    (tree-after-returns t)
+    (tree-after-cell-after-requires t)
     (tree-after-returns-2 t))
     λ t. trees-after-lts.spec (trees-after-claims t)
     (trees-after-at t)
