@@ -859,7 +859,7 @@ row-written-place-at-requires t c κs =
 
 row-written-put-row-requires : (t : ℕ) → row-written-lts.Need-put-row-requires (row-written-claims t) (row-written-at t) row-written.Post
 row-written-put-row-requires t c κs =
-    (omega (arith, c .before .before .before .before .before .fill-row .kept .1 .1 .0, c .before .before .before .before .before .before .before .before .before .before .before .before .before .before .before .before .before .before .before .before .before .before .before .pre .1 .begins .room), row-within _ _ _ _ _ _ _ _ _ _ _ _ _ _ _ (c .before .before .before .before .before .before .before .before .before .before .before .before .before .before .before .before .before .before .before .before .before .before .before .pre .1 .begins) _ (c .before .place-at .ensures))
+    (omega (arith, c .before .before .before .before .before .fill-row .kept .1 .1 .0, c .before .before .before .before .before .before .before .before .before .before .before .before .before .before .before .before .before .before .before .before .before .before .before .pre .1 .begins .room), omega (arith, row-within _ _ _ _ _ _ _ _ _ _ _ _ _ _ _ (c .before .before .before .before .before .before .before .before .before .before .before .before .before .before .before .before .before .before .before .before .before .before .before .pre .1 .begins) _ (c .before .place-at .ensures)))
 
 row-written-count-row-requires : (t : ℕ) → row-written-lts.Need-count-row-requires (row-written-claims t) (row-written-at t) row-written.Post
 row-written-count-row-requires t c κs =
