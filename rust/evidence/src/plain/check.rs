@@ -12,26 +12,57 @@ pub const SIZE: u8 = 8;
 
 pub const HEADER: usize = 9;
 pub const RECORD: usize = 8;
-const MOST_NODES: usize = 512;
 const MOST_CELLS: usize = 1 << 20;
 
-#[derive(Clone, Copy, Default)]
+#[derive(Clone, Copy)]
 pub struct Node {
     /// Four bits a set: bits 0 to 2 the variables by which membership literals at or below the node test it, bit 3 a size literal
     /// at or below.
     pub uses: u64,
+    /// As the table has it, from the lowest byte on: kind, relation, a, b, then parent and end of two bytes each.
+    record: u64,
     pub first: u32,
-    pub end: u16,
+    /// In the check the end of its last child met so far, where its next child must stand, and so its own end when all is checked.
+    /// Then where a walk goes on behind it (links.rs).
+    next: u16,
     pub depth: u8,
-    pub kind: u8,
-    pub relation: u8,
-    pub a: u8,
-    pub b: u8,
 }
 
 impl Node {
-    pub fn is_quantifier(&self) -> bool {
-        self.kind == ALL || self.kind == SOME
+    fn is_quantifier(&self) -> bool {
+        self.kind() == ALL || self.kind() == SOME
+    }
+
+    pub fn kind(&self) -> u8 {
+        self.record as u8
+    }
+
+    pub fn relation(&self) -> u8 {
+        (self.record >> 8) as u8
+    }
+
+    pub fn a(&self) -> u8 {
+        (self.record >> 16) as u8
+    }
+
+    pub fn b(&self) -> u8 {
+        (self.record >> 24) as u8
+    }
+
+    fn parent(&self) -> usize {
+        usize::from((self.record >> 32) as u16)
+    }
+
+    pub fn end(&self) -> usize {
+        usize::from((self.record >> 48) as u16)
+    }
+
+    pub fn next(&self) -> usize {
+        usize::from(self.next)
+    }
+
+    pub fn set_next(&mut self, next: usize) {
+        self.next = next as u16;
     }
 }
 
@@ -40,6 +71,8 @@ pub struct Tables {
     pub n: usize,
     pub cells: usize,
     pub nodes: Vec<Node>,
+    /// Whether a sum is below two quantifiers or three.
+    pub deep_sums: bool,
 }
 
 fn word(bytes: &[u8], at: usize) -> u16 {
@@ -56,88 +89,84 @@ fn header(table: &[u8]) -> Option<(usize, usize, usize)> {
     (sound && table.len() >= HEADER + RECORD * count).then_some((u, n, count))
 }
 
-/// What a node itself uses, or `None` where a field breaks a rule.
-fn own_uses(node: &Node, n: usize) -> Option<u64> {
-    let variable = |v: u8| v < node.depth;
-    let set = |s: u8| usize::from(s) < n;
-    let (sound, uses) = match node.kind {
-        ROOT..=OR => (node.relation == 0 && node.a == 0 && node.b == 0, 0),
-        IN | NOT_IN => {
-            (node.relation == 0 && variable(node.a) && set(node.b), 1u64.wrapping_shl(4 * u32::from(node.b) + u32::from(node.a)))
-        }
-        COMPARE => (node.relation <= 5 && variable(node.a) && variable(node.b), 0),
-        SIZE => (node.relation <= 5 && set(node.a) && node.b <= 64, 8u64.wrapping_shl(4 * u32::from(node.a))),
-        _ => (false, 0),
-    };
-    sound.then_some(uses)
+type Records<'a> = &'a [[u8; RECORD]];
+
+fn record(records: Records, i: usize) -> u64 {
+    u64::from_le_bytes(records[i])
 }
 
-/// What is still to come while the records are gone through.
-struct Standing {
-    /// The end of a node's last child met so far: where its next child must stand.
-    next: [u16; MOST_NODES],
-    parent: [u16; MOST_NODES],
+/// The end of the i-th node, if there is one.
+fn end(records: Records, i: usize) -> usize {
+    records.get(i).map_or(0, |record| usize::from(word(record, 6)))
+}
+
+/// The root: it and its child span all nodes.
+fn root(records: Records) -> Option<Node> {
+    let (count, record) = (records.len(), record(records, 0));
+    let sound = record == (count as u64) << 48 | 0xFFFF << 32 | u64::from(ROOT) && end(records, 1) == count;
+    sound.then_some(Node { uses: 0, record, first: 0, next: 1, depth: 0 })
+}
+
+/// The node behind these, which must stand as the next child of its parent.
+fn next(nodes: &mut [Node], records: Records, first: usize, n: u8) -> Option<Node> {
+    let i = nodes.len();
+    let mut node = Node { uses: 0, record: record(records, i), first: first as u32, next: i as u16 + 1, depth: 0 };
+    let above = nodes.get_mut(node.parent())?;
+    if above.next() != i || above.end() < node.end() {
+        return None;
+    }
+    above.set_next(node.end());
+    node.depth = above.depth + u8::from(above.is_quantifier());
+    node.uses = own_uses(&node, i, n, above.kind(), end(records, i + 1))?;
+    above.uses |= node.uses;
+    Some(node)
+}
+
+/// What the i-th node uses itself, or `None` where its fields or the nodes below it break a rule; the end of its first child tells
+/// whether it has one child or more.
+fn own_uses(node: &Node, i: usize, n: u8, above: u8, first_end: usize) -> Option<u64> {
+    let (kind, depth, end) = (node.kind(), node.depth, node.end());
+    let (none, some) = (end == i + 1, end > i + 1);
+    match (kind, node.relation(), node.a(), node.b()) {
+        (IN | NOT_IN, 0, a, b) if none && a < depth && b < n => Some(1 << (4 * b + a)),
+        (AND | OR, 0, 0, 0) if some && first_end < end && kind != above => Some(0),
+        (ALL | SOME, 0, 0, 0) if some && first_end == end && depth < 3 => Some(0),
+        (COMPARE, 0..=5, a, b) if none && a < depth && b < depth => Some(0),
+        (SIZE, 0..=5, a, 0..=64) if none && a < n => Some(8 << (4 * a)),
+        _ => None,
+    }
+}
+
+/// Hands uses up from every inner node; literals have done so. Says whether there are deep sums.
+fn gather(nodes: &mut [Node]) -> bool {
+    let mut deep_sums = false;
+    for i in (1..nodes.len()).rev() {
+        let Node { uses, depth, .. } = nodes[i];
+        let (kind, parent) = (nodes[i].kind(), nodes[i].parent());
+        if kind < IN {
+            nodes[parent].uses |= uses;
+            deep_sums |= kind == AND && depth >= 2;
+        }
+    }
+    deep_sums
 }
 
 impl Tables {
     /// `None` where the table breaks a rule or is cut short.
     pub fn of(table: &[u8]) -> Option<Tables> {
         let (u, n, count) = header(table)?;
+        let (records, _) = table[HEADER..HEADER + RECORD * count].as_chunks();
         let powers = [1, u, u * u, u * u * u];
-        let mut nodes = vec![Node::default(); count];
-        let mut standing = Standing { next: [0; MOST_NODES], parent: [0; MOST_NODES] };
-        let mut cells = 0;
-        for (i, record) in table[HEADER..HEADER + RECORD * count].chunks_exact(RECORD).enumerate() {
-            let depth = standing.depth(&nodes, i, record)?;
-            let node = &mut nodes[i];
-            (node.kind, node.relation, node.a, node.b) = (record[0], record[1], record[2], record[3]);
-            (node.end, node.depth, node.first) = (word(record, 6), depth, cells as u32);
-            node.uses = own_uses(node, n)?;
-            cells += powers[usize::from(depth)];
+        let mut nodes = Vec::with_capacity(count);
+        nodes.push(root(records)?);
+        let mut cells = 1;
+        while nodes.len() < count {
+            let node = next(&mut nodes, records, cells, n as u8)?;
+            cells += powers[usize::from(node.depth)];
+            nodes.push(node);
         }
-        (cells <= MOST_CELLS && standing.gather(&mut nodes)).then_some(Tables { u, n, cells, nodes })
-    }
-}
-
-impl Standing {
-    /// The depth of a node that stands as the next child of its parent.
-    fn depth(&mut self, nodes: &[Node], i: usize, record: &[u8]) -> Option<u8> {
-        let (kind, parent, end) = (record[0], usize::from(word(record, 4)), word(record, 6));
-        self.next[i] = i as u16 + 1;
-        self.parent[i] = parent as u16;
-        if i == 0 {
-            return (kind == ROOT && parent == 0xFFFF && usize::from(end) == nodes.len()).then_some(0);
-        }
-        if parent >= i || usize::from(self.next[parent]) != i {
-            return None;
-        }
-        let above = &nodes[parent];
-        let depth = above.depth + u8::from(above.is_quantifier());
-        let merges = kind == above.kind && (kind == AND || kind == OR);
-        if usize::from(end) <= i || above.end < end || merges || kind == ROOT || depth > 3 {
-            return None;
-        }
-        self.next[parent] = end;
-        Some(depth)
-    }
-
-    /// Hands uses up to the parents, and says whether every node has as many children as its kind asks for.
-    fn gather(&self, nodes: &mut [Node]) -> bool {
-        for i in (0..nodes.len()).rev() {
-            let (kind, end, uses) = (nodes[i].kind, nodes[i].end, nodes[i].uses);
-            let first_end = nodes.get(i + 1).map_or(0, |child| child.end);
-            let children = match kind {
-                ROOT | ALL | SOME => first_end == end,
-                AND | OR => first_end < end && usize::from(end) > i + 1,
-                _ => usize::from(end) == i + 1,
-            };
-            if !children || self.next[i] != end {
-                return false;
-            }
-            if i > 0 {
-                nodes[usize::from(self.parent[i])].uses |= uses;
-            }
-        }
-        true
+        let deep_sums = gather(&mut nodes);
+        // A node stands as the next child of a parent that has not ended, so that no child is missing in the end.
+        (cells <= MOST_CELLS).then_some(Tables { u, n, cells, nodes, deep_sums })
     }
 }

@@ -17,7 +17,7 @@ impl Definition<'_> {
     fn at(&self, i: usize, digits: u32) -> u32 {
         let node = &self.nodes[i];
         let port = |x: usize| self.at(i + 1, with_digit(digits, node.depth, x));
-        match node.kind {
+        match node.kind() {
             ROOT => self.at(i + 1, digits),
             ALL => (0..self.u).fold(0, |sum, x| sum + port(x)),
             SOME => (0..self.u).fold(u32::MAX, |least, x| least.min(port(x))),
@@ -29,9 +29,9 @@ impl Definition<'_> {
 
     fn children(&self, i: usize, digits: u32, start: u32, join: impl Fn(u32, u32) -> u32) -> u32 {
         let (mut value, mut k) = (start, i + 1);
-        while k < usize::from(self.nodes[i].end) {
+        while k < self.nodes[i].end() {
             value = join(value, self.at(k, digits));
-            k = usize::from(self.nodes[k].end);
+            k = self.nodes[k].end();
         }
         value
     }

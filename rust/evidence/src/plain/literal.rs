@@ -37,11 +37,11 @@ pub fn size_penalty(relation: u8, s: u32, c: u32) -> u32 {
 }
 
 pub fn penalty(node: &Node, of: &Configuration, digits: u32) -> u32 {
-    let member = || member(of.sets[usize::from(node.b)], digit(digits, node.a));
-    match node.kind {
+    let member = || member(of.sets[usize::from(node.b())], digit(digits, node.a()));
+    match node.kind() {
         IN => 1 - member(),
         NOT_IN => member(),
-        COMPARE => u32::from(!related(node.relation, digit(digits, node.a), digit(digits, node.b))),
-        _ => size_penalty(node.relation, of.size(node.a), u32::from(node.b)),
+        COMPARE => u32::from(!related(node.relation(), digit(digits, node.a()), digit(digits, node.b()))),
+        _ => size_penalty(node.relation(), of.size(node.a()), u32::from(node.b())),
     }
 }

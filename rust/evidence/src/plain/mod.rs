@@ -2,13 +2,14 @@
 //!
 //! It takes the plan table, masks and cells as the archive does and answers the same numbers; it keeps no journal. It uses neither the
 //! binding nor the second evaluator. The shape: one pass over the plan table gives each node its first cell, its end and what it
-//! uses; a change then visits the touched cells only, and where every port below a quantifier is touched its cells are done as one
-//! row.
+//! uses; a change then visits the touched cells only, by links over what is not touched, and where every port below a quantifier
+//! is touched its cells are done as one row.
 mod change;
 mod check;
 mod configuration;
 mod definition;
 mod fill;
+mod links;
 mod literal;
 mod parse;
 mod read;
@@ -24,6 +25,7 @@ pub use read::read;
 use change::{candidates, Change};
 use check::Tables;
 use configuration::Configuration;
+use links::link;
 use store::{Counts, Reads, Store, Writes};
 use walk::Walk;
 
@@ -62,6 +64,13 @@ fn walked<S: Store>(tables: &Tables, new: &Configuration, change: &Change, store
     (Numbers { before, after, changed: walk.changed }, walk.store)
 }
 
+/// Links for a single change, which meets deep sums at many tuples and any other once.
+fn link_once(tables: &mut Tables, change: &Change) {
+    if tables.deep_sums {
+        link(&mut tables.nodes, change.word, 2);
+    }
+}
+
 /// Checks the tables and fills every cell.
 pub fn load(table: &[u8], masks: &[u64], cells: &mut [u32]) -> Result<Loaded, u32> {
     let tables = open(table, masks, cells.len())?;
@@ -90,7 +99,8 @@ impl Checked {
 }
 
 pub fn make_move(table: &[u8], masks: &mut [u64], cells: &mut [u32], m: &Move) -> Result<Numbers, u32> {
-    let (tables, change) = judge(table, masks, cells.len(), m)?;
+    let (mut tables, change) = judge(table, masks, cells.len(), m)?;
+    link_once(&mut tables, &change);
     Ok(make(&tables, &change, masks, cells, m))
 }
 
@@ -103,14 +113,16 @@ fn make(tables: &Tables, change: &Change, masks: &mut [u64], cells: &mut [u32], 
 
 /// Puts a port in test, or takes it out.
 pub fn test(table: &[u8], masks: &mut [u64], cells: &mut [u32], call: Test, port: u32) -> Result<Numbers, u32> {
-    let (tables, change) = judge_test(table, masks, cells.len(), call, port)?;
+    let (mut tables, change) = judge_test(table, masks, cells.len(), call, port)?;
     masks[tables.n] ^= 1 << port;
+    link_once(&mut tables, &change);
     Ok(walked(&tables, &Configuration::of(masks, tables.n), &change, Writes(cells)).0)
 }
 
 /// What a move would answer. It needs no scratch, and asks for it only because the archive's call does (12).
 pub fn trial(table: &[u8], masks: &[u64], cells: &[u32], scratch: &[u32], m: &Move) -> Result<Numbers, u32> {
-    let (tables, change) = judge(table, masks, cells.len().min(scratch.len()), m)?;
+    let (mut tables, change) = judge(table, masks, cells.len().min(scratch.len()), m)?;
+    link_once(&mut tables, &change);
     Ok(walked(&tables, &Configuration::after(masks, tables.n, m), &change, Reads(cells)).0)
 }
 
@@ -133,14 +145,21 @@ fn counted(tables: &Tables, masks: &[u64], change: &Change, cells: &[u32]) -> us
 
 /// The first of the best candidates in the order kind, S, T, p, q, made if it leaves a smaller root than now.
 pub fn improve(table: &[u8], masks: &mut [u64], cells: &mut [u32], scratch: &[u32], kinds: u32) -> Result<Improved, u32> {
-    let tables = open(table, masks, cells.len().min(scratch.len()))?;
+    let mut tables = open(table, masks, cells.len().min(scratch.len()))?;
     if kinds == 0 || kinds > 15 {
         return Err(14);
     }
     let root = cells[0];
     let (mut least, mut chosen) = (root, None);
+    // Candidates of the same sets touch the same nodes.
+    let mut word = 0;
     candidates(kinds, tables.u, tables.n, masks, |m| {
-        let left = walked(&tables, &Configuration::after(masks, tables.n, &m), &Change::by(&m), Reads(cells)).0.after;
+        let change = Change::by(&m);
+        if change.word != word {
+            word = change.word;
+            link(&mut tables.nodes, word, 0);
+        }
+        let left = walked(&tables, &Configuration::after(masks, tables.n, &m), &change, Reads(cells)).0.after;
         if left < least {
             (least, chosen) = (left, Some(m));
         }
@@ -148,5 +167,7 @@ pub fn improve(table: &[u8], masks: &mut [u64], cells: &mut [u32], scratch: &[u3
     let Some(m) = chosen else {
         return Ok(Improved::NoBetter(root));
     };
-    Ok(Improved::Made(m, make(&tables, &Change::by(&m), masks, cells, &m)))
+    let change = Change::by(&m);
+    link(&mut tables.nodes, change.word, 0);
+    Ok(Improved::Made(m, make(&tables, &change, masks, cells, &m)))
 }

@@ -12,7 +12,7 @@ impl<S: Store> Walk<'_, S> {
     pub fn row(&mut self, k: usize, row: At, sum: bool, into: &mut Row) {
         let node = self.nodes[k];
         let at = node.first as usize + row.place;
-        match node.kind {
+        match node.kind() {
             ALL | SOME => self.row_of_quantifiers(k, row, sum, into),
             AND => {
                 let mut own = [0; 64];
@@ -43,7 +43,7 @@ impl<S: Store> Walk<'_, S> {
         let nodes = self.nodes;
         let rest = self.change.rest(row.word, nodes[k].depth - 1);
         let mut c = k + 1;
-        while c < usize::from(nodes[k].end) {
+        while c < nodes[k].end() {
             if nodes[c].uses & rest != 0 {
                 self.row(c, row, sum, own);
             } else if sum {
@@ -53,7 +53,7 @@ impl<S: Store> Walk<'_, S> {
             } else {
                 self.partly(c, row, own);
             }
-            c = usize::from(nodes[c].end);
+            c = nodes[c].next();
         }
     }
 

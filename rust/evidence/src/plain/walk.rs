@@ -52,7 +52,7 @@ impl<S: Store> Walk<'_, S> {
         let node = &nodes[i];
         let here = node.first as usize + at.place;
         let old = self.store.get(here);
-        let new = match node.kind {
+        let new = match node.kind() {
             ROOT => self.cell(i + 1, at).new,
             AND => self.sum_of_children(i, old, at),
             OR => self.least_of_children(i, at),
@@ -60,19 +60,23 @@ impl<S: Store> Walk<'_, S> {
             SOME => self.least_of_ports(i, at),
             _ => penalty(node, self.new, at.digits),
         };
-        self.changed += u32::from(old != new);
-        self.store.put(here, new);
-        Step { old, new }
+        self.put(here, Step { old, new })
+    }
+
+    fn put(&mut self, at: usize, step: Step) -> Step {
+        self.changed += u32::from(step.old != step.new);
+        self.store.put(at, step.new);
+        step
     }
 
     fn sum_of_children(&mut self, i: usize, old: u32, at: At) -> u32 {
         let nodes = self.nodes;
         let (mut sum, mut k) = (old, i + 1);
-        while k < usize::from(nodes[i].end) {
+        while k < nodes[i].end() {
             if nodes[k].uses & at.word != 0 {
                 sum = self.cell(k, at).added_to(sum);
             }
-            k = usize::from(nodes[k].end);
+            k = nodes[k].next();
         }
         sum
     }
@@ -80,10 +84,10 @@ impl<S: Store> Walk<'_, S> {
     fn least_of_children(&mut self, i: usize, at: At) -> u32 {
         let nodes = self.nodes;
         let (mut least, mut k) = (u32::MAX, i + 1);
-        while k < usize::from(nodes[i].end) {
+        while k < nodes[i].end() {
             let touched = nodes[k].uses & at.word != 0;
             least = least.min(if touched { self.cell(k, at).new } else { self.store.get(nodes[k].first as usize + at.place) });
-            k = usize::from(nodes[k].end);
+            k = nodes[k].next();
         }
         least
     }
@@ -103,11 +107,32 @@ impl<S: Store> Walk<'_, S> {
             self.row(i + 1, row, true, &mut sums);
             return sums[..self.u].iter().fold(old, |sum, d| sum.wrapping_add(*d));
         }
-        let mut sum = self.at_port(i + 1, row, depth, low).added_to(old);
-        if low < high {
-            sum = self.at_port(i + 1, row, depth, high).added_to(sum);
+        if low == high {
+            return self.at_port(i + 1, row, depth, low).added_to(old);
         }
-        sum
+        let [a, b] = self.at_both_ports(i + 1, row, depth);
+        b.added_to(a.added_to(old))
+    }
+
+    /// The cells of a quantifier's child at both ports that change; the children of a sum are gone through once for both.
+    // Inlined it would slow down every other cell.
+    #[inline(never)]
+    fn at_both_ports(&mut self, child: usize, row: At, depth: u8) -> [Step; 2] {
+        let nodes = self.nodes;
+        let ports = [self.change.low, self.change.high];
+        if nodes[child].kind() != AND {
+            return ports.map(|port| self.at_port(child, row, depth, port));
+        }
+        let here = ports.map(|port| nodes[child].first as usize + row.place + port);
+        let old = here.map(|at| self.store.get(at));
+        let (mut new, mut k) = (old, child + 1);
+        while k < nodes[child].end() {
+            if nodes[k].uses & row.word != 0 {
+                new = [0, 1].map(|i| self.at_port(k, row, depth, ports[i]).added_to(new[i]));
+            }
+            k = nodes[k].next();
+        }
+        [0, 1].map(|i| self.put(here[i], Step { old: old[i], new: new[i] }))
     }
 
     fn least_of_ports(&mut self, i: usize, at: At) -> u32 {
