@@ -2,10 +2,10 @@
 use mathlib.Core.Path.{_≡_, refl, sym, ap, ap₂, _∙_}
 use mathlib.Core.Bool.{Bool, true, false, not}
 use mathlib.Core.List.{List, [], _∷_}
-use Prim.Native.Nat.{ℕ, zero, suc, _+_, _≤_, _<_}
+use Prim.Native.Nat.{ℕ, zero, suc, _+_, _<_}
 use native.Mathlib.Omega.{arith}
 use lib.Dec.{eqb}
-use lib.ListN.{length, getD, drop, length-append, length-drop, List·getD-append}
+use lib.ListN.{getD, drop, List·getD-append}
 use Rattle.logic.specs.Configuration.{indicator}
 use Rattle.logic.specs.Cells.{tabulate}
 use Rattle.logic.specs.Penalty.{sum, eachPort}
@@ -20,11 +20,6 @@ pub row-at : (u : ℕ) (g : ℕ → ℕ) (out : List ℕ) (x : ℕ) → x < u �
 unfolding rowOf
 row-at u g out x h =
     List·getD-append (tabulate u g) (drop u out) 0 x (rw length-tabulate h) ∙ getD-tabulate u g x h
-
-pub row-length : (u : ℕ) (g : ℕ → ℕ) (out : List ℕ) → u ≤ length out → length (rowOf u g out) ≡ length out
-unfolding rowOf
-row-length u g out h =
-    length-append (tabulate u g) (drop u out) ∙ omega (arith, length-tabulate u g, length-drop u out)
 
 -- one more port
 pub gathered-port : (add : Bool) (acc u : ℕ) (h : ℕ → Renewal)

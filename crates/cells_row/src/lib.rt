@@ -90,7 +90,7 @@ pub fn fill_row(value: u32, ports: usize, out: &mut [u32])
     }
 }
 
-// What a row's new numbers are begun with: sums with the old ones.
+// What a row's new numbers are begun with: sums with the old ones, minima with the largest number.
 pub fn begin_row(add: bool, old: &[u32], ports: usize, out: &mut [u32])
     requires { ⌜ (ports ≤ length (now old)) × (ports ≤ length (now out)) ⌝ }
     ensures { λ _. ⌜ now (out .exit) ≡ rowOf ports (λ x. begun add (getD (now (old .entry)) x 0)) (now (out .entry)) ⌝ }
@@ -138,7 +138,7 @@ pub fn join_row(add: bool, new: &[u32], old: &[u32], ports: usize, out: &mut [u3
     least_row(new, ports, out);
 }
 
-// A row that is not touched goes into a row of sums or minima: what it adds is nothing.
+// A row that is not touched goes into a row of sums or minima: a sum gets nothing by it, a minimum takes it.
 pub fn keep_row(add: bool, old: &[u32], ports: usize, out: &mut [u32])
     requires { ⌜ (ports ≤ length (now old)) × (ports ≤ length (now out)) ⌝ }
     ensures { λ _. ⌜ now (out .exit) ≡ rowKept add (now (old .entry)) ports (now (out .entry)) ⌝ }

@@ -1,12 +1,9 @@
 -- Wrapping sums and minima, one after the other. Assumes nothing.
 use mathlib.Core.Path.{_≡_, refl, sym, ap, ap₂, _∙_}
-use mathlib.Core.Bool.{Bool, true, false, not}
+use mathlib.Core.Bool.{Bool, true, false}
 use mathlib.Core.List.{List, [], _∷_, _++_}
 use Prim.Native.Nat.{ℕ, suc, _+_, _-_, _%_, _<_, min}
 use native.Mathlib.Omega.{arith}
-use lib.Dec.{eqb}
-use borrow.Author.Tests.{eq-eqb}
-use Rattle.logic.specs.Configuration.{indicator}
 use Rattle.logic.specs.Penalty.{sum, eachPort}
 use Rattle.logic.specs.Change.{modulus, Renewal}
 use Rattle.logic.proofs.Lists.{sum-append}
@@ -34,11 +31,6 @@ joined-least add acc x r h v c = record {
   value-is = v ∙ sym (ap (λ (b : Bool). taken b (acc .value) record { hit = true; old = x .old; new = x .value }) h);
   changed-is = c;
 }
-
--- a cell that differs is counted
-pub counted-same : (a b n m : ℕ) → a ≡ b → m < 4294967296 → n ≡ m → n ≡ (indicator (not (eqb a b)) + m) % 4294967296
-unfolding indicator
-counted-same a b n m e l h = rw (eq-eqb a b e) (omega arith)
 
 -- of a cell directly below only its number before and after counts
 pub taken-same : (a : Bool) (m : ℕ) (y z : Renewal) → y .old ≡ z .old → y .new ≡ z .new → taken a m y ≡ taken a m z

@@ -506,7 +506,7 @@ fn row_trees_after(
     changed
 }
 
-// One of them.
+// One tree's row, gone into a row of sums or minima; one that is not touched is not visited.
 fn row_tree_after(
     table: &[u8],
     firsts: &[u32],

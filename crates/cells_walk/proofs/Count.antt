@@ -22,7 +22,6 @@ use Rattle.logic.proofs.Tables.{tuple-place, place-lt, tabulate-cong, length-la
 use Rattle.logic.proofs.Bound.{below-le}
 use Rattle.logic.proofs.Changed.{unlike, differing-layout, untouched-kept}
 use Rattle.cells_sum.specs.inner.Walk.{changes}
-use Rattle.cells_sum.proofs.Sums.{sum-port}
 use Rattle.cells_walk.specs.inner.Below.{Agree}
 use Rattle.cells_walk.proofs.Frame.{below-directly, directly-untouched, changes-agree, bounds}
 
@@ -80,17 +79,7 @@ unfolding eachPort tabulate
 each-port-one zero h = refl
 each-port-one (suc u) h = ap (λ (l : List ℕ). l ++ (h u ∷ [])) (each-port-one u h)
 
--- one more port is no less in all
-pub sum-ports-le : (p u : ℕ) (h : ℕ → ℕ) → p ≤ u → sum (eachPort p (λ x. h x ∷ [])) ≤ sum (eachPort u (λ x. h x ∷ []))
-sum-ports-le p zero h l = let e : p ≡ 0 = omega arith in rw e (omega arith)
-sum-ports-le p (suc u) h l = go (λ a. sum-ports-le p u h a) (ℕ-discrete p (suc u))
-  where
-    go : (p ≤ u → sum (eachPort p (λ x. h x ∷ [])) ≤ sum (eachPort u (λ x. h x ∷ []))) → Dec (p ≡ suc u)
-        → sum (eachPort p (λ x. h x ∷ [])) ≤ sum (eachPort (suc u) (λ x. h x ∷ []))
-    go f (yes a) = rw a (omega arith)
-    go f (no a) = omega (arith, sum-port u h, f (omega arith))
-
-single : (x : ℕ) → sum (x ∷ []) ≡ x
+pub single : (x : ℕ) → sum (x ∷ []) ≡ x
 unfolding sum
 single x = omega arith
 
@@ -200,19 +189,6 @@ module _ (u : ℕ) (u1 : 1 ≤ u) (k : Configuration) (ch : Change) (t : OldCell
       let h : ℕ → ℕ = λ i. changes u k ch t f b d (tupleAt u d i) in
       let same : h (placeOf u e) ≡ changes u k ch t f b d e = ap (changes u k ch t f b d) (tuple-place u u1 te) in
       omega (arith, total-term (u ^ d) h (placeOf u e) (place-lt u u1 te), layout-few f b d)
-
-  pub changes-below-le : (n : Node) (c : Forest) (b d : ℕ) (e : Tuple) → TupleOf u d e
-      → sum (below u n e (λ x. changes u k ch t c b (childDepth n d) x ∷ [])) ≤ cellCount u c (childDepth n d)
-  changes-below-le n c b d e te =
-      let g : Tuple → ℕ = λ x. sum (below u n x (λ y. changes u k ch t c b (childDepth n d) y ∷ [])) in
-      let h : ℕ → ℕ = λ i. g (tupleAt u d i) in
-      let same : h (placeOf u e) ≡ g e = ap g (tuple-place u u1 te) in
-      omega (
-        arith,
-        total-term (u ^ d) h (placeOf u e) (place-lt u u1 te),
-        below-total u n d (changes u k ch t c b (childDepth n d)),
-        layout-few c b (childDepth n d),
-      )
 
 module _ (P : Plan) (u1 : 1 ≤ P .ports) (k : Configuration) (ch : Change) (table : List ℕ) where
   pub changes-own : changes (P .ports) k ch (cellOf (P .ports) table) (P .formula) 0 0 [] ≤ ownCells P

@@ -129,7 +129,3 @@ module _ (u : ℕ) (u1 : 1 ≤ u) where
   apart (later r) (own h) t t′ = let l = place-lt u u1 t′ in let a = bounds r t in absurd (omega arith)
   apart (later r) (under w r′) t t′ = let a = bounds r t in let a′ = bounds r′ (directly-tuple w t′) in absurd (omega arith)
   apart (later r) (later r′) t t′ = apart r r′ t t′
-
-pub agree-sym : (u : ℕ) (f : Forest) (b d : ℕ) (e : Tuple) (xs ys : List ℕ) → Agree u f b d e xs ys → Agree u f b d e ys xs
-unfolding Agree
-agree-sym u f b d e xs ys A j r = sym (A j r)

@@ -151,12 +151,6 @@ module _ (u : ℕ) (k : Configuration) (ch : Change) (t : OldCells) (low : (b : 
   pub below-fit : (n : Node) (c : Forest) (b d : ℕ) (e : Tuple) → LiteralsAtMost B k c d → AllFit (below u n e (renewals u k ch t c b d))
   below-fit n c b d e h = all-fit-below u n e (renewals u k ch t c b d) (λ x. renewals-fit c b d x h)
 
-  pub new-cell-fits : (n : Node) (c s : Forest) (b d : ℕ) (e : Tuple) → LiteralsAtMost B k (tree n c s) d → newCell u k ch t n c b d e < modulus
-  unfolding newCell LiteralsAtMost Every
-  new-cell-fits n c s b d e h =
-      cond-fits (touched ch n c e) _ _
-      (renew-fits n e (t b e) _ (h .0) (below-fit n c (b + u ^ d) (childDepth n d) e (h .1))) (low b e)
-
 pub length-renewals : (u : ℕ) (k : Configuration) (ch : Change) (t : OldCells) (f : Forest) (b d : ℕ) (e : Tuple)
     → length (renewals u k ch t f b d e) ≡ treeCount f
 unfolding renewals treeCount

@@ -23,7 +23,7 @@ use Rattle.cells_sum.specs.inner.Walk.{adds, begun, taken, gathered, changes}
 use Rattle.cells_sum.proofs.Sums.{sum-port, taken-same}
 use Rattle.cells_row.specs.inner.Row.{rowGathered}
 use Rattle.cells_row.proofs.Rows.{gathered-rows, sums-same, sums-together}
-use Rattle.cells_walk.proofs.Count.{changes-untouched}
+use Rattle.cells_walk.proofs.Count.{single, changes-untouched}
 use Rattle.cells_walk.proofs.Gather.{new-cell-gathered}
 use Rattle.cells_walk.proofs.KindOf.{Joint}
 use Rattle.cells_walk.proofs.Outcomes.{no-trees}
@@ -65,10 +65,6 @@ one-more before first rest all more mid r h k l e = omega arith
 over-mod : (a x y z : ℕ) → y ≡ x % modulus → z ≡ (a + y) % modulus → z ≡ (a + x) % modulus
 unfolding modulus
 over-mod a x y z h i = omega arith
-
-single : (x : ℕ) → sum (x ∷ []) ≡ x
-unfolding sum
-single x = omega arith
 
 one-cell : (before first more r : ℕ) → before ≡ first % modulus → r ≡ (before + more % modulus) % modulus → r ≡ (first + more) % modulus
 unfolding modulus

@@ -3,7 +3,7 @@ use mathlib.Core.Path.{_≡_, refl, sym, ap, ap₂, _∙_, subst}
 use mathlib.Core.Logic.{_≢_}
 use mathlib.Core.Bool.{Bool, true, false, cond, not, false≢true}
 use mathlib.Core.List.{List, _∷_}
-use Prim.Native.Nat.{ℕ, suc, _+_, _*_, _^_, _%_, _≤_, _<_}
+use Prim.Native.Nat.{ℕ, suc, _+_, _*_, _^_, _≤_, _<_}
 use native.Mathlib.Nat.{mul-le-mul-right, pow-suc, suc-mul}
 use native.Mathlib.Omega.{arith}
 use lib.Bits.{bitOr, or-zero-r}
@@ -16,7 +16,7 @@ use Rattle.logic.specs.Truth.{Tuple, portOf}
 use Rattle.logic.specs.Configuration.{Configuration, indicator}
 use Rattle.logic.specs.Penalty.{testPenalty, literalPenalty}
 use Rattle.logic.specs.Cells.{placeOf, cellCount, siblingFirst}
-use Rattle.logic.specs.Change.{Change, forestHit, touched, modulus}
+use Rattle.logic.specs.Change.{Change, forestHit, touched}
 use Rattle.logic.proofs.Lists.{more, or-left, or-false}
 use Rattle.logic.proofs.Untouched.{forest-deeper}
 use Rattle.logic.proofs.Tables.{length-tuple, place-lt}
@@ -74,11 +74,6 @@ unfolding Fitting Every ConstantsLow
 all-constants sets none d f = Prim.tt
 all-constants sets (tree n c s) d f =
     (node-constant sets d n (f .0 .literal), all-constants sets c (childDepth n d) (f .1), all-constants sets s d (f .2))
-
--- what a sum or a minimum below it changes, modulo 2^32
-count-more : (a x y r s : ℕ) → r ≡ (a + x) % modulus → s ≡ (r + y) % modulus → s ≡ (a + (x + y)) % modulus
-unfolding modulus
-count-more a x y r s h k = omega arith
 
 -- a test that the rest of a word meets has the same penalty at every port
 other-port : (e : Tuple) (v d x y : ℕ) → length e ≡ d → v ≢ d → portOf (x ∷ e) v ≡ portOf (y ∷ e) v

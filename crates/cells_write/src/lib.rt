@@ -41,7 +41,7 @@ ghost use Prim.Native.Nat.{_+_, _<_};
 ghost use lib.ListN.{length, getD, set};
 ghost use Rattle.cells_walk.specs.inner.Root.{RootReady, RootGives};
 ghost use Rattle.cells_try.specs.inner.Walking.{CellReady, CellTouched, CellGives, TreesReady, TreesGive, PortsReady, PairReady, PortsSo, RowGives, RowCellsReady, RowJoinReady, RowJoins, RowTreesReady, RowTreesGive};
-ghost use Rattle.cells_write.specs.inner.Writing.{CellWrites, TreesWrite, PortsWrite, RowMoveReady, RowWrites, RowTreesWrite, RootWrites};
+ghost use Rattle.cells_write.specs.inner.Writing.{CellWrites, TreesWrite, PortsWrite, RowWriteReady, RowWrites, RowTreesWrite, RootWrites};
 
 // Writes a cell's number at a place of its node.
 fn put_cell(firsts: &[u32], i: usize, place: usize, value: u32, cells: &mut [u32])
@@ -361,7 +361,7 @@ fn pair_written(
 }
 
 // A node's cells at every port of the variable above it, put into `out` and written with all that is touched below them; how
-// many of them differ from before. `old` has the numbers that the row is about to lose.
+// many cells at or below them differ from before. `old` has the numbers that the row is about to lose.
 fn row_written(
     table: &[u8],
     firsts: &[u32],
@@ -380,7 +380,7 @@ fn row_written(
     old: &[u32],
     out: &mut [u32],
 ) -> u32
-    requires { ⌜ RowMoveReady ports sets c (now table) (now firsts) (now ends) (now uses) (now masks) (now cells) i depth row digits word (now old) (now out) ⌝ }
+    requires { ⌜ RowWriteReady ports sets c (now table) (now firsts) (now ends) (now uses) (now masks) (now cells) i depth row digits word (now old) (now out) ⌝ }
     ensures { λ r. ⌜ RowGives ports sets c (now (table .entry)) (now (firsts .entry)) (now (ends .entry)) (now (uses .entry)) (now (masks .entry)) (now (cells .entry)) i depth row digits word (now (out .exit)) r × RowWrites ports sets c (now (table .entry)) (now (firsts .entry)) (now (ends .entry)) (now (uses .entry)) (now (masks .entry)) (now (cells .entry)) i depth row digits word (now (cells .exit)) ⌝ }
 {
     let kind = kind_at(table, i);
@@ -535,7 +535,7 @@ fn row_trees_written(
     changed
 }
 
-// One of them.
+// One tree's row, written and gone into a row of sums or minima; one that is not touched is not visited.
 fn row_tree_written(
     table: &[u8],
     firsts: &[u32],

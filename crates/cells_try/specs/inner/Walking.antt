@@ -1,4 +1,4 @@
--- What the walk that only reads asks and gives: internal to the crate.
+-- What the walk that only reads asks and gives; the one that writes asks and gives the same, and more.
 use mathlib.Core.Path.{_≡_}
 use mathlib.Core.Bool.{Bool, true, false}
 use mathlib.Core.List.{List}
@@ -113,7 +113,7 @@ pub record RowCellsReady (u sets : ℕ) (c : Changed) (bytes firsts ends uses ma
   pub old-row : OldRow u firsts cells i row out
   pub few : every ≡ false → meets (getD uses i 0) (restWord word d) ≡ false
 
--- The same where the row goes into a row of sums or minima.
+-- The walk stands before a node's row, which goes into a row of sums or minima.
 pub record RowJoinReady (u sets : ℕ) (c : Changed) (bytes firsts ends uses masks cells : List ℕ) (i d row digits word : ℕ) (out : List ℕ) : Type 0 where
   pub begins : RowReady u sets c bytes firsts ends uses masks cells i d row digits word out
   pub low : (x : ℕ) → x < u → getD out x 0 < modulus

@@ -16,6 +16,12 @@ use Rattle.cells_walk.specs.inner.Below.{Only, Row, Wrote}
 use Rattle.cells_walk.specs.inner.Visit.{Visit, RowVisit}
 use Rattle.cells_try.specs.inner.Walking.{WalkReady, OldRow, RowReady}
 
+-- The walk stands before a node's row, has room for its new numbers, and has kept the old ones.
+pub record RowWriteReady (u sets : ℕ) (c : Changed) (bytes firsts ends uses masks cells : List ℕ) (i d row digits word : ℕ) (old out : List ℕ) : Type 0 where
+  pub begins : RowReady u sets c bytes firsts ends uses masks cells i d row digits word out
+  pub old-row : OldRow u firsts cells i row old
+  pub old-room : u ≤ length old
+
 -- The cells at or below one cell hold their new numbers, and no other place is written: `old` is the table before, `new` after.
 unfoldable pub CellWrites : ℕ → ℕ → Changed → List ℕ → List ℕ → List ℕ → List ℕ → List ℕ → List ℕ → ℕ → ℕ → ℕ → ℕ → ℕ → List ℕ → Type 0
 CellWrites u sets c bytes firsts ends uses masks old i d place digits word new =
@@ -36,12 +42,6 @@ PortsWrite u sets c bytes firsts ends uses masks old i d row digits word new =
     (ch : Change) (f : Forest) (b : ℕ) (e : Tuple) → WalkReady u sets c firsts ends uses masks old ch
     → RowVisit u sets ch bytes firsts ends uses old i f b d e row digits word → treeCount f ≡ 1
     → Wrote u (configured u sets (inMasks masks)) ch f b (suc d) (Row u e) old new
-
--- The walk stands before a node's row, has room for its new numbers, and has kept the old ones.
-pub record RowMoveReady (u sets : ℕ) (c : Changed) (bytes firsts ends uses masks cells : List ℕ) (i d row digits word : ℕ) (old out : List ℕ) : Type 0 where
-  pub begins : RowReady u sets c bytes firsts ends uses masks cells i d row digits word out
-  pub old-row : OldRow u firsts cells i row old
-  pub old-room : u ≤ length old
 
 -- The same of a node's row, and of the rows of a forest's trees.
 unfoldable pub RowWrites : ℕ → ℕ → Changed → List ℕ → List ℕ → List ℕ → List ℕ → List ℕ → List ℕ → ℕ → ℕ → ℕ → ℕ → ℕ → List ℕ → Type 0
