@@ -73,11 +73,11 @@ module _ (u : ℕ) (s B : List ℕ) where
               let g : refusal grounds ≡ rest = in-grammar ∙ ap (λ (b : Bool). cond b 4 rest) d in
               sym ((λ i. readOr (g i) u (e i) B))
 
--- what parsing leaves
-module _ (s t letters : List ℕ) (r : Syntax) (W : Whole s t letters r) (room : length letters ≡ 17) where
+-- what parsing leaves of a text that is not too deep
+module _ (s t letters : List ℕ) (r : Syntax) (W : Whole s t letters r) (room : length letters ≡ 17) (deep : r .deep ≡ false) where
   kept-text : TextKept t (r .end) letters (r .sets) (W .sets) (W .tree)
   kept-text = record {
-    stored = W .stored;
+    stored = W .stored deep;
     lettered = parsed-lettered s (W .sets) (W .tree) (W .is);
     letters-are = W .kept ∙ ap (λ (m : ℕ). take m (lettersOf (W .sets))) room;
   }
@@ -85,11 +85,10 @@ module _ (s t letters : List ℕ) (r : Syntax) (W : Whole s t letters r) (room :
   pub some-text : (u : ℕ) → 1 ≤ u → u ≤ 64 → SomeText u t (r .end) letters (r .sets)
   some-text u h g = record { ports1 = h; ports64 = g; within = W .few; sets = W .sets; tree = W .tree; kept = kept-text }
 
-  -- the answer of a text that is in the grammar and not too deep
-  pub read-last : (u : ℕ) (B O : List ℕ) (x : Answer) → 1 ≤ u → u ≤ 64 → length s ≤ 4096 → knownBytes s ≡ true → r .deep ≡ false
+  pub read-last : (u : ℕ) (B O : List ℕ) (x : Answer) → 1 ≤ u → u ≤ 64 → length s ≤ 4096 → knownBytes s ≡ true
       → Finishes u t (r .end) letters (r .sets) B O x → ReadPromise (reads u s B) x O
   unfolding Finishes
-  read-last u B O x h g short known deep E =
+  read-last u B O x h g short known E =
       subst (λ (given : ReadValues × List ℕ). ReadPromise given x O)
       (read-rest u s B (ports-in u h g) short known (W .sets) (W .tree) (W .is) (sym (W .deeper) ∙ deep))
       (E (W .sets) (W .tree) kept-text)

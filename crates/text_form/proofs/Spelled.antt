@@ -11,6 +11,7 @@ use Rattle.text_tokens.specs.Tokens.{leftBracket, rightBracket, atSign, questio
 use Rattle.text_tree.specs.Tree.{Quantifier, forall, exists, Join, conj, disj, Tree, par, bind, join, leafOf}
 use Rattle.text_grammar.specs.Grammar.{Symbol, Level, unit, conjunction, disjunction, formula, quantifierKind, relationKind, Tests, member, no-member, ports, sizes, Derives, one-disjunction, one-conjunction, or, one-unit, and, quantified, bracketed, literal}
 use Rattle.text_grammar.specs.Parser.{rank}
+use Rattle.text_grammar.proofs.Calls.{rank-range}
 use Rattle.text_form.specs.Form.{enclosed}
 use Rattle.text_form.specs.Spelling.{relationBytes, joinBytes, quantifierByte, spaced, constantBytes, testBytes, treeBytes}
 use Rattle.text_form.proofs.Lexing.{symbol, Lexes, then, past-space, variable-token, set-token, sign-token, relation-token, constant-token}
@@ -145,12 +146,6 @@ raised formula formula h d = d
 
 pub spelled-raised : (k l : Level) {a : Tree} → rank k ≤ rank l → Spelled k a → Spelled l a
 spelled-raised k l h A = record { first = A .first; others = A .others; derives = raised k l h (A .derives); lexes = A .lexes }
-
-rank-range : (k : Level) → (1 ≤ rank k) × (rank k ≤ 4)
-rank-range unit = omega arith
-rank-range conjunction = omega arith
-rank-range disjunction = omega arith
-rank-range formula = omega arith
 
 -- with brackets where a lower level is asked, a tree stands at any level
 pub spelled-enclosed : (k l : Level) {a : Tree} → Spelled k a → Spelled l (enclosed (ltb (rank l) (rank k)) a)

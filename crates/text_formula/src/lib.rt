@@ -1,5 +1,7 @@
-// Formula, disjunction, conjunction and unit, read by a cycle of calls that writes the tree as records. Paper 01, section Plan
-// text; ground 4.
+// Formula, disjunction, conjunction and unit, read by a cycle of calls that writes the tree as records. A unit with more than 64
+// of `(`, `~` and quantifiers around it is read by crate text_deep, without calls, so that the cycle is no deeper than that.
+// Paper 01, section Plan text; ground 4.
+use text_deep::deep_unit;
 use text_grammar::Reading;
 use text_literal::refused;
 use text_literal::size_literal;
@@ -117,6 +119,9 @@ fn unit(text: &[u8], at: usize, out: &mut [u16], n: usize, d: usize) -> Reading
     requires { ⌜ ReaderRoom (now text) (now out) at n d ⌝ }
     ensures { λ r. ⌜ Reads unit (now (text .entry)) (now (out .entry)) (now (out .exit)) at n d r ⌝ }
 {
+    if 64 < d {
+        return deep_unit(text, at, out, n, d);
+    }
     let t = token_at(text, at);
     if t.kind == LEFT_BRACKET {
         let a = formula(text, t.next, out, n, d + 1);

@@ -1,4 +1,5 @@
 -- Laws of the grammar and its readers.
+pub mod Calls
 pub mod Complete
 pub mod Declaration
 pub mod Examples

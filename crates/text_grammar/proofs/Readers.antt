@@ -10,6 +10,7 @@ use native.Mathlib.Numerals.{add-one}
 use lib.ListN.{length, set}
 use lib.Dec.{eqb, ltb}
 use borrow.Author.Tests.{eq-eqb, ne-eqb}
+use Rattle.logic.proofs.Lists.{or-left, or-right}
 use Rattle.logic.specs.Formula.{isin, notin, port, size, literalOf, relationOf}
 use Rattle.text_tree.specs.Tree.{Quantifier, Join, Tree, neg, par, bind, join, leafOf, tooDeep}
 use Rattle.text_tree.specs.inner.Stored.{testOperator, testPayload, quantifierOperator, joinOperator, of-leaf, of-neg, of-par, of-bind, of-join}
@@ -186,9 +187,11 @@ module _ (l m k : Level) (J : Joins l m k) (s before : List ℕ) (at n d : ℕ) 
               accepts = λ _. record {
                 tree = join q (R .tree) (Q .tree);
                 is = step-more g at (a .next) (b .next) (R .tree) (Q .tree) q (R .is) sign P;
-                stored = of-join (U .is) (omega (arith, Q .count))
-                    (stored-kept (stored-kept (R .stored) o′ len′ (Q .kept)) u (U .same) (λ i p. U .kept i (omega (arith, Q .count))))
-                    (before-record (stored-kept (Q .stored) u (U .same) (U .kept)));
+                stored = λ y.
+                    let z = sym E ∙ y in
+                    of-join (U .is) (omega (arith, Q .count))
+                    (stored-kept (stored-kept (R .stored (or-left (a .deep) (b .deep) z)) o′ len′ (Q .kept)) u (U .same) (λ i p. U .kept i (omega (arith, Q .count))))
+                    (before-record (stored-kept (Q .stored (or-right (a .deep) (b .deep) z)) u (U .same) (U .kept)));
                 deeper = E ∙ D;
                 kept = λ i p. U .kept i (omega (arith, R .count, Q .count)) ∙ Q .kept i (omega (arith, R .count)) ∙ R .kept i p;
                 count = omega (arith, R .count, Q .count);
@@ -232,7 +235,7 @@ module _ (s before : List ℕ) (at n d payload operator : ℕ) (room : ReaderRoo
           accepts = λ _. record {
             tree = p .make (R .tree);
             is = ap (mapPart (p .make)) (R .is);
-            stored = p .stores u (a .count + 2) (R .tree) (U .is) (before-record (stored-kept (R .stored) u (U .same) (U .kept)));
+            stored = λ y. p .stores u (a .count + 2) (R .tree) (U .is) (before-record (stored-kept (R .stored y) u (U .same) (U .kept)));
             deeper = D ∙ sym (p .deeper d (R .tree));
             kept = λ i q. U .kept i (omega (arith, R .count)) ∙ R .kept i q;
             count = omega (arith, R .count);
@@ -312,7 +315,7 @@ module _ (s before : List ℕ) (at n d : ℕ) (room : ReaderRoom s before at n d
     quantifier-not : (k : ℕ) → (t .kind ≡ k → ⊥) → eqb (kindAt s at) k ≡ false
     quantifier-not k z = not-kind s at t T k z
 
-    quantified-as : (t .kind ≡ 3 → ⊥) → (t .kind ≡ 7 → ⊥) → (g : ℕ) → parseAt (suc g) unit s at ≡ bound s (parseAt g unit s) (quantifierOf (t .kind - 5)) (t .next)
+    pub quantified-as : (t .kind ≡ 3 → ⊥) → (t .kind ≡ 7 → ⊥) → (g : ℕ) → parseAt (suc g) unit s at ≡ bound s (parseAt g unit s) (quantifierOf (t .kind - 5)) (t .next)
     quantified-as a b g =
         unit-quantifier g s at (quantifier-not 3 a) (quantifier-not 7 b) (quantifierOf (t .kind - 5)) (ap quantifierSign (same-kind s at t T) ∙ stands 5 6 quantifierOf (t .kind) y)
         ∙ ap (bound s (parseAt g unit s) (quantifierOf (t .kind - 5))) (next-of s at t T)
@@ -320,7 +323,7 @@ module _ (s before : List ℕ) (at n d : ℕ) (room : ReaderRoom s before at n d
     bound-not : (u : ℕ → Part) (q : Quantifier) (i : ℕ) → eqb (kindAt s i) 22 ≡ false → bound s u q i ≡ missing
     bound-not u q i z = rw z
 
-    bound-yes : (u : ℕ → Part) (q : Quantifier) → v .kind ≡ 22 → bound s u q (t .next) ≡ mapPart (bind q (v .value)) (u (v .next))
+    pub bound-yes : (u : ℕ → Part) (q : Quantifier) → v .kind ≡ 22 → bound s u q (t .next) ≡ mapPart (bind q (v .value)) (u (v .next))
     bound-yes u q z = rw (kind-of s (t .next) v W 22 z, value-of s (t .next) v W, next-of s (t .next) v W)
 
     pub unit-unbound : (t .kind ≡ 3 → ⊥) → (t .kind ≡ 7 → ⊥) → (v .kind ≡ 22 → ⊥) → (o : List ℕ) (r : Reading) → r .ok ≡ false → Reads unit s before o at n d r
@@ -389,7 +392,7 @@ module _ (s before : List ℕ) (at n d : ℕ) (room : ReaderRoom s before at n d
               accepts = λ _. record {
                 tree = par (R .tree);
                 is = bracket-step g ∙ ap (closed s) (R .is) ∙ closed-yes (R .tree) z;
-                stored = of-par (R .stored);
+                stored = λ y. of-par (R .stored y);
                 deeper = D;
                 kept = R .kept;
                 count = R .count;
@@ -458,7 +461,7 @@ module _ (s before : List ℕ) (at n d : ℕ) (room : ReaderRoom s before at n d
           accepts = λ _. record {
             tree = leafOf (m .make first (t .value));
             is = rw (eq-eqb _ _ (kind-of s at t T wanted y), value-of s at t T, next-of s at t T);
-            stored = of-leaf {e = n + 2} {l = literalOf (m .make first (t .value))} (rw (m .operates, m .pays) (U .is));
+            stored = λ _. of-leaf {e = n + 2} {l = literalOf (m .make first (t .value))} (rw (m .operates, m .pays) (U .is));
             deeper = refl;
             kept = U .kept;
             count = omega arith;

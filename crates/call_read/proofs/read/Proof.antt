@@ -54,14 +54,14 @@ slice-aggregate-finish-2 c = search needs
 
 finish-requires : tie.Need-finish-requires
 finish-requires c κs =
-    some-text _ _ _ _ (c .before .before .before .before .before .before .before .before .parse .ensures .accepts (not-false _ (c .before .before .before .before .if5 .left))) (c .before .before .before .before .before .before .before .before .parse .kept .1 .1 .0) _ (c .before .before .before .before .before .before .before .before .before .before .before .before .before .before .before .if1 .left) (c .before .before .before .before .before .before .before .before .before .before .before .before .before .before .if2 .left)
+    some-text _ _ _ _ (c .before .before .before .before .before .before .before .before .parse .ensures .accepts (not-false _ (c .before .before .before .before .if5 .left))) (c .before .before .before .before .before .before .before .before .parse .kept .1 .1 .0) (c .before .before .before .if6 .left) _ (c .before .before .before .before .before .before .before .before .before .before .before .before .before .before .before .if1 .left) (c .before .before .before .before .before .before .before .before .before .before .before .before .before .before .if2 .left)
 
 same-length : tie.Need-same-length
 same-length c = search needs
 
 returns-7 : tie.Need-returns-7
 returns-7 c =
-    read-last _ _ _ _ (c .before .before .before .before .before .before .before .before .before .before .before .parse .ensures .accepts (not-false _ (c .before .before .before .before .before .before .before .if5 .left))) (c .before .before .before .before .before .before .before .before .before .before .before .parse .kept .1 .1 .0) _ _ _ _ (c .before .before .before .before .before .before .before .before .before .before .before .before .before .before .before .before .before .before .if1 .left) (c .before .before .before .before .before .before .before .before .before .before .before .before .before .before .before .before .before .if2 .left) (c .before .before .before .before .before .before .before .before .before .before .before .before .before .before .before .before .if3 .left) (sym (c .before .before .before .before .before .before .before .before .before .before .before .before .before .before .before .known-bytes .ensures) ∙ not-false _ (c .before .before .before .before .before .before .before .before .before .before .before .before .before .before .if4 .left)) (c .before .before .before .before .before .before .if6 .left) (c .before .before .finish .ensures)
+    read-last _ _ _ _ (c .before .before .before .before .before .before .before .before .before .before .before .parse .ensures .accepts (not-false _ (c .before .before .before .before .before .before .before .if5 .left))) (c .before .before .before .before .before .before .before .before .before .before .before .parse .kept .1 .1 .0) (c .before .before .before .before .before .before .if6 .left) _ _ _ _ (c .before .before .before .before .before .before .before .before .before .before .before .before .before .before .before .before .before .before .if1 .left) (c .before .before .before .before .before .before .before .before .before .before .before .before .before .before .before .before .before .if2 .left) (c .before .before .before .before .before .before .before .before .before .before .before .before .before .before .before .before .if3 .left) (sym (c .before .before .before .before .before .before .before .before .before .before .before .before .before .before .before .known-bytes .ensures) ∙ not-false _ (c .before .before .before .before .before .before .before .before .before .before .before .before .before .before .if4 .left)) (c .before .before .finish .ensures)
 
 pub read-spec : {M : Type 1} → statement M
 read-spec =

@@ -32,6 +32,7 @@ use Rattle.text_formula.proofs.unit.Kinds as unit-kinds
 use Rattle.text_formula.proofs.+conjunction+disjunction+formula+prefixed+unit.Lts-unit as unit-lts
 use Rattle.text_tree.proofs.or.Reads as or-reads
 use Rattle.text_tree.proofs.push.Reads as push-reads
+use Rattle.text_deep.proofs.deep_unit.Reads as deep-unit-reads
 use Rattle.text_literal.proofs.refused.Reads as refused-reads
 use Rattle.text_literal.proofs.size_literal.Reads as size-literal-reads
 use Rattle.text_literal.proofs.variable_literal.Reads as variable-literal-reads
@@ -106,7 +107,7 @@ prefixed-claims t = (unit-below t, unit.Post, push-reads.Asked, push-reads.Learn
 
 -- what the callees of `unit` ask and give
 abbrev unit-claims : ℕ → unit-lts.Claims
-unit-claims t = (token-at-reads.Asked, token-at-reads.Learnt, formula-below t, formula.Post, refused-reads.Asked, refused-reads.Learnt, prefixed-below t, prefixed.Post, within-reads.Asked, within-reads.Learnt, variable-literal-reads.Asked, variable-literal-reads.Learnt, size-literal-reads.Asked, size-literal-reads.Learnt)
+unit-claims t = (deep-unit-reads.Asked, deep-unit-reads.Learnt, token-at-reads.Asked, token-at-reads.Learnt, formula-below t, formula.Post, refused-reads.Asked, refused-reads.Learnt, prefixed-below t, prefixed.Post, within-reads.Asked, within-reads.Learnt, variable-literal-reads.Asked, variable-literal-reads.Learnt, size-literal-reads.Asked, size-literal-reads.Learnt)
 
 conjunction-unit-requires : (t : ℕ) → conjunction-lts.Need-unit-requires (conjunction-claims t) (conjunction-at t) conjunction.Post
 conjunction-unit-requires t c κs =
@@ -337,63 +338,75 @@ prefixed-returns-2 : (t : ℕ) → prefixed-lts.Need-returns-2 (prefixed-claims 
 prefixed-returns-2 t c =
     prefix-yes _ _ _ _ _ _ _ (c .before .before .before .before .before .before .before .before .before .before .before .before .before .pre .1 .0) (c .before .before .before .before .before .before .before .before .before .before .before .before .before .pre .1 .1) (c .before .before .before .before .before .before .before .before .before .before .before .before .before .pre .1 .2) _ _ (c .before .before .before .before .before .before .before .before .before .unit .ensures) (c .before .before .before .before .before .before .before .before .before .unit .kept .1 .1 .0) (not-false _ (c .before .before .before .before .before .if1 .left)) _ (c .before .before .before .push .ensures)
 
-unit-token-at-requires : (t : ℕ) → unit-lts.Need-token-at-requires (unit-claims t) (unit-at t) unit.Post
-unit-token-at-requires t c κs =
-    c .before .before .pre .1 .within
-
-unit-add-formula : (t : ℕ) → unit-lts.Need-add-formula (unit-claims t) (unit-at t) unit.Post
-unit-add-formula t c =
-    omega (arith, c .before .before .before .before .before .before .good, c .before .before .before .before .before .before .pre .1)
-
-unit-formula-requires : (t : ℕ) → unit-lts.Need-formula-requires (unit-claims t) (unit-at t) unit.Post
-unit-formula-requires t c κs =
-    let w = bracket-room _ _ _ _ _ (c .before .before .before .before .before .before .pre .1) _ (c .before .before .before .token-at .ensures) (c .before .if1 .taken) in
-    (omega (arith, w .0, c .before .before .before .before .before .before .pre .0), w .1)
+unit-deep-unit-requires : (t : ℕ) → unit-lts.Need-deep-unit-requires (unit-claims t) (unit-at t) unit.Post
+unit-deep-unit-requires t c κs =
+    (c .before .before .before .before .pre .1, c .before .if1 .taken)
 
 unit-same-length : (t : ℕ) → unit-lts.Need-same-length (unit-claims t) (unit-at t) unit.Post
 unit-same-length t c =
-    c .before .before .before .before .formula .kept .1 .1 .0
+    c .before .before .deep-unit .kept .1 .1 .0
 
 unit-returns : (t : ℕ) → unit-lts.Need-returns (unit-claims t) (unit-at t) unit.Post
 unit-returns t c =
-    bracket-no _ _ _ _ _ (c .before .before .before .before .before .before .before .before .before .before .before .pre .1) _ (c .before .before .before .before .before .before .before .before .token-at .ensures) (c .before .before .before .before .before .before .if1 .taken) _ _ (c .before .before .before .before .formula .ensures) (not-true _ (c .if2 .taken))
+    c .before .before .deep-unit .ensures
+
+unit-token-at-requires : (t : ℕ) → unit-lts.Need-token-at-requires (unit-claims t) (unit-at t) unit.Post
+unit-token-at-requires t c κs =
+    c .before .before .before .pre .1 .within
+
+unit-add-formula : (t : ℕ) → unit-lts.Need-add-formula (unit-claims t) (unit-at t) unit.Post
+unit-add-formula t c =
+    omega (arith, c .before .before .before .before .before .before .before .good, c .before .before .before .before .before .before .before .pre .1)
+
+unit-formula-requires : (t : ℕ) → unit-lts.Need-formula-requires (unit-claims t) (unit-at t) unit.Post
+unit-formula-requires t c κs =
+    let w = bracket-room _ _ _ _ _ (c .before .before .before .before .before .before .before .pre .1) _ (c .before .before .before .token-at .ensures) (c .before .if2 .taken) in
+    (omega (arith, w .0, c .before .before .before .before .before .before .before .pre .0), w .1)
+
+unit-same-length-2 : (t : ℕ) → unit-lts.Need-same-length-2 (unit-claims t) (unit-at t) unit.Post
+unit-same-length-2 t c =
+    c .before .before .before .before .formula .kept .1 .1 .0
+
+unit-returns-2 : (t : ℕ) → unit-lts.Need-returns-2 (unit-claims t) (unit-at t) unit.Post
+unit-returns-2 t c =
+    bracket-no _ _ _ _ _ (c .before .before .before .before .before .before .before .before .before .before .before .before .pre .1) _ (c .before .before .before .before .before .before .before .before .token-at .ensures) (c .before .before .before .before .before .before .if2 .taken) _ _ (c .before .before .before .before .formula .ensures) (not-true _ (c .if3 .taken))
 
 unit-token-at-requires-2 : (t : ℕ) → unit-lts.Need-token-at-requires-2 (unit-claims t) (unit-at t) unit.Post
 unit-token-at-requires-2 t c κs =
-    accepted G.formula _ _ _ _ _ _ _ (c .before .before .before .before .formula .ensures) (not-false _ (c .if2 .left)) .within
+    accepted G.formula _ _ _ _ _ _ _ (c .before .before .before .before .formula .ensures) (not-false _ (c .if3 .left)) .within
 
 unit-refused-requires : (t : ℕ) → unit-lts.Need-refused-requires (unit-claims t) (unit-at t) unit.Post
 unit-refused-requires t c κs =
     search needs
 
-unit-same-length-2 : (t : ℕ) → unit-lts.Need-same-length-2 (unit-claims t) (unit-at t) unit.Post
-unit-same-length-2 t c =
-    c .before .before .before .before .before .before .before .before .formula .kept .1 .1 .0
-
-unit-returns-2 : (t : ℕ) → unit-lts.Need-returns-2 (unit-claims t) (unit-at t) unit.Post
-unit-returns-2 t c =
-    bracket-open _ _ _ _ _ (c .before .before .before .before .before .before .before .before .before .before .before .before .before .before .before .pre .1) _ (c .before .before .before .before .before .before .before .before .before .before .before .before .token-at .ensures) (c .before .before .before .before .before .before .before .before .before .before .if1 .taken) _ _ (c .before .before .before .before .before .before .before .before .formula .ensures) (not-false _ (c .before .before .before .before .if2 .left)) _ (c .before .before .before .token-at2 .ensures) (c .before .if3 .taken) _ (c .refused .ensures)
-
 unit-same-length-3 : (t : ℕ) → unit-lts.Need-same-length-3 (unit-claims t) (unit-at t) unit.Post
 unit-same-length-3 t c =
-    c .before .before .before .before .before .before .before .formula .kept .1 .1 .0
+    c .before .before .before .before .before .before .before .before .formula .kept .1 .1 .0
 
 unit-returns-3 : (t : ℕ) → unit-lts.Need-returns-3 (unit-claims t) (unit-at t) unit.Post
 unit-returns-3 t c =
-    bracket-yes _ _ _ _ _ (c .before .before .before .before .before .before .before .before .before .before .before .before .before .before .pre .1) _ (c .before .before .before .before .before .before .before .before .before .before .before .token-at .ensures) (c .before .before .before .before .before .before .before .before .before .if1 .taken) _ _ (c .before .before .before .before .before .before .before .formula .ensures) (not-false _ (c .before .before .before .if2 .left)) _ (c .before .before .token-at2 .ensures) (c .if3 .left)
-
-unit-prefixed-requires : (t : ℕ) → unit-lts.Need-prefixed-requires (unit-claims t) (unit-at t) unit.Post
-unit-prefixed-requires t c κs =
-    let w = prefixed-room _ _ _ _ _ (c .before .before .before .before .before .before .before .before .pre .1) _ (c .before .before .before .before .before .token-at .ensures) _ (first-on _ _ _ _ _ (c .before .before .before .before .before .before .before .before .pre .1) _ (c .before .before .before .before .before .token-at .ensures) (omega arith)) (first-within _ _ _ _ _ (c .before .before .before .before .before .before .before .before .pre .1) _ (c .before .before .before .before .before .token-at .ensures)) in
-    (omega (arith, w .0, c .before .before .before .before .before .before .before .before .pre .0), w .1)
+    bracket-open _ _ _ _ _ (c .before .before .before .before .before .before .before .before .before .before .before .before .before .before .before .before .pre .1) _ (c .before .before .before .before .before .before .before .before .before .before .before .before .token-at .ensures) (c .before .before .before .before .before .before .before .before .before .before .if2 .taken) _ _ (c .before .before .before .before .before .before .before .before .formula .ensures) (not-false _ (c .before .before .before .before .if3 .left)) _ (c .before .before .before .token-at2 .ensures) (c .before .if4 .taken) _ (c .refused .ensures)
 
 unit-same-length-4 : (t : ℕ) → unit-lts.Need-same-length-4 (unit-claims t) (unit-at t) unit.Post
 unit-same-length-4 t c =
-    c .before .before .prefixed .kept .1 .1 .0
+    c .before .before .before .before .before .before .before .formula .kept .1 .1 .0
 
 unit-returns-4 : (t : ℕ) → unit-lts.Need-returns-4 (unit-claims t) (unit-at t) unit.Post
 unit-returns-4 t c =
-    unit-negation _ _ _ _ _ (c .before .before .before .before .before .before .before .before .before .before .before .pre .1) _ (c .before .before .before .before .before .before .before .before .token-at .ensures) (c .before .before .before .before .if4 .taken) _ _ (c .before .before .prefixed .ensures)
+    bracket-yes _ _ _ _ _ (c .before .before .before .before .before .before .before .before .before .before .before .before .before .before .before .pre .1) _ (c .before .before .before .before .before .before .before .before .before .before .before .token-at .ensures) (c .before .before .before .before .before .before .before .before .before .if2 .taken) _ _ (c .before .before .before .before .before .before .before .formula .ensures) (not-false _ (c .before .before .before .if3 .left)) _ (c .before .before .token-at2 .ensures) (c .if4 .left)
+
+unit-prefixed-requires : (t : ℕ) → unit-lts.Need-prefixed-requires (unit-claims t) (unit-at t) unit.Post
+unit-prefixed-requires t c κs =
+    let w = prefixed-room _ _ _ _ _ (c .before .before .before .before .before .before .before .before .before .pre .1) _ (c .before .before .before .before .before .token-at .ensures) _ (first-on _ _ _ _ _ (c .before .before .before .before .before .before .before .before .before .pre .1) _ (c .before .before .before .before .before .token-at .ensures) (omega arith)) (first-within _ _ _ _ _ (c .before .before .before .before .before .before .before .before .before .pre .1) _ (c .before .before .before .before .before .token-at .ensures)) in
+    (omega (arith, w .0, c .before .before .before .before .before .before .before .before .before .pre .0), w .1)
+
+unit-same-length-5 : (t : ℕ) → unit-lts.Need-same-length-5 (unit-claims t) (unit-at t) unit.Post
+unit-same-length-5 t c =
+    c .before .before .prefixed .kept .1 .1 .0
+
+unit-returns-5 : (t : ℕ) → unit-lts.Need-returns-5 (unit-claims t) (unit-at t) unit.Post
+unit-returns-5 t c =
+    unit-negation _ _ _ _ _ (c .before .before .before .before .before .before .before .before .before .before .before .before .pre .1) _ (c .before .before .before .before .before .before .before .before .token-at .ensures) (c .before .before .before .before .if5 .taken) _ _ (c .before .before .prefixed .ensures)
 
 unit-within-requires : (t : ℕ) → unit-lts.Need-within-requires (unit-claims t) (unit-at t) unit.Post
 unit-within-requires t c κs =
@@ -401,64 +414,64 @@ unit-within-requires t c κs =
 
 unit-token-at-requires-3 : (t : ℕ) → unit-lts.Need-token-at-requires-3 (unit-claims t) (unit-at t) unit.Post
 unit-token-at-requires-3 t c κs =
-    first-within _ _ _ _ _ (c .before .before .before .before .before .before .before .before .before .pre .1) _ (c .before .before .before .before .before .before .token-at .ensures)
+    first-within _ _ _ _ _ (c .before .before .before .before .before .before .before .before .before .before .pre .1) _ (c .before .before .before .before .before .before .token-at .ensures)
 
 unit-refused-requires-2 : (t : ℕ) → unit-lts.Need-refused-requires-2 (unit-claims t) (unit-at t) unit.Post
 unit-refused-requires-2 t c κs =
     search needs
 
-unit-returns-5 : (t : ℕ) → unit-lts.Need-returns-5 (unit-claims t) (unit-at t) unit.Post
-unit-returns-5 t c =
-    unit-unbound _ _ _ _ _ (c .before .before .before .before .before .before .before .before .before .before .before .before .before .pre .1) _ (c .before .before .before .before .before .before .before .before .before .before .token-at .ensures) (sym (c .before .before .before .before .before .within .ensures) ∙ c .before .before .before .before .if5 .taken) _ (c .before .before .before .token-at3 .ensures) (c .before .before .before .before .before .before .before .before .if1 .left) (c .before .before .before .before .before .before .if4 .left) (c .before .if6 .taken) _ _ (c .refused2 .ensures)
+unit-returns-6 : (t : ℕ) → unit-lts.Need-returns-6 (unit-claims t) (unit-at t) unit.Post
+unit-returns-6 t c =
+    unit-unbound _ _ _ _ _ (c .before .before .before .before .before .before .before .before .before .before .before .before .before .before .pre .1) _ (c .before .before .before .before .before .before .before .before .before .before .token-at .ensures) (sym (c .before .before .before .before .before .within .ensures) ∙ c .before .before .before .before .if6 .taken) _ (c .before .before .before .token-at3 .ensures) (c .before .before .before .before .before .before .before .before .if2 .left) (c .before .before .before .before .before .before .if5 .left) (c .before .if7 .taken) _ _ (c .refused2 .ensures)
 
 unit-sub-prefixed : (t : ℕ) → unit-lts.Need-sub-prefixed (unit-claims t) (unit-at t) unit.Post
 unit-sub-prefixed t c =
-    omega (arith, between-range 5 (c .before .before .before .before .before .before .before .before .before .before .before .token-at .result .kind) 6 (sym (c .before .before .before .before .before .before .within .ensures) ∙ c .before .before .before .before .before .if5 .taken))
+    omega (arith, between-range 5 (c .before .before .before .before .before .before .before .before .before .before .before .token-at .result .kind) 6 (sym (c .before .before .before .before .before .before .within .ensures) ∙ c .before .before .before .before .before .if6 .taken))
 
 unit-prefixed-requires-2 : (t : ℕ) → unit-lts.Need-prefixed-requires-2 (unit-claims t) (unit-at t) unit.Post
 unit-prefixed-requires-2 t c κs =
-    let w = prefixed-room _ _ _ _ _ (c .before .before .before .before .before .before .before .before .before .before .before .before .before .before .pre .1) _ (c .before .before .before .before .before .before .before .before .before .before .before .token-at .ensures) _ (variable-on _ _ _ _ _ (c .before .before .before .before .before .before .before .before .before .before .before .before .before .before .pre .1) _ (c .before .before .before .before .before .before .before .before .before .before .before .token-at .ensures) (sym (c .before .before .before .before .before .before .within .ensures) ∙ c .before .before .before .before .before .if5 .taken) _ (c .before .before .before .before .token-at3 .ensures)) (variable-within _ _ _ _ _ (c .before .before .before .before .before .before .before .before .before .before .before .before .before .before .pre .1) _ (c .before .before .before .before .before .before .before .before .before .before .before .token-at .ensures) (sym (c .before .before .before .before .before .before .within .ensures) ∙ c .before .before .before .before .before .if5 .taken) _ (c .before .before .before .before .token-at3 .ensures)) in
-    (omega (arith, w .0, c .before .before .before .before .before .before .before .before .before .before .before .before .before .before .pre .0), w .1)
-
-unit-same-length-5 : (t : ℕ) → unit-lts.Need-same-length-5 (unit-claims t) (unit-at t) unit.Post
-unit-same-length-5 t c =
-    c .before .before .prefixed2 .kept .1 .1 .0
-
-unit-returns-6 : (t : ℕ) → unit-lts.Need-returns-6 (unit-claims t) (unit-at t) unit.Post
-unit-returns-6 t c =
-    unit-quantified _ _ _ _ _ (c .before .before .before .before .before .before .before .before .before .before .before .before .before .before .before .before .before .pre .1) _ (c .before .before .before .before .before .before .before .before .before .before .before .before .before .before .token-at .ensures) (sym (c .before .before .before .before .before .before .before .before .before .within .ensures) ∙ c .before .before .before .before .before .before .before .before .if5 .taken) _ (c .before .before .before .before .before .before .before .token-at3 .ensures) (c .before .before .before .before .before .before .before .before .before .before .before .before .if1 .left) (c .before .before .before .before .before .before .before .before .before .before .if4 .left) (c .before .before .before .before .before .if6 .left) _ _ (c .before .before .prefixed2 .ensures)
-
-unit-variable-literal-requires : (t : ℕ) → unit-lts.Need-variable-literal-requires (unit-claims t) (unit-at t) unit.Post
-unit-variable-literal-requires t c κs =
-    token-room _ _ _ (c .before .before .before .before .before .before .before .before .before .token-at .ensures) _ _ _ (c .before .before .before .before .before .before .before .before .before .before .before .before .pre .1)
+    let w = prefixed-room _ _ _ _ _ (c .before .before .before .before .before .before .before .before .before .before .before .before .before .before .before .pre .1) _ (c .before .before .before .before .before .before .before .before .before .before .before .token-at .ensures) _ (variable-on _ _ _ _ _ (c .before .before .before .before .before .before .before .before .before .before .before .before .before .before .before .pre .1) _ (c .before .before .before .before .before .before .before .before .before .before .before .token-at .ensures) (sym (c .before .before .before .before .before .before .within .ensures) ∙ c .before .before .before .before .before .if6 .taken) _ (c .before .before .before .before .token-at3 .ensures)) (variable-within _ _ _ _ _ (c .before .before .before .before .before .before .before .before .before .before .before .before .before .before .before .pre .1) _ (c .before .before .before .before .before .before .before .before .before .before .before .token-at .ensures) (sym (c .before .before .before .before .before .before .within .ensures) ∙ c .before .before .before .before .before .if6 .taken) _ (c .before .before .before .before .token-at3 .ensures)) in
+    (omega (arith, w .0, c .before .before .before .before .before .before .before .before .before .before .before .before .before .before .before .pre .0), w .1)
 
 unit-same-length-6 : (t : ℕ) → unit-lts.Need-same-length-6 (unit-claims t) (unit-at t) unit.Post
 unit-same-length-6 t c =
-    c .before .before .variable-literal .kept .1 .1 .1 .0
+    c .before .before .prefixed2 .kept .1 .1 .0
 
 unit-returns-7 : (t : ℕ) → unit-lts.Need-returns-7 (unit-claims t) (unit-at t) unit.Post
 unit-returns-7 t c =
-    unit-variable-literal _ _ _ _ _ (c .before .before .before .before .before .before .before .before .before .before .before .before .before .before .before .pre .1) _ (c .before .before .before .before .before .before .before .before .before .before .before .before .token-at .ensures) (c .before .before .before .before .if7 .taken) _ _ (c .before .before .variable-literal .ensures)
+    unit-quantified _ _ _ _ _ (c .before .before .before .before .before .before .before .before .before .before .before .before .before .before .before .before .before .before .pre .1) _ (c .before .before .before .before .before .before .before .before .before .before .before .before .before .before .token-at .ensures) (sym (c .before .before .before .before .before .before .before .before .before .within .ensures) ∙ c .before .before .before .before .before .before .before .before .if6 .taken) _ (c .before .before .before .before .before .before .before .token-at3 .ensures) (c .before .before .before .before .before .before .before .before .before .before .before .before .if2 .left) (c .before .before .before .before .before .before .before .before .before .before .if5 .left) (c .before .before .before .before .before .if7 .left) _ _ (c .before .before .prefixed2 .ensures)
 
-unit-size-literal-requires : (t : ℕ) → unit-lts.Need-size-literal-requires (unit-claims t) (unit-at t) unit.Post
-unit-size-literal-requires t c κs =
-    token-room _ _ _ (c .before .before .before .before .before .before .before .before .before .before .before .token-at .ensures) _ _ _ (c .before .before .before .before .before .before .before .before .before .before .before .before .before .before .pre .1)
+unit-variable-literal-requires : (t : ℕ) → unit-lts.Need-variable-literal-requires (unit-claims t) (unit-at t) unit.Post
+unit-variable-literal-requires t c κs =
+    token-room _ _ _ (c .before .before .before .before .before .before .before .before .before .token-at .ensures) _ _ _ (c .before .before .before .before .before .before .before .before .before .before .before .before .before .pre .1)
 
 unit-same-length-7 : (t : ℕ) → unit-lts.Need-same-length-7 (unit-claims t) (unit-at t) unit.Post
 unit-same-length-7 t c =
-    c .before .before .size-literal .kept .1 .1 .0
+    c .before .before .variable-literal .kept .1 .1 .1 .0
 
 unit-returns-8 : (t : ℕ) → unit-lts.Need-returns-8 (unit-claims t) (unit-at t) unit.Post
 unit-returns-8 t c =
-    unit-size-literal _ _ _ _ _ (c .before .before .before .before .before .before .before .before .before .before .before .before .before .before .before .before .before .pre .1) _ (c .before .before .before .before .before .before .before .before .before .before .before .before .before .before .token-at .ensures) (c .before .before .before .before .if8 .taken) _ _ (c .before .before .size-literal .ensures)
+    unit-variable-literal _ _ _ _ _ (c .before .before .before .before .before .before .before .before .before .before .before .before .before .before .before .before .pre .1) _ (c .before .before .before .before .before .before .before .before .before .before .before .before .token-at .ensures) (c .before .before .before .before .if8 .taken) _ _ (c .before .before .variable-literal .ensures)
+
+unit-size-literal-requires : (t : ℕ) → unit-lts.Need-size-literal-requires (unit-claims t) (unit-at t) unit.Post
+unit-size-literal-requires t c κs =
+    token-room _ _ _ (c .before .before .before .before .before .before .before .before .before .before .before .token-at .ensures) _ _ _ (c .before .before .before .before .before .before .before .before .before .before .before .before .before .before .before .pre .1)
+
+unit-same-length-8 : (t : ℕ) → unit-lts.Need-same-length-8 (unit-claims t) (unit-at t) unit.Post
+unit-same-length-8 t c =
+    c .before .before .size-literal .kept .1 .1 .0
+
+unit-returns-9 : (t : ℕ) → unit-lts.Need-returns-9 (unit-claims t) (unit-at t) unit.Post
+unit-returns-9 t c =
+    unit-size-literal _ _ _ _ _ (c .before .before .before .before .before .before .before .before .before .before .before .before .before .before .before .before .before .before .pre .1) _ (c .before .before .before .before .before .before .before .before .before .before .before .before .before .before .token-at .ensures) (c .before .before .before .before .if9 .taken) _ _ (c .before .before .size-literal .ensures)
 
 unit-refused-requires-3 : (t : ℕ) → unit-lts.Need-refused-requires-3 (unit-claims t) (unit-at t) unit.Post
 unit-refused-requires-3 t c κs =
     search needs
 
-unit-returns-9 : (t : ℕ) → unit-lts.Need-returns-9 (unit-claims t) (unit-at t) unit.Post
-unit-returns-9 t c =
-    no-unit _ _ _ _ _ (c .before .before .before .before .before .before .before .before .before .before .before .before .before .before .pre .1) _ (c .before .before .before .before .before .before .before .before .before .before .before .token-at .ensures) (c .before .before .before .before .before .before .before .before .before .if1 .left) (c .before .before .before .before .before .before .before .if4 .left) (sym (c .before .before .before .before .before .before .within .ensures) ∙ c .before .before .before .before .before .if5 .left) (c .before .before .before .if7 .left) (c .before .if8 .left) _ _ (c .refused3 .ensures)
+unit-returns-10 : (t : ℕ) → unit-lts.Need-returns-10 (unit-claims t) (unit-at t) unit.Post
+unit-returns-10 t c =
+    no-unit _ _ _ _ _ (c .before .before .before .before .before .before .before .before .before .before .before .before .before .before .before .pre .1) _ (c .before .before .before .before .before .before .before .before .before .before .before .token-at .ensures) (c .before .before .before .before .before .before .before .before .before .if2 .left) (c .before .before .before .before .before .before .before .if5 .left) (sym (c .before .before .before .before .before .before .within .ensures) ∙ c .before .before .before .before .before .if6 .left) (c .before .before .before .if8 .left) (c .before .if9 .left) _ _ (c .refused3 .ensures)
 
 pub +conjunction+disjunction+formula+prefixed+unit-spec : {M : Type 1} → statement M
 +conjunction+disjunction+formula+prefixed+unit-spec =
@@ -534,33 +547,36 @@ pub +conjunction+disjunction+formula+prefixed+unit-spec : {M : Type 1} → state
     λ t. unit-lts.spec (unit-claims t)
     (unit-at t)
     unit.Post
+    (unit-deep-unit-requires t)
+    (unit-same-length t)
+    (unit-returns t)
     (unit-token-at-requires t)
     (unit-add-formula t)
     (unit-formula-requires t)
-    (unit-same-length t)
-    (unit-returns t)
-    (unit-token-at-requires-2 t)
-    (unit-refused-requires t)
     (unit-same-length-2 t)
     (unit-returns-2 t)
+    (unit-token-at-requires-2 t)
+    (unit-refused-requires t)
     (unit-same-length-3 t)
     (unit-returns-3 t)
-    (unit-prefixed-requires t)
     (unit-same-length-4 t)
     (unit-returns-4 t)
+    (unit-prefixed-requires t)
+    (unit-same-length-5 t)
+    (unit-returns-5 t)
     (unit-within-requires t)
     (unit-token-at-requires-3 t)
     (unit-refused-requires-2 t)
-    (unit-returns-5 t)
+    (unit-returns-6 t)
     (unit-sub-prefixed t)
     (unit-prefixed-requires-2 t)
-    (unit-same-length-5 t)
-    (unit-returns-6 t)
-    (unit-variable-literal-requires t)
     (unit-same-length-6 t)
     (unit-returns-7 t)
-    (unit-size-literal-requires t)
+    (unit-variable-literal-requires t)
     (unit-same-length-7 t)
     (unit-returns-8 t)
-    (unit-refused-requires-3 t)
+    (unit-size-literal-requires t)
+    (unit-same-length-8 t)
     (unit-returns-9 t)
+    (unit-refused-requires-3 t)
+    (unit-returns-10 t)

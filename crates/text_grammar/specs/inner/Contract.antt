@@ -21,11 +21,11 @@ pub record ReaderRoom (s out : List ℕ) (at n d : ℕ) : Type 0 where
   pub wide : 8192 ≤ length out
   pub shallow : d ≤ at
 
--- The tree that was found, its records behind the n numbers that stood there, and its flag of ground 4.
+-- The tree that was found, its flag of ground 4, and, where that is down, its records behind the n numbers that stood there.
 pub record Accepted (p : Part) (s before after : List ℕ) (at n d : ℕ) (r : Reading) : Type 0 where
   pub tree : Tree
   pub is : p ≡ found tree (r .next)
-  pub stored : Stored after (r .count) tree
+  pub stored : r .deep ≡ false → Stored after (r .count) tree
   pub deeper : r .deep ≡ tooDeep d tree
   pub kept : (i : ℕ) → i < n → getD after i 0 ≡ getD before i 0
   pub count : n ≤ r .count
@@ -81,12 +81,13 @@ pub record Lent (s out letters : List ℕ) : Type 0 where
   pub wide : 8192 ≤ length out
   pub some : 1 ≤ length letters
 
--- What it ensures: the text's declared sets and tree, the tree's records and the first letters in the tables, and ground 4.
+-- What it ensures: the text's declared sets and tree, ground 4, the first letters in their table, and the records of a tree
+-- that is not too deep in theirs.
 pub record Whole (s after letters : List ℕ) (r : Syntax) : Type 0 where
   pub sets : List Declared
   pub tree : Tree
   pub is : parsed s ≡ read sets tree
-  pub stored : Stored after (r .end) tree
+  pub stored : r .deep ≡ false → Stored after (r .end) tree
   pub deeper : r .deep ≡ tooDeep 0 tree
   pub few : r .sets ≤ length letters
   pub kept : take (r .sets) letters ≡ take (length letters) (lettersOf sets)

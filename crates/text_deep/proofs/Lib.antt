@@ -1,0 +1,4 @@
+-- Laws.
+pub mod Ends
+pub mod Loop
+pub mod Steps
