@@ -4,16 +4,16 @@ use mathlib.Core.Bool.{Bool, true, false, not}
 use mathlib.Core.List.{List, _∷_}
 use Prim.Native.Nat.{ℕ, _+_, _*_, _-_, _≤_, _<_}
 use native.Mathlib.Omega.{arith}
-use lib.Dec.{leb}
+use lib.Dec.{eqb, leb}
 use lib.ListN.{length, getD}
-use borrow.Author.Tests.{leb-false}
+use borrow.Author.Tests.{eqb-true, leb-false}
 use Rattle.logic.specs.Formula.{Node, none, tree, kindNumber}
 use Rattle.logic.proofs.Lists.{or-left, or-right}
 use Rattle.text_tree.specs.Tree.{Quantifier, forall, exists, Join, conj, disj, imp, rev, iff, Tree, par, bind, join}
 use Rattle.text_tree.specs.inner.Stored.{quantifierOperator, joinOperator, Record, Stored, literalCode}
 use Rattle.text_core.specs.Names.{fourth, Lettered}
 use Rattle.text_core.specs.Core.{alone, inside, jointNode, two, quantifierNode, literalAt, place}
-use Rattle.text_tree.proofs.Table.{stored-after, stored-within, on-leaf, on-neg, on-bind, on-join}
+use Rattle.text_tree.proofs.Table.{stored-after, stored-within, other-code, on-leaf, on-neg, on-bind, on-join}
 use Rattle.text_core.proofs.Siblings.{place-before}
 use Rattle.table_format.specs.Bytes.{recordLength, relationByte, aByte, bByte, recordOf}
 use Rattle.text_emit.specs.declared.Bound.{Bound}
@@ -21,7 +21,7 @@ use Rattle.text_emit.specs.declared.Up.{Up}
 use Rattle.table_format.specs.declared.Fields.{Fields}
 use Rattle.text_emit.specs.inner.Fields.{Shows, boundLetters, BindsLetter, QuantifierIs, LiteralIs}
 use Rattle.table_format.specs.inner.Written.{fieldBytes, Written, Records}
-use Rattle.text_emit.specs.inner.Emits.{aboveOf, jointAt, leftAt, rightAt, JointIs, LeftIs, RightIs, rowOf, EmitsLiteral, Emittable, Emits, core, EmitsJoin, EmitsRow}
+use Rattle.text_emit.specs.inner.Emits.{aboveOf, jointAt, leftAt, rightAt, JointIs, LeftIs, RightIs, rowOf, EmitsLiteral, Emittable, Emits, core, EmitsJoin, EmitsRow, GoesOn, EmitsOnward}
 use Rattle.text_emit.proofs.Forests.{shown, records-both, records-tree, records-full, records-none}
 use Rattle.text_emit.proofs.Joints.{join-operands, operands-two, above-joint, joint-merged, joint-own, above-quantifier}
 
@@ -201,3 +201,36 @@ module _ (t : List ℕ) (m e operator : ℕ) (sets : List ℕ) (b : Bound) (p : 
           let H = rw above at (F .writes rev refl x y X Y) in
           rw (place-before sets (boundLetters b) p (join imp x y) (inside p) (place sets (boundLetters b) p (join rev x y) (inside p) none))
           (records-both _ _ (up .number) i n r B M O G H same)
+
+-- what `goes_on` tests
+pub goes-on-is : (t : List ℕ) (e : ℕ) (p : Bool) (kind operator left k : ℕ) → 2 ≤ e → e ≤ length t → operator ≡ getD t (e - 1) 0 → left ≡ getD t (e - 2) 0
+    → 5 ≤ operator → operator ≤ 8 → left ≤ e - 2 → JointIs operator p k → eqb k kind ≡ true → GoesOn t e p kind
+goes-on-is t e p kind operator left k a w o x low high l J same = record {
+  after = a;
+  within = w;
+  join = rw (← o) low;
+  single = rw (← o) (omega (arith, high));
+  left = rw (← x) l;
+  joint = rw (← o, ← eqb-true k kind same) J;
+}
+
+-- the parts of a joint, one after the other: none yet, and one more where the last part goes on with the joint
+module _ (t : List ℕ) (e : ℕ) (sets : List ℕ) (b : Bound) (p : Bool) (up : Up) (i : ℕ) (B : List ℕ) where
+  pub onward-begun : recordLength * i ≤ length B → EmitsOnward t e sets b p up i B i e p B
+  onward-begun h = record { placed = h; same-length = refl; last-low = omega arith; onward = λ O r F. F }
+
+  pub onward-next : (N M : List ℕ) (n k last : ℕ) (q x y : Bool) → EmitsOnward t e sets b p up i B n last q N → GoesOn t last q (up .kind)
+      → length M ≡ length N → LeftIs (getD t (last - 1) 0) q x → RightIs (getD t (last - 1) 0) q y
+      → Emits t (getD t (last - 2) 0) sets b x up n N M k → EmitsOnward t e sets b p up i B k (last - 2) y M
+  onward-next N M n k last q x y W G same L R E = record {
+    placed = rw (← W .same-length) (E .placed);
+    same-length = same ∙ W .same-length;
+    last-low = omega (arith, W .last-low);
+    onward = λ O r F. W .onward O r
+        (emits-join t last sets b q up n N O r
+        (other-code _ (omega (arith, G .join)) (omega (arith, G .single)))
+        (λ z. absurd (omega (arith, G .join)))
+        (G .join)
+        (join-merged t (getD t (last - 2) 0) (last - 2) (getD t (last - 1) 0) sets b q up n N O (up .kind) r (G .joint) refl
+        (operands-parts t (getD t (last - 2) 0) (last - 2) (getD t (last - 1) 0) sets b q up n N O M k r x y (G .single) same L R E F)));
+  }

@@ -12,13 +12,14 @@ use text_tree::operator_at;
 use text_tree::payload_at;
 use text_tree::place;
 ghost use mathlib.Core.Path.{_≡_};
+ghost use mathlib.Core.Bool.{true};
 ghost use Prim.Native.Nat.{_%_, _≤_};
 ghost use lib.ListN.{length};
 ghost use Rattle.logic.specs.Formula.{kindNumber};
 ghost use Rattle.text_core.specs.Core.{jointNode};
 ghost use Rattle.text_core.specs.Names.{setNumber, variableNumber};
 ghost use Rattle.text_emit.specs.inner.Fields.{boundLetters, BindsLetter, RelationIs, QuantifierIs, MemberIs, LiteralIs};
-ghost use Rattle.text_emit.specs.inner.Emits.{EmitReady, EmitsLiteral, JointIs, LeftIs, RightIs, Emits, EmitsJoin, EmitsRow, PutsCore, PlanReady, WritesPlan};
+ghost use Rattle.text_emit.specs.inner.Emits.{EmitReady, EmitsLiteral, JointIs, LeftIs, RightIs, Emits, EmitsJoin, EmitsRow, GoesOn, PutsCore, PlanReady, WritesPlan};
 
 // Operators of the tree's records (crate syntax, specs/Stored.antt).
 const PORT: u16 = 16;
@@ -344,7 +345,32 @@ fn joined(
     end
 }
 
-// What the joint holds: its two parts, or for `<->` the joints of `->` and `<-`.
+// Whether the tree whose records end at e goes on with the joint above it, a node of this kind: an operator joins it that makes
+// the same joint. `<->` does not: it is two joints.
+fn goes_on(t: &[u16], e: usize, p: bool, kind: u8) -> bool
+    ensures { λ r. ⌜ (r ≡ true → GoesOn (now (t .entry)) e p kind) ⌝ }
+{
+    if e < 2 {
+        return false;
+    }
+    if t.len() < e {
+        return false;
+    }
+    let operator = operator_at(t, e);
+    if operator < 5 {
+        return false;
+    }
+    if 8 < operator {
+        return false;
+    }
+    if e - 2 < place(payload_at(t, e)) {
+        return false;
+    }
+    joint_kind(operator, p) == kind
+}
+
+// What the joint holds: its parts, or for `<->` the joints of `->` and `<-`. A right part that goes on with the joint is taken in
+// the loop, so that a row of siblings costs no stack.
 fn operands(
     t: &[u16],
     m: usize,
@@ -364,8 +390,17 @@ fn operands(
         let n = joined(t, m, e, 7, sets, bound, p, up, i, out);
         return joined(t, m, e, 8, sets, bound, p, up, n, out);
     }
-    let n = emit(t, m, sets, bound, left_at(operator, p), up, i, out);
-    emit(t, e, sets, bound, right_at(operator, p), up, n, out)
+    let mut n = emit(t, m, sets, bound, left_at(operator, p), up, i, out);
+    let mut last = e;
+    let mut q = right_at(operator, p);
+    while goes_on(t, last, q, up.kind) {
+        let next = operator_at(t, last);
+        let left = place(payload_at(t, last));
+        n = emit(t, left, sets, bound, left_at(next, q), up, n, out);
+        q = right_at(next, q);
+        last -= 2;
+    }
+    emit(t, last, sets, bound, q, up, n, out)
 }
 
 // The number of the root's parent.

@@ -5,7 +5,7 @@ use borrow.Author.Needs.{needs}
 use borrow.Fn.Kinds.{In}
 use borrow.Fn.PlainCycle.{Measures, is, falls, and}
 use Rattle.table_format.specs.Bytes.{recordLength}
-use Rattle.text_emit.proofs.Emitting.{emits-early, emits-past, emits-leaf, emits-neg, emits-full, emits-bind, emits-cut, emits-join, join-merged, join-full, join-own, operands-parts, operands-arrows}
+use Rattle.text_emit.proofs.Emitting.{emits-early, emits-past, emits-leaf, emits-neg, emits-full, emits-bind, emits-cut, emits-join, join-merged, join-full, join-own, operands-parts, operands-arrows, onward-begun, onward-next}
 use Rattle.text_emit.proofs.+emit+joined+operands.{statement}
 use Rattle.text_emit.proofs.+emit+joined+operands.Tie.{close}
 use Rattle.text_emit.proofs.emit.Reads as emit
@@ -22,6 +22,8 @@ use Rattle.text_tree.proofs.is_literal.Reads as is-literal-reads
 use Rattle.text_tree.proofs.operator_at.Reads as operator-at-reads
 use Rattle.text_tree.proofs.payload_at.Reads as payload-at-reads
 use Rattle.text_tree.proofs.place.Reads as place-reads
+use Rattle.text_emit.specs.inner.Emits.{EmitsOnward}
+use Rattle.text_emit.proofs.goes_on.Reads as goes-on-reads
 use Rattle.text_emit.proofs.joint_kind.Reads as joint-kind-reads
 use Rattle.text_emit.proofs.left_at.Reads as left-at-reads
 use Rattle.text_emit.proofs.plain.Reads as plain-reads
@@ -68,7 +70,7 @@ joined-claims t = (joint-kind-reads.Asked, joint-kind-reads.Learnt, operands-bel
 
 -- what the callees of `operands` ask and give
 abbrev operands-claims : ℕ → operands-lts.Claims
-operands-claims t = (joined-below t, joined.Post, left-at-reads.Asked, left-at-reads.Learnt, emit-below t, emit.Post, right-at-reads.Asked, right-at-reads.Learnt)
+operands-claims t = (joined-below t, joined.Post, left-at-reads.Asked, left-at-reads.Learnt, emit-below t, emit.Post, right-at-reads.Asked, right-at-reads.Learnt, goes-on-reads.Asked, goes-on-reads.Learnt, operator-at-reads.Asked, operator-at-reads.Learnt, payload-at-reads.Asked, payload-at-reads.Learnt, place-reads.Asked, place-reads.Learnt)
 
 emit-returns : (t : ℕ) → emit-lts.Need-returns (emit-claims t) (emit-at t) emit.Post
 emit-returns t c =
@@ -256,45 +258,95 @@ joined-returns-3 : (t : ℕ) → joined-lts.Need-returns-3 (joined-claims t) (jo
 joined-returns-3 t c =
     join-own _ _ _ _ _ _ _ _ _ _ _ _ _ _ _ (c .before .before .before .before .before .before .before .before .before .before .before .before .joint-kind .ensures) (c .before .before .before .before .before .before .before .before .before .before .if1 .left) (c .before .before .before .before .before .before .before .operands2 .ensures) (c .before .before .before .plain .ensures) (c .before .before .put-record .ensures)
 
-operands-joined-requires : (t : ℕ) → operands-lts.Need-joined-requires (operands-claims t) (operands-at t) operands.Post
+abbrev operands-Inv-loop : operands-lts.InvT-loop
+operands-Inv-loop t m e operator sets bound p up i out₀ n₀ last₀ q₀ out n last q = EmitsOnward t last₀ sets bound q₀ up n₀ out₀ n last q out
+
+abbrev operands-μ-loop : operands-lts.MeasureT-loop
+operands-μ-loop t m e operator sets bound p up i out₀ n₀ last₀ q₀ out n last q = last
+
+operands-joined-requires : (t : ℕ) → operands-lts.Need-joined-requires (operands-claims t) (operands-at t) operands.Post operands-Inv-loop operands-μ-loop
 operands-joined-requires t c κs =
     (omega (arith, c .before .before .before .before .before .pre .0, c .before .if1 .taken), c .before .before .before .before .before .pre .1)
 
-operands-joined-requires-2 : (t : ℕ) → operands-lts.Need-joined-requires-2 (operands-claims t) (operands-at t) operands.Post
+operands-joined-requires-2 : (t : ℕ) → operands-lts.Need-joined-requires-2 (operands-claims t) (operands-at t) operands.Post operands-Inv-loop operands-μ-loop
 operands-joined-requires-2 t c κs =
     (omega (arith, c .before .before .before .before .before .before .before .before .before .pre .0, c .before .before .before .before .before .if1 .taken), record { few-sets = c .before .before .before .before .before .before .before .before .before .pre .1 .few-sets; placed = rw (c .before .before .before .joined .kept .1 .1 .1 .1 .1 .1 .1 .1 .1 .0) (c .before .before .before .joined .ensures .placed); few = rw (c .before .before .before .joined .kept .1 .1 .1 .1 .1 .1 .1 .1 .1 .0) (c .before .before .before .before .before .before .before .before .before .pre .1 .few) })
 
-operands-same-length : (t : ℕ) → operands-lts.Need-same-length (operands-claims t) (operands-at t) operands.Post
+operands-same-length : (t : ℕ) → operands-lts.Need-same-length (operands-claims t) (operands-at t) operands.Post operands-Inv-loop operands-μ-loop
 operands-same-length t c =
     c .before .before .joined2 .kept .1 .1 .1 .1 .1 .1 .1 .1 .1 .0 ∙ c .before .before .before .before .before .before .joined .kept .1 .1 .1 .1 .1 .1 .1 .1 .1 .0
 
-operands-returns : (t : ℕ) → operands-lts.Need-returns (operands-claims t) (operands-at t) operands.Post
+operands-returns : (t : ℕ) → operands-lts.Need-returns (operands-claims t) (operands-at t) operands.Post operands-Inv-loop operands-μ-loop
 operands-returns t c =
     operands-arrows _ _ _ _ _ _ _ _ _ _ _ _ _ _ (c .before .before .before .before .before .before .before .before .if1 .taken) (c .before .before .before .before .before .before .joined .kept .1 .1 .1 .1 .1 .1 .1 .1 .1 .0) (c .before .before .before .before .before .before .joined .ensures) (c .before .before .joined2 .ensures)
 
-operands-left-at-requires : (t : ℕ) → operands-lts.Need-left-at-requires (operands-claims t) (operands-at t) operands.Post
+operands-left-at-requires : (t : ℕ) → operands-lts.Need-left-at-requires (operands-claims t) (operands-at t) operands.Post operands-Inv-loop operands-μ-loop
 operands-left-at-requires t c κs =
     search needs
 
-operands-emit-requires : (t : ℕ) → operands-lts.Need-emit-requires (operands-claims t) (operands-at t) operands.Post
+operands-emit-requires : (t : ℕ) → operands-lts.Need-emit-requires (operands-claims t) (operands-at t) operands.Post operands-Inv-loop operands-μ-loop
 operands-emit-requires t c κs =
     (omega (arith, c .before .before .before .before .before .before .pre .0), c .before .before .before .before .before .before .pre .1)
 
-operands-right-at-requires : (t : ℕ) → operands-lts.Need-right-at-requires (operands-claims t) (operands-at t) operands.Post
+operands-right-at-requires : (t : ℕ) → operands-lts.Need-right-at-requires (operands-claims t) (operands-at t) operands.Post operands-Inv-loop operands-μ-loop
 operands-right-at-requires t c κs =
     search needs
 
-operands-emit-requires-2 : (t : ℕ) → operands-lts.Need-emit-requires-2 (operands-claims t) (operands-at t) operands.Post
+operands-loop-holds : (t : ℕ) → operands-lts.Need-loop-holds (operands-claims t) (operands-at t) operands.Post operands-Inv-loop operands-μ-loop
+operands-loop-holds t c =
+    onward-begun _ _ _ _ _ _ _ _ (rw (c .before .before .before .emit .kept .1 .1 .1 .1 .1 .1 .1 .0) (c .before .before .before .emit .ensures .placed))
+
+operands-goes-on-requires : (t : ℕ) → operands-lts.Need-goes-on-requires (operands-claims t) (operands-at t) operands.Post operands-Inv-loop operands-μ-loop
+operands-goes-on-requires t c κs =
+    search needs
+
+operands-operator-at-requires : (t : ℕ) → operands-lts.Need-operator-at-requires (operands-claims t) (operands-at t) operands.Post operands-Inv-loop operands-μ-loop
+operands-operator-at-requires t c κs =
+    (c .before .goes-on .ensures (c .if2 .taken) .after, c .before .goes-on .ensures (c .if2 .taken) .within)
+
+operands-payload-at-requires : (t : ℕ) → operands-lts.Need-payload-at-requires (operands-claims t) (operands-at t) operands.Post operands-Inv-loop operands-μ-loop
+operands-payload-at-requires t c κs =
+    (c .before .before .goes-on .ensures (c .before .if2 .taken) .after, c .before .before .goes-on .ensures (c .before .if2 .taken) .within)
+
+operands-place-requires : (t : ℕ) → operands-lts.Need-place-requires (operands-claims t) (operands-at t) operands.Post operands-Inv-loop operands-μ-loop
+operands-place-requires t c κs =
+    search needs
+
+operands-left-at-requires-2 : (t : ℕ) → operands-lts.Need-left-at-requires-2 (operands-claims t) (operands-at t) operands.Post operands-Inv-loop operands-μ-loop
+operands-left-at-requires-2 t c κs =
+    search needs
+
+operands-emit-requires-2 : (t : ℕ) → operands-lts.Need-emit-requires-2 (operands-claims t) (operands-at t) operands.Post operands-Inv-loop operands-μ-loop
 operands-emit-requires-2 t c κs =
-    (omega (arith, c .before .before .before .before .before .before .before .before .before .before .before .pre .0), record { few-sets = c .before .before .before .before .before .before .before .before .before .before .before .pre .1 .few-sets; placed = rw (c .before .before .before .before .emit .kept .1 .1 .1 .1 .1 .1 .1 .0) (c .before .before .before .before .emit .ensures .placed); few = rw (c .before .before .before .before .emit .kept .1 .1 .1 .1 .1 .1 .1 .0) (c .before .before .before .before .before .before .before .before .before .before .before .pre .1 .few) })
+    (omega (arith, c .before .before .before .before .before .before .before .before .before .before .before .before .before .before .before .before .before .before .pre .0, c .before .before .before .before .before .before .before .loop .inv .last-low, c .before .before .before .before .before .before .goes-on .ensures (c .before .before .before .before .before .if2 .taken) .after, c .before .before .before .before .before .before .goes-on .ensures (c .before .before .before .before .before .if2 .taken) .left, c .before .before .place .ensures, c .before .before .before .payload-at .ensures), record { few-sets = c .before .before .before .before .before .before .before .before .before .before .before .before .before .before .before .before .before .before .pre .1 .few-sets; placed = rw (c .before .before .before .before .before .before .before .loop .inv .same-length) (c .before .before .before .before .before .before .before .loop .inv .placed); few = rw (c .before .before .before .before .before .before .before .loop .inv .same-length, c .before .before .before .before .before .before .before .before .before .before .before .emit .kept .1 .1 .1 .1 .1 .1 .1 .0) (c .before .before .before .before .before .before .before .before .before .before .before .before .before .before .before .before .before .before .pre .1 .few) })
 
-operands-same-length-2 : (t : ℕ) → operands-lts.Need-same-length-2 (operands-claims t) (operands-at t) operands.Post
+operands-right-at-requires-2 : (t : ℕ) → operands-lts.Need-right-at-requires-2 (operands-claims t) (operands-at t) operands.Post operands-Inv-loop operands-μ-loop
+operands-right-at-requires-2 t c κs =
+    search needs
+
+operands-sub-last : (t : ℕ) → operands-lts.Need-sub-last (operands-claims t) (operands-at t) operands.Post operands-Inv-loop operands-μ-loop
+operands-sub-last t c =
+    omega (arith, c .before .before .before .before .before .before .before .before .before .before .goes-on .ensures (c .before .before .before .before .before .before .before .before .before .if2 .taken) .after)
+
+operands-loop-less : (t : ℕ) → operands-lts.Need-loop-less (operands-claims t) (operands-at t) operands.Post operands-Inv-loop operands-μ-loop
+operands-loop-less t c =
+    omega (arith, c .before .before .before .before .before .before .before .before .before .before .goes-on .ensures (c .before .before .before .before .before .before .before .before .before .if2 .taken) .after)
+
+operands-loop-again : (t : ℕ) → operands-lts.Need-loop-again (operands-claims t) (operands-at t) operands.Post operands-Inv-loop operands-μ-loop
+operands-loop-again t c =
+    onward-next _ _ _ _ _ _ _ _ _ _ _ _ _ _ _ _ (c .before .before .before .before .before .before .before .before .before .before .before .loop .inv) (c .before .before .before .before .before .before .before .before .before .before .goes-on .ensures (c .before .before .before .before .before .before .before .before .before .if2 .taken)) (c .before .before .before .emit2 .kept .1 .1 .1 .1 .1 .1 .1 .0) (rw (c .before .before .before .before .before .before .before .before .operator-at .ensures) at (c .before .before .before .before .before .left-at2 .ensures)) (rw (c .before .before .before .before .before .before .before .before .operator-at .ensures) at (c .right-at2 .ensures)) (rw (c .before .before .before .before .before .before .place .ensures, c .before .before .before .before .before .before .before .payload-at .ensures) at (c .before .before .before .emit2 .ensures))
+
+operands-emit-requires-3 : (t : ℕ) → operands-lts.Need-emit-requires-3 (operands-claims t) (operands-at t) operands.Post operands-Inv-loop operands-μ-loop
+operands-emit-requires-3 t c κs =
+    (omega (arith, c .before .before .before .before .before .before .before .before .before .before .before .before .before .before .pre .0, c .before .before .before .loop .inv .last-low), record { few-sets = c .before .before .before .before .before .before .before .before .before .before .before .before .before .before .pre .1 .few-sets; placed = rw (c .before .before .before .loop .inv .same-length) (c .before .before .before .loop .inv .placed); few = rw (c .before .before .before .loop .inv .same-length, c .before .before .before .before .before .before .before .emit .kept .1 .1 .1 .1 .1 .1 .1 .0) (c .before .before .before .before .before .before .before .before .before .before .before .before .before .before .pre .1 .few) })
+
+operands-same-length-2 : (t : ℕ) → operands-lts.Need-same-length-2 (operands-claims t) (operands-at t) operands.Post operands-Inv-loop operands-μ-loop
 operands-same-length-2 t c =
-    c .before .before .emit2 .kept .1 .1 .1 .1 .1 .1 .1 .0 ∙ c .before .before .before .before .before .before .before .emit .kept .1 .1 .1 .1 .1 .1 .1 .0
+    c .before .before .emit3 .kept .1 .1 .1 .1 .1 .1 .1 .0 ∙ c .before .before .before .before .before .before .loop .inv .same-length ∙ c .before .before .before .before .before .before .before .before .before .before .emit .kept .1 .1 .1 .1 .1 .1 .1 .0
 
-operands-returns-2 : (t : ℕ) → operands-lts.Need-returns-2 (operands-claims t) (operands-at t) operands.Post
+operands-returns-2 : (t : ℕ) → operands-lts.Need-returns-2 (operands-claims t) (operands-at t) operands.Post operands-Inv-loop operands-μ-loop
 operands-returns-2 t c =
-    operands-parts _ _ _ _ _ _ _ _ _ _ _ _ _ _ _ _ (c .before .before .before .before .before .before .before .before .before .before .if1 .left) (c .before .before .before .before .before .before .before .emit .kept .1 .1 .1 .1 .1 .1 .1 .0) (c .before .before .before .before .before .before .before .before .before .left-at .ensures) (c .before .before .before .before .right-at .ensures) (c .before .before .before .before .before .before .before .emit .ensures) (c .before .before .emit2 .ensures)
+    operands-parts _ _ _ _ _ _ _ _ _ _ _ _ _ _ _ _ (c .before .before .before .before .before .before .before .before .before .before .before .before .before .if1 .left) (c .before .before .before .before .before .before .before .before .before .before .emit .kept .1 .1 .1 .1 .1 .1 .1 .0) (c .before .before .before .before .before .before .before .before .before .before .before .before .left-at .ensures) (c .before .before .before .before .before .before .before .right-at .ensures) (c .before .before .before .before .before .before .before .before .before .before .emit .ensures) (c .before .before .before .before .before .before .loop .inv .onward _ _ (c .before .before .emit3 .ensures))
 
 pub +emit+joined+operands-spec : {M : Type 1} → statement M
 +emit+joined+operands-spec = close μ-emit μ-joined μ-operands (λ t. emit-lts.spec (emit-claims t)
@@ -349,6 +401,8 @@ pub +emit+joined+operands-spec : {M : Type 1} → statement M
     λ t. operands-lts.spec (operands-claims t)
     (operands-at t)
     operands.Post
+    operands-Inv-loop
+    operands-μ-loop
     (operands-joined-requires t)
     (operands-joined-requires-2 t)
     (operands-same-length t)
@@ -356,6 +410,17 @@ pub +emit+joined+operands-spec : {M : Type 1} → statement M
     (operands-left-at-requires t)
     (operands-emit-requires t)
     (operands-right-at-requires t)
+    (operands-loop-holds t)
+    (operands-goes-on-requires t)
+    (operands-operator-at-requires t)
+    (operands-payload-at-requires t)
+    (operands-place-requires t)
+    (operands-left-at-requires-2 t)
     (operands-emit-requires-2 t)
+    (operands-right-at-requires-2 t)
+    (operands-sub-last t)
+    (operands-loop-less t)
+    (operands-loop-again t)
+    (operands-emit-requires-3 t)
     (operands-same-length-2 t)
     (operands-returns-2 t)

@@ -2,8 +2,8 @@
 use mathlib.Core.Path.{_≡_}
 use mathlib.Core.Bool.{Bool, true, false, not}
 use mathlib.Core.List.{List, _++_}
-use Prim.Native.Nat.{ℕ, zero, suc, _*_, _≤_}
-use lib.ListN.{length, drop}
+use Prim.Native.Nat.{ℕ, zero, suc, _*_, _-_, _≤_, _<_}
+use lib.ListN.{length, drop, getD}
 use Rattle.logic.specs.Formula.{Literal, lit, Forest, none, tree, kindNumber, nodeCount}
 use Rattle.text_tree.specs.Tree.{Join, conj, disj, imp, rev, iff, Tree, Declared, lettersOf}
 use Rattle.text_tree.specs.inner.Stored.{joinOperator, Stored}
@@ -100,6 +100,23 @@ pub record EmitsRow (t : List ℕ) (m e operator : ℕ) (sets : List ℕ) (b : B
   pub placed : recordLength * r ≤ length before
   pub writes : (j : Join) → operator ≡ joinOperator j → aboveOf (up .kind) ≡ inside (jointAt j p) → (x y : Tree) → Emittable t m (b .count) x → Emittable t e (b .count) y
       → Records (rowOf j p (core sets b x) (core sets b y) none) (up .number) i before after r
+
+-- The last record before place e is a join that goes on with the joint of a kind: it makes the same one at the polarity p.
+pub record GoesOn (t : List ℕ) (e : ℕ) (p : Bool) (kind : ℕ) : Type 0 where
+  pub after : 2 ≤ e
+  pub within : e ≤ length t
+  pub join : 5 ≤ getD t (e - 1) 0
+  pub single : getD t (e - 1) 0 < 9
+  pub left : getD t (e - 2) 0 ≤ e - 2
+  pub joint : JointIs (getD t (e - 1) 0) p kind
+
+-- Of the tree whose records end at e some parts are written, up to node n, and what remains is the tree whose records end at `last`:
+-- whatever its records come to, those of the whole do.
+pub record EmitsOnward (t : List ℕ) (e : ℕ) (sets : List ℕ) (b : Bound) (p : Bool) (up : Up) (i : ℕ) (before : List ℕ) (n last : ℕ) (q : Bool) (now : List ℕ) : Type 0 where
+  pub placed : recordLength * n ≤ length before
+  pub same-length : length now ≡ length before
+  pub last-low : last ≤ e
+  pub onward : (after : List ℕ) (r : ℕ) → Emits t last sets b q up n now after r → Emits t e sets b p up i before after r
 
 -- The records of a text's core fill a table of their length. "The root is node 0 with parent 65,535."
 unfoldable pub PutsCore : List ℕ → ℕ → List ℕ → List ℕ → List ℕ → Type 0
