@@ -9,7 +9,8 @@ use lib.ListN.{length, getD}
 use Rattle.logic.specs.Formula.{Node, and, or, Forest, none, tree, childDepth, nodeCount}
 use Rattle.logic.specs.Cells.{cellCount}
 use Rattle.text_tree.specs.Tree.{Quantifier, forall, exists, Join, conj, disj, imp, rev, iff, Tree, leaf, neg, par, bind, join}
-use Rattle.text_tree.specs.inner.Stored.{joinOperator, Stored, literalCode}
+use Rattle.text_tree.specs.inner.Stored.{joinOperator, Stored, literalCode, JoinAt, Joins}
+use Rattle.text_tree.proofs.Joins.{no-tree, join-other, join-no-negation, next-join, next-right, none-left}
 use Rattle.text_counts.specs.declared.Totals.{Totals}
 use Rattle.text_counts.specs.declared.Total.{Total}
 use Rattle.text_core.specs.Core.{Above, alone, inside, jointNode, Part, joint, two, quantifierNode, joinWith, place, coreOf}
@@ -249,9 +250,25 @@ module _ (t : List ℕ) (e u limit : ℕ) where
     totals-join a b n m h J A B =
         on-join t e Goal through n m h (λ j x y o i c d k. J k j o (λ l. partTotal u l x) (λ l. partTotal u l y) (A x c) (B y d))
 
-    pub totals-cut : literalCode (getD t (e - 1) 0) ≡ false → (getD t (e - 1) 0 ≡ 2 → ⊥) → 5 ≤ getD t (e - 1) 0 → e - 2 < getD t (e - 2) 0 → HasTotals t e u limit r
+    pub totals-none : (JoinAt t e → ⊥) → literalCode (getD t (e - 1) 0) ≡ false → (getD t (e - 1) 0 ≡ 2 → ⊥) → 5 ≤ getD t (e - 1) 0 → HasTotals t e u limit r
     unfolding HasTotals
-    totals-cut n m h s = on-join t e Goal through n m h (λ j x y o i c d. absurd (omega arith))
+    totals-none f n m h a d = absurd (no-tree t e f n m h a d)
+
+-- the joins at the end of a tree, taken from the one that stands first: of n, so many are left
+abbrev pub TotalsLeft : List ℕ → ℕ → ℕ → ℕ → ℕ → ℕ → Totals → Type 0
+TotalsLeft t e u limit n left r = (left ≤ n) × HasTotals t (e - 2 * left) u limit r
+
+pub totals-next : (t : List ℕ) (e u limit n left : ℕ) (a b r : Totals) → Joins t e n → 0 < left → TotalsLeft t e u limit n left b
+    → HasTotals t (getD t (e - 2 * (left - 1) - 2) 0) u limit a → BothJoined limit (getD t (e - 2 * (left - 1) - 1) 0) a b r
+    → TotalsLeft t e u limit n (left - 1) r
+totals-next t e u limit n left a b r J some B A R =
+    let j = next-join t e n left J some (B .0) in (
+      (omega (arith, B .0)),
+      totals-join t (e - 2 * (left - 1)) u limit r a b (join-other t _ j) (join-no-negation t _ j) (j .low) R A (rw (next-right t e n left J some (B .0)) (B .1)),
+    )
+
+pub totals-done : (t : List ℕ) (e u limit n left : ℕ) (r : Totals) → left ≤ 0 → TotalsLeft t e u limit n left r → HasTotals t e u limit r
+totals-done t e u limit n left r h B = rw (none-left e left h) at (B .1)
 
 -- the whole core has the root besides
 pub counts-cells : (t : List ℕ) (e u : ℕ) (w : Totals) (r : ℕ) → HasTotals t e u 1048577 w → r ≡ min 1048577 (1 + w .plus .alone) → CountsCells t e u r

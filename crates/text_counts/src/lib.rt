@@ -1,12 +1,14 @@
 // How many nodes and cells the core of a text has, without making it: grounds 8 and 9 of paper 01.
 use text_tree::flip;
 use text_tree::is_literal;
+use text_tree::joins_at;
 use text_tree::operator_at;
 use text_tree::payload_at;
 use text_tree::place;
 ghost use mathlib.Core.Path.{_≡_};
 ghost use mathlib.Core.Bool.{true, false};
 ghost use Prim.Native.Nat.{_+_, _≤_, min};
+ghost use Rattle.text_tree.specs.inner.Stored.{JoinAt};
 ghost use Rattle.text_counts.specs.inner.Counts.{totalAt, HeldBoth, Scale, PairHeld, JoinHeld, BothJoined, Scaled, Quantified, HasTotals, CountsNodes, CountsCells};
 
 // The cells of a part for each cell of its depth (with one port: its nodes), up to a limit, by what stands above it: the
@@ -161,9 +163,26 @@ fn negated(b: Totals) -> Totals
     Totals { plus: g, minus: f }
 }
 
-// The totals of the tree whose records end at e. Each record is visited once.
+// The totals of the tree whose records end at e. Each record is visited once. The joins at its end, each the right part of the one
+// behind it, are met in a loop.
 fn part_totals(t: &[u16], e: usize, u: u32, limit: u32) -> Totals
     requires { ⌜ Scale u limit ⌝ }
+    ensures { λ r. ⌜ HasTotals (now (t .entry)) e u limit r ⌝ }
+{
+    let mut joins = joins_at(t, e);
+    let mut totals = last_totals(t, e - 2 * joins, u, limit);
+    while 0 < joins {
+        joins -= 1;
+        let end = e - 2 * joins;
+        let left = part_totals(t, place(payload_at(t, end)), u, limit);
+        totals = joined(operator_at(t, end), left, totals, limit);
+    }
+    totals
+}
+
+// The totals of a tree that is no join.
+fn last_totals(t: &[u16], e: usize, u: u32, limit: u32) -> Totals
+    requires { ⌜ Scale u limit × (JoinAt (now t) e → ⊥) ⌝ }
     ensures { λ r. ⌜ HasTotals (now (t .entry)) e u limit r ⌝ }
 {
     if e < 2 {
@@ -183,12 +202,7 @@ fn part_totals(t: &[u16], e: usize, u: u32, limit: u32) -> Totals
     if operator < 5 {
         return quantified(b, u, limit);
     }
-    let m = place(payload_at(t, e));
-    if e - 2 < m {
-        return b;
-    }
-    let a = part_totals(t, m, u, limit);
-    joined(operator, a, b, limit)
+    b
 }
 
 // Ground 8: the node count of the core, 513 standing for every larger one.

@@ -10,10 +10,11 @@ use borrow.Author.Tests.{eqb-true, leb-false}
 use Rattle.logic.specs.Formula.{Node, none, tree, kindNumber}
 use Rattle.logic.proofs.Lists.{or-left, or-right}
 use Rattle.text_tree.specs.Tree.{Quantifier, forall, exists, Join, conj, disj, imp, rev, iff, Tree, par, bind, join}
-use Rattle.text_tree.specs.inner.Stored.{quantifierOperator, joinOperator, Record, Stored, literalCode}
+use Rattle.text_tree.specs.inner.Stored.{quantifierOperator, joinOperator, Record, Stored, literalCode, JoinAt}
 use Rattle.text_core.specs.Names.{fourth, Lettered}
 use Rattle.text_core.specs.Core.{alone, inside, jointNode, two, quantifierNode, literalAt, place}
-use Rattle.text_tree.proofs.Table.{stored-after, stored-within, other-code, on-leaf, on-neg, on-bind, on-join}
+use Rattle.text_tree.proofs.Table.{stored-after, stored-within, on-leaf, on-neg, on-bind, on-join}
+use Rattle.text_tree.proofs.Joins.{join-other, join-no-negation}
 use Rattle.text_core.proofs.Siblings.{place-before}
 use Rattle.table_format.specs.Bytes.{recordLength, relationByte, aByte, bByte, recordOf}
 use Rattle.text_emit.specs.declared.Bound.{Bound}
@@ -202,16 +203,13 @@ module _ (t : List ℕ) (m e operator : ℕ) (sets : List ℕ) (b : Bound) (p : 
           rw (place-before sets (boundLetters b) p (join imp x y) (inside p) (place sets (boundLetters b) p (join rev x y) (inside p) none))
           (records-both _ _ (up .number) i n r B M O G H same)
 
--- what `goes_on` tests
-pub goes-on-is : (t : List ℕ) (e : ℕ) (p : Bool) (kind operator left k : ℕ) → 2 ≤ e → e ≤ length t → operator ≡ getD t (e - 1) 0 → left ≡ getD t (e - 2) 0
-    → 5 ≤ operator → operator ≤ 8 → left ≤ e - 2 → JointIs operator p k → eqb k kind ≡ true → GoesOn t e p kind
-goes-on-is t e p kind operator left k a w o x low high l J same = record {
-  after = a;
-  within = w;
-  join = rw (← o) low;
-  single = rw (← o) (omega (arith, high));
-  left = rw (← x) l;
-  joint = rw (← o, ← eqb-true k kind same) J;
+-- a join's kind is the one above
+pub same-joint : (t : List ℕ) (e : ℕ) (p : Bool) (operator k kind : ℕ) → JoinAt t e → operator ≡ getD t (e - 1) 0 → operator ≤ 8 → JointIs operator p k → eqb k kind ≡ true
+    → GoesOn t e p kind
+same-joint t e p operator k kind j o l J h = record {
+  join = j;
+  single = omega (arith, o, l);
+  joint = rw (← o, ← eqb-true k kind h) J;
 }
 
 -- the parts of a joint, one after the other: none yet, and one more where the last part goes on with the joint
@@ -228,9 +226,9 @@ module _ (t : List ℕ) (e : ℕ) (sets : List ℕ) (b : Bound) (p : Bool) (up :
     last-low = omega (arith, W .last-low);
     onward = λ O r F. W .onward O r
         (emits-join t last sets b q up n N O r
-        (other-code _ (omega (arith, G .join)) (omega (arith, G .single)))
-        (λ z. absurd (omega (arith, G .join)))
-        (G .join)
+        (join-other t last (G .join))
+        (join-no-negation t last (G .join))
+        (G .join .low)
         (join-merged t (getD t (last - 2) 0) (last - 2) (getD t (last - 1) 0) sets b q up n N O (up .kind) r (G .joint) refl
         (operands-parts t (getD t (last - 2) 0) (last - 2) (getD t (last - 1) 0) sets b q up n N O M k r x y (G .single) same L R E F)));
   }

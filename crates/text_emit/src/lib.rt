@@ -7,6 +7,7 @@ use table_format::records_from;
 use table_format::table_bytes;
 use text_names::set_number;
 use text_tree::flip;
+use text_tree::is_join;
 use text_tree::is_literal;
 use text_tree::operator_at;
 use text_tree::payload_at;
@@ -350,20 +351,11 @@ fn joined(
 fn goes_on(t: &[u16], e: usize, p: bool, kind: u8) -> bool
     ensures { λ r. ⌜ (r ≡ true → GoesOn (now (t .entry)) e p kind) ⌝ }
 {
-    if e < 2 {
-        return false;
-    }
-    if t.len() < e {
+    if !is_join(t, e) {
         return false;
     }
     let operator = operator_at(t, e);
-    if operator < 5 {
-        return false;
-    }
     if 8 < operator {
-        return false;
-    }
-    if e - 2 < place(payload_at(t, e)) {
         return false;
     }
     joint_kind(operator, p) == kind

@@ -2,7 +2,7 @@
 use mathlib.Core.Path.{_≡_, refl, sym, ap, ap₂, _∙_}
 use mathlib.Core.Bool.{Bool, true, false, not, _||_, true≢false, false≢true}
 use mathlib.Core.List.{List, [], _∷_}
-use Prim.Native.Nat.{ℕ, suc, _+_, _-_, _≤_, _<_}
+use Prim.Native.Nat.{ℕ, suc, _+_, _*_, _-_, _≤_, _<_}
 use native.Mathlib.Numerals.{add-one}
 use native.Mathlib.Omega.{arith}
 use lib.Dec.{leb}
@@ -13,7 +13,8 @@ use Rattle.logic.proofs.Lists.{or-true-left, or-true-right}
 use Rattle.text_tree.specs.Tree.{Tree, par, Declared, lettersOf}
 use Rattle.text_tree.proofs.Sets.{sets-length}
 use Rattle.text_names.specs.declared.Faults.{Faults}
-use Rattle.text_tree.specs.inner.Stored.{literalCode}
+use Rattle.text_tree.specs.inner.Stored.{literalCode, JoinAt, Joins}
+use Rattle.text_tree.proofs.Joins.{no-tree, join-other, join-no-negation, next-join, next-right, none-left}
 use Rattle.text_core.specs.Names.{among, declaredTwice, misdeclared, misnamed, ground6, fourth, ground7, Variable, Lettered}
 use Rattle.text_names.specs.inner.Faults.{Misdeclares, IsBound, Binds, NamesLiteral, HighLiteral, LiteralFaults, Found, Finds, FindsFaults}
 use Rattle.text_tree.proofs.Table.{stored-after, stored-within, on-leaf, on-neg, on-bind, on-join}
@@ -82,9 +83,26 @@ module _ (t : List ℕ) (e : ℕ) (sets : List ℕ) (bound d : ℕ) (r : Faults)
           quantifiers-is = R .2 ∙ ap₂ _||_ (f .quantifiers-is) (g .quantifiers-is);
         })
 
-    pub finds-cut : 5 ≤ getD t (e - 1) 0 → e - 2 < getD t (e - 2) 0 → Finds t e sets bound d r
+    pub finds-none : (JoinAt t e → ⊥) → 5 ≤ getD t (e - 1) 0 → Finds t e sets bound d r
     unfolding Finds
-    finds-cut h g = on-join t e Goal through n m h (λ j x y o i c s l. absurd (omega arith))
+    finds-none f h a s l = absurd (no-tree t e f n m h a s)
+
+-- the joins at the end of a tree, taken from the one that stands first: of n, so many are left
+abbrev pub FindsLeft : List ℕ → ℕ → List ℕ → ℕ → ℕ → ℕ → ℕ → Faults → Type 0
+FindsLeft t e sets bound d n left r = (left ≤ n) × Finds t (e - 2 * left) sets bound d r
+
+pub finds-next : (t : List ℕ) (e : ℕ) (sets : List ℕ) (bound d n left : ℕ) (a b r : Faults) → Joins t e n → 0 < left → FindsLeft t e sets bound d n left b
+    → Finds t (getD t (e - 2 * (left - 1) - 2) 0) sets bound d a
+    → (r .names ≡ (a .names || b .names)) × (r .constants ≡ (a .constants || b .constants)) × (r .quantifiers ≡ (a .quantifiers || b .quantifiers))
+    → FindsLeft t e sets bound d n (left - 1) r
+finds-next t e sets bound d n left a b r J some B A R =
+    let j = next-join t e n left J some (B .0) in (
+      (omega (arith, B .0)),
+      finds-join t (e - 2 * (left - 1)) sets bound d r (join-other t _ j) (join-no-negation t _ j) a b (j .low) A (rw (next-right t e n left J some (B .0)) (B .1)) R,
+    )
+
+pub finds-done : (t : List ℕ) (e : ℕ) (sets : List ℕ) (bound d n left : ℕ) (r : Faults) → left ≤ 0 → FindsLeft t e sets bound d n left r → Finds t e sets bound d r
+finds-done t e sets bound d n left r h B = rw (none-left e left h) at (B .1)
 
 pub finds-all : (t : List ℕ) (e : ℕ) (sets : List ℕ) (r : Faults) → Finds t e sets 0 0 r → FindsFaults t e sets r
 unfolding Finds FindsFaults ground7

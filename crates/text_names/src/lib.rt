@@ -2,6 +2,7 @@
 use logic::flip_port;
 use logic::has_port;
 use text_tree::is_literal;
+use text_tree::joins_at;
 use text_tree::operator_at;
 use text_tree::payload_at;
 use text_tree::place;
@@ -11,6 +12,7 @@ ghost use Prim.Native.Nat.{_+_, _≤_, _<_};
 ghost use lib.Dec.{leb};
 ghost use lib.ListN.{length, getD};
 ghost use Rattle.text_core.specs.Names.{among, setNumber, declaredTwice};
+ghost use Rattle.text_tree.specs.inner.Stored.{JoinAt};
 ghost use Rattle.text_names.specs.inner.Faults.{Misdeclares, IsBound, Binds, NamesLiteral, HighLiteral, LiteralFaults, Finds, FindsFaults};
 
 // Which of grounds 5 (of the formula), 6 and 7 apply.
@@ -171,8 +173,24 @@ fn no_faults() -> Faults {
     }
 }
 
-// The faults of the tree whose records end at e, inside the bound letters and d quantifiers.
+// The faults of the tree whose records end at e, inside the bound letters and d quantifiers. The joins at its end, each the right
+// part of the one behind it, are met in a loop.
 fn find_faults(t: &[u16], e: usize, sets: &[u8], bound: u64, d: u32) -> Faults
+    ensures { λ r. ⌜ Finds (now (t .entry)) e (now (sets .entry)) bound d r ⌝ }
+{
+    let mut joins = joins_at(t, e);
+    let mut faults = last_faults(t, e - 2 * joins, sets, bound, d);
+    while 0 < joins {
+        joins -= 1;
+        let left = place(payload_at(t, e - 2 * joins));
+        faults = both_faults(find_faults(t, left, sets, bound, d), faults);
+    }
+    faults
+}
+
+// The faults of a tree that is no join.
+fn last_faults(t: &[u16], e: usize, sets: &[u8], bound: u64, d: u32) -> Faults
+    requires { ⌜ (JoinAt (now t) e → ⊥) ⌝ }
     ensures { λ r. ⌜ Finds (now (t .entry)) e (now (sets .entry)) bound d r ⌝ }
 {
     if e < 2 {
@@ -193,13 +211,7 @@ fn find_faults(t: &[u16], e: usize, sets: &[u8], bound: u64, d: u32) -> Faults
         let a = find_faults(t, e - 2, sets, with_letter(bound, x), deeper(d));
         return quantifier_faults(a, is_bound(bound, x), d);
     }
-    let m = place(x);
-    if e - 2 < m {
-        return no_faults();
-    }
-    let a = find_faults(t, m, sets, bound, d);
-    let b = find_faults(t, e - 2, sets, bound, d);
-    both_faults(a, b)
+    no_faults()
 }
 
 // Grounds 5 (of the formula), 6 and 7.

@@ -1,4 +1,5 @@
 -- Laws.
+pub mod Joins
 pub mod Records
 pub mod Sets
 pub mod Table

@@ -53,7 +53,7 @@ unfolding quantifierOperator
 quantifier-range forall = omega arith
 quantifier-range exists = omega arith
 
-join-range : (j : Join) → (5 ≤ joinOperator j) × (joinOperator j ≤ 9)
+pub join-range : (j : Join) → (5 ≤ joinOperator j) × (joinOperator j ≤ 9)
 unfolding joinOperator
 join-range conj = omega arith
 join-range disj = omega arith

@@ -1,9 +1,9 @@
 // The tree of a plan's text as records in a table of 16-bit numbers: pushed, and read back. Paper 01, section Plan text.
 ghost use mathlib.Core.Path.{_≡_};
-ghost use mathlib.Core.Bool.{_||_, not};
+ghost use mathlib.Core.Bool.{true, false, _||_, not};
 ghost use Prim.Native.Nat.{_+_, _-_, _≤_};
 ghost use lib.ListN.{length, set, getD};
-ghost use Rattle.text_tree.specs.inner.Stored.{literalCode};
+ghost use Rattle.text_tree.specs.inner.Stored.{literalCode, JoinAt, Joins};
 
 // One of two holds.
 pub fn or(a: bool, b: bool) -> bool
@@ -59,4 +59,38 @@ pub fn place(x: u16) -> usize
     ensures { λ r. ⌜ r ≡ x ⌝ }
 {
     x as usize
+}
+
+// Whether the record that ends at e is a join, of parts that end before it.
+pub fn is_join(t: &[u16], e: usize) -> bool
+    ensures { λ r. ⌜ (r ≡ true → JoinAt (now (t .entry)) e) × (r ≡ false → JoinAt (now (t .entry)) e → ⊥) ⌝ }
+{
+    if e < 2 {
+        return false;
+    }
+    if t.len() < e {
+        return false;
+    }
+    let operator = operator_at(t, e);
+    if operator < 5 {
+        return false;
+    }
+    if 9 < operator {
+        return false;
+    }
+    place(payload_at(t, e)) <= e - 2
+}
+
+// How many joins end at e, each the right part of the one behind it: `a & b & c` has two. They are met in a loop, so that a row of
+// siblings costs no stack.
+pub fn joins_at(t: &[u16], e: usize) -> usize
+    ensures { λ r. ⌜ Joins (now (t .entry)) e r ⌝ }
+{
+    let mut n = 0;
+    let mut at = e;
+    while is_join(t, at) {
+        n += 1;
+        at -= 2;
+    }
+    n
 }

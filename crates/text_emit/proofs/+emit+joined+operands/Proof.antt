@@ -302,11 +302,11 @@ operands-goes-on-requires t c κs =
 
 operands-operator-at-requires : (t : ℕ) → operands-lts.Need-operator-at-requires (operands-claims t) (operands-at t) operands.Post operands-Inv-loop operands-μ-loop
 operands-operator-at-requires t c κs =
-    (c .before .goes-on .ensures (c .if2 .taken) .after, c .before .goes-on .ensures (c .if2 .taken) .within)
+    (c .before .goes-on .ensures (c .if2 .taken) .join .after, c .before .goes-on .ensures (c .if2 .taken) .join .within)
 
 operands-payload-at-requires : (t : ℕ) → operands-lts.Need-payload-at-requires (operands-claims t) (operands-at t) operands.Post operands-Inv-loop operands-μ-loop
 operands-payload-at-requires t c κs =
-    (c .before .before .goes-on .ensures (c .before .if2 .taken) .after, c .before .before .goes-on .ensures (c .before .if2 .taken) .within)
+    (c .before .before .goes-on .ensures (c .before .if2 .taken) .join .after, c .before .before .goes-on .ensures (c .before .if2 .taken) .join .within)
 
 operands-place-requires : (t : ℕ) → operands-lts.Need-place-requires (operands-claims t) (operands-at t) operands.Post operands-Inv-loop operands-μ-loop
 operands-place-requires t c κs =
@@ -318,7 +318,7 @@ operands-left-at-requires-2 t c κs =
 
 operands-emit-requires-2 : (t : ℕ) → operands-lts.Need-emit-requires-2 (operands-claims t) (operands-at t) operands.Post operands-Inv-loop operands-μ-loop
 operands-emit-requires-2 t c κs =
-    (omega (arith, c .before .before .before .before .before .before .before .before .before .before .before .before .before .before .before .before .before .before .pre .0, c .before .before .before .before .before .before .before .loop .inv .last-low, c .before .before .before .before .before .before .goes-on .ensures (c .before .before .before .before .before .if2 .taken) .after, c .before .before .before .before .before .before .goes-on .ensures (c .before .before .before .before .before .if2 .taken) .left, c .before .before .place .ensures, c .before .before .before .payload-at .ensures), record { few-sets = c .before .before .before .before .before .before .before .before .before .before .before .before .before .before .before .before .before .before .pre .1 .few-sets; placed = rw (c .before .before .before .before .before .before .before .loop .inv .same-length) (c .before .before .before .before .before .before .before .loop .inv .placed); few = rw (c .before .before .before .before .before .before .before .loop .inv .same-length, c .before .before .before .before .before .before .before .before .before .before .before .emit .kept .1 .1 .1 .1 .1 .1 .1 .0) (c .before .before .before .before .before .before .before .before .before .before .before .before .before .before .before .before .before .before .pre .1 .few) })
+    (omega (arith, c .before .before .before .before .before .before .before .before .before .before .before .before .before .before .before .before .before .before .pre .0, c .before .before .before .before .before .before .before .loop .inv .last-low, c .before .before .before .before .before .before .goes-on .ensures (c .before .before .before .before .before .if2 .taken) .join .after, c .before .before .before .before .before .before .goes-on .ensures (c .before .before .before .before .before .if2 .taken) .join .left, c .before .before .place .ensures, c .before .before .before .payload-at .ensures), record { few-sets = c .before .before .before .before .before .before .before .before .before .before .before .before .before .before .before .before .before .before .pre .1 .few-sets; placed = rw (c .before .before .before .before .before .before .before .loop .inv .same-length) (c .before .before .before .before .before .before .before .loop .inv .placed); few = rw (c .before .before .before .before .before .before .before .loop .inv .same-length, c .before .before .before .before .before .before .before .before .before .before .before .emit .kept .1 .1 .1 .1 .1 .1 .1 .0) (c .before .before .before .before .before .before .before .before .before .before .before .before .before .before .before .before .before .before .pre .1 .few) })
 
 operands-right-at-requires-2 : (t : ℕ) → operands-lts.Need-right-at-requires-2 (operands-claims t) (operands-at t) operands.Post operands-Inv-loop operands-μ-loop
 operands-right-at-requires-2 t c κs =
@@ -326,11 +326,11 @@ operands-right-at-requires-2 t c κs =
 
 operands-sub-last : (t : ℕ) → operands-lts.Need-sub-last (operands-claims t) (operands-at t) operands.Post operands-Inv-loop operands-μ-loop
 operands-sub-last t c =
-    omega (arith, c .before .before .before .before .before .before .before .before .before .before .goes-on .ensures (c .before .before .before .before .before .before .before .before .before .if2 .taken) .after)
+    omega (arith, c .before .before .before .before .before .before .before .before .before .before .goes-on .ensures (c .before .before .before .before .before .before .before .before .before .if2 .taken) .join .after)
 
 operands-loop-less : (t : ℕ) → operands-lts.Need-loop-less (operands-claims t) (operands-at t) operands.Post operands-Inv-loop operands-μ-loop
 operands-loop-less t c =
-    omega (arith, c .before .before .before .before .before .before .before .before .before .before .goes-on .ensures (c .before .before .before .before .before .before .before .before .before .if2 .taken) .after)
+    omega (arith, c .before .before .before .before .before .before .before .before .before .before .goes-on .ensures (c .before .before .before .before .before .before .before .before .before .if2 .taken) .join .after)
 
 operands-loop-again : (t : ℕ) → operands-lts.Need-loop-again (operands-claims t) (operands-at t) operands.Post operands-Inv-loop operands-μ-loop
 operands-loop-again t c =

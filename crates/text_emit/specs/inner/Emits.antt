@@ -6,7 +6,7 @@ use Prim.Native.Nat.{ℕ, zero, suc, _*_, _-_, _≤_, _<_}
 use lib.ListN.{length, drop, getD}
 use Rattle.logic.specs.Formula.{Literal, lit, Forest, none, tree, kindNumber, nodeCount}
 use Rattle.text_tree.specs.Tree.{Join, conj, disj, imp, rev, iff, Tree, Declared, lettersOf}
-use Rattle.text_tree.specs.inner.Stored.{joinOperator, Stored}
+use Rattle.text_tree.specs.inner.Stored.{joinOperator, Stored, JoinAt}
 use Rattle.text_core.specs.Names.{fourth, Lettered}
 use Rattle.text_names.specs.inner.Faults.{ReadAs}
 use Rattle.text_core.specs.Core.{Above, alone, inside, jointNode, Part, two, literalAt, joinWith, place, coreOf, planOf}
@@ -101,13 +101,11 @@ pub record EmitsRow (t : List ℕ) (m e operator : ℕ) (sets : List ℕ) (b : B
   pub writes : (j : Join) → operator ≡ joinOperator j → aboveOf (up .kind) ≡ inside (jointAt j p) → (x y : Tree) → Emittable t m (b .count) x → Emittable t e (b .count) y
       → Records (rowOf j p (core sets b x) (core sets b y) none) (up .number) i before after r
 
--- The last record before place e is a join that goes on with the joint of a kind: it makes the same one at the polarity p.
+-- The last record before place e is a join that goes on with the joint of a kind: it makes the same one at the polarity p, and is no
+-- `<->`, which makes two.
 pub record GoesOn (t : List ℕ) (e : ℕ) (p : Bool) (kind : ℕ) : Type 0 where
-  pub after : 2 ≤ e
-  pub within : e ≤ length t
-  pub join : 5 ≤ getD t (e - 1) 0
+  pub join : JoinAt t e
   pub single : getD t (e - 1) 0 < 9
-  pub left : getD t (e - 2) 0 ≤ e - 2
   pub joint : JointIs (getD t (e - 1) 0) p kind
 
 -- Of the tree whose records end at e some parts are written, up to node n, and what remains is the tree whose records end at `last`:

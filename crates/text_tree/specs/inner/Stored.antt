@@ -3,7 +3,7 @@
 use mathlib.Core.Path.{_≡_}
 use mathlib.Core.List.{List}
 use mathlib.Core.Bool.{Bool, _||_}
-use Prim.Native.Nat.{ℕ, _+_, _*_, _-_, _≤_}
+use Prim.Native.Nat.{ℕ, _+_, _*_, _-_, _≤_, _<_}
 use lib.ListN.{length, getD}
 use lib.Dec.{leb, ltb}
 use Rattle.logic.specs.Formula.{Test, isin, notin, port, size, Literal, relationNumber}
@@ -50,3 +50,17 @@ pub data Stored (t : List ℕ) : ℕ → Tree → Type 0 where
 -- The operators of literals: `testOperator` gives these.
 unfoldable pub literalCode : ℕ → Bool
 literalCode operator = ltb operator 2 || leb 16 operator
+
+-- The last record before place e is a join, of parts that end before it.
+pub record JoinAt (t : List ℕ) (e : ℕ) : Type 0 where
+  pub after : 2 ≤ e
+  pub within : e ≤ length t
+  pub low : 5 ≤ getD t (e - 1) 0
+  pub high : getD t (e - 1) 0 ≤ 9
+  pub left : getD t (e - 2) 0 ≤ e - 2
+
+-- The last n records before place e are joins, each the right part of the one behind it, and the record before them is none.
+pub record Joins (t : List ℕ) (e n : ℕ) : Type 0 where
+  pub fit : 2 * n ≤ e
+  pub each : (i : ℕ) → i < n → JoinAt t (e - 2 * i)
+  pub last : JoinAt t (e - 2 * n) → ⊥
