@@ -4,14 +4,14 @@ use crate::random::{ports, Random};
 use crate::second::plan::{Node, Plan, ALL, AND, COMPARE, IN, MOST_CELLS, MOST_NODES, MOST_SETS, OR, ROOT, SIZE, SOME};
 
 /// A node with the nodes below it: parents and ends are laid out behind it, and so stay right.
-struct Branch {
+pub struct Branch {
     node: Node,
     below: Vec<Branch>,
 }
 
 impl Branch {
     /// A node of a kind with its relation, a and b.
-    fn of(kind: u8, [relation, a, b]: [u8; 3], below: Vec<Branch>) -> Branch {
+    pub fn of(kind: u8, [relation, a, b]: [u8; 3], below: Vec<Branch>) -> Branch {
         Branch { node: Node { kind, relation, a, b, parent: 0, end: 0 }, below }
     }
 }
@@ -25,6 +25,13 @@ fn lay(b: &Branch, parent: u16, nodes: &mut Vec<Node>) {
     nodes.push(Node { parent, ..b.node.clone() });
     b.below.iter().for_each(|c| lay(c, i as u16, nodes));
     nodes[i].end = nodes.len() as u16;
+}
+
+/// The plan whose root has this child, over some ports and sets. It keeps the rules of order alone.
+pub fn planted(u: usize, n: usize, child: Branch) -> Plan {
+    let mut nodes = Vec::new();
+    lay(&Branch::of(ROOT, [0; 3], vec![child]), u16::MAX, &mut nodes);
+    Plan { u, n, nodes }
 }
 
 /// The branch at a place in the table's order, counted down to 0.
@@ -169,9 +176,7 @@ fn grown(r: &mut Random, tree: impl FnOnce(&mut Grower) -> Branch) -> Plan {
     // The root and its child are made in any case.
     let (left, quantifiers) = (r.below(most), r.below(4));
     let child = tree(&mut Grower { r, n, left, quantifiers });
-    let mut nodes = Vec::new();
-    lay(&Branch::of(ROOT, [0; 3], vec![child]), u16::MAX, &mut nodes);
-    let mut plan = Plan { u: ports(r) as usize, n, nodes };
+    let mut plan = planted(ports(r) as usize, n, child);
     while plan.cells() > MOST_CELLS {
         plan.u = 1 + r.below(plan.u - 1);
     }

@@ -3,7 +3,8 @@
 //! `second` and `plain` do not use the binding and share no code; `calls` has the records in which all three answer. `compare` and
 //! `lists` compare the archive with `second`, call by call and in lists of calls; `reading` and `writing` are texts in the first,
 //! `best` is the list of best moves in both, and `in_test` a port put in test. `random` and `forest` make what they are given, `desk` and `journals` what a list is.
-//! `damage` and `list_damage` see to it that a wrong bit is reported. `bench` measures the archive beside `plain`.
+//! `damage` and `list_damage` see to it that a wrong bit is reported. `bench` measures the archive beside `plain`, and `stack` how much
+//! stack each call takes.
 pub mod archive;
 pub mod bench;
 pub mod best;
@@ -22,6 +23,7 @@ pub mod plain;
 pub mod random;
 pub mod reading;
 pub mod second;
+pub mod stack;
 pub mod writing;
 
 /// Runs on a thread with stack enough for the deepest text, by any of the evaluators, and hands back what it answers.

@@ -2,7 +2,7 @@
 //!
 //! A host program has no need of this module: the functions at the crate's root say the same in types. It is public for programs
 //! that hold the archive to its contract. That a refusal has all fields 0 but its number, for instance, a typed answer does not
-//! show.
+//! show. Its functions are inlined where they are called, so that a program which measures the archive's stack measures nothing else.
 use crate::answers::{Improved, Loaded, Moved, Read};
 use crate::moves::Move;
 use crate::refusal::Refusal;
@@ -170,30 +170,35 @@ extern "C" {
 }
 
 /// `vk_read`; see [`crate::read`].
+#[inline]
 pub fn read(u: u64, text: &[u8], table: &mut [u8]) -> ReadAnswer {
     // SAFETY: each pointer comes from a slice of the length beside it, and `table`, which is written, is borrowed here alone.
     unsafe { vk_read(u, text.as_ptr(), text.len(), table.as_mut_ptr(), table.len()) }
 }
 
 /// `vk_write`; see [`crate::write`].
+#[inline]
 pub fn write(table: &[u8], text: &mut [u8]) -> CountAnswer {
     // SAFETY: each pointer comes from a slice of the length beside it, and `text`, which is written, is borrowed here alone.
     unsafe { vk_write(table.as_ptr(), table.len(), text.as_mut_ptr(), text.len()) }
 }
 
 /// `vk_load`; see [`crate::load`].
+#[inline]
 pub fn load(table: &[u8], masks: &[u64], cells: &mut [u32]) -> LoadAnswer {
     // SAFETY: each pointer comes from a slice of the length beside it, and `cells`, which is written, is borrowed here alone.
     unsafe { vk_load(table.as_ptr(), table.len(), masks.as_ptr(), masks.len(), cells.as_mut_ptr(), cells.len()) }
 }
 
 /// `vk_node_cells`; see [`crate::node_cells`].
+#[inline]
 pub fn node_cells(table: &[u8], cells: &[u32], node: usize) -> Part {
     // SAFETY: each pointer comes from a slice of the length beside it, and nothing is written.
     unsafe { vk_node_cells(table.as_ptr(), table.len(), cells.as_ptr(), cells.len(), node) }
 }
 
 /// `vk_move`; see [`crate::make_move`].
+#[inline]
 pub fn make_move(table: &[u8], masks: &mut [u64], cells: &mut [u32], journal: &mut [Move], count: &mut usize, m: Move) -> MoveAnswer {
     let (t, ms, cs, j) = (table.as_ptr(), masks.as_mut_ptr(), cells.as_mut_ptr(), journal.as_mut_ptr());
     // SAFETY: each pointer comes from a slice of the length beside it, that of the count from a reference, and `masks`, `cells`,
@@ -202,6 +207,7 @@ pub fn make_move(table: &[u8], masks: &mut [u64], cells: &mut [u32], journal: &m
 }
 
 /// `vk_undo`; see [`crate::undo`].
+#[inline]
 pub fn undo(table: &[u8], masks: &mut [u64], cells: &mut [u32], journal: &[Move], count: &mut usize) -> MoveAnswer {
     let (t, ms, cs, j) = (table.as_ptr(), masks.as_mut_ptr(), cells.as_mut_ptr(), journal.as_ptr());
     // SAFETY: each pointer comes from a slice of the length beside it, that of the count from a reference, and `masks`, `cells` and
@@ -210,6 +216,7 @@ pub fn undo(table: &[u8], masks: &mut [u64], cells: &mut [u32], journal: &[Move]
 }
 
 /// `vk_test_begin`; see [`crate::test_begin`].
+#[inline]
 pub fn test_begin(table: &[u8], masks: &mut [u64], cells: &mut [u32], port: u32) -> MoveAnswer {
     // SAFETY: each pointer comes from a slice of the length beside it, and `masks` and `cells`, which are written, are borrowed here
     // alone.
@@ -217,12 +224,14 @@ pub fn test_begin(table: &[u8], masks: &mut [u64], cells: &mut [u32], port: u32)
 }
 
 /// `vk_test_end`; see [`crate::test_end`].
+#[inline]
 pub fn test_end(table: &[u8], masks: &mut [u64], cells: &mut [u32], port: u32) -> MoveAnswer {
     // SAFETY: as for `test_begin`.
     unsafe { vk_test_end(table.as_ptr(), table.len(), masks.as_mut_ptr(), masks.len(), cells.as_mut_ptr(), cells.len(), port) }
 }
 
 /// `vk_trial`; see [`crate::trial`].
+#[inline]
 pub fn trial(table: &[u8], masks: &[u64], cells: &[u32], scratch: &mut [u32], m: Move) -> MoveAnswer {
     let (t, ms, cs, sc) = (table.as_ptr(), masks.as_ptr(), cells.as_ptr(), scratch.as_mut_ptr());
     // SAFETY: each pointer comes from a slice of the length beside it, and `scratch`, which is written, is borrowed here alone.
@@ -230,6 +239,7 @@ pub fn trial(table: &[u8], masks: &[u64], cells: &[u32], scratch: &mut [u32], m:
 }
 
 /// `vk_improve`; see [`crate::improve`].
+#[inline]
 pub fn improve(
     table: &[u8],
     masks: &mut [u64],
@@ -246,6 +256,7 @@ pub fn improve(
 }
 
 /// `vk_best_moves`; see [`crate::best_moves`].
+#[inline]
 pub fn best_moves(table: &[u8], masks: &[u64], cells: &[u32], scratch: &mut [u32], kinds: u32, list: &mut [Move]) -> CountAnswer {
     let (t, ms, cs, sc) = (table.as_ptr(), masks.as_ptr(), cells.as_ptr(), scratch.as_mut_ptr());
     // SAFETY: each pointer comes from a slice of the length beside it, and `scratch` and `list`, which are written, are borrowed
