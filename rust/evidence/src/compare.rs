@@ -11,7 +11,7 @@ use crate::forest::{any_plan, damage_plan};
 use crate::in_test::{self, any_call, any_test, compare_test, edge_ports, wanted_tests, Asked};
 use crate::lent::{same, Compared, Lent};
 use crate::random::{any_bytes, any_kinds, damage_table, masks, put_outside, too_few_masks, Random};
-use crate::reading::{compare_read, one_text};
+use crate::reading::{compare_read, one_text, wanted_deep};
 use crate::second::formula::RELATIONS;
 use crate::second::moves::{legal_moves, tables};
 use crate::second::penalty::{cells as cells_of, text_true};
@@ -261,6 +261,7 @@ pub fn missed(counts: &Counts) -> Vec<String> {
     wanted.extend((11..=14).chain([16]).map(|n| (format!("best moves over any cells: refused {n}"), 100)));
     wanted.push(("best moves over any cells: listed".to_string(), 100));
     wanted.extend(wanted_tests(" over any cells", &[11, 12, 13, 14, 20]));
+    wanted.extend(wanted_deep());
     wanted.extend(wanted_ties());
     wanted.extend(wanted_writings());
     wanted.extend(["broken table", "short cells", "no such node", "a part"].map(|c| (format!("node cells: {c}"), 100)));

@@ -1,4 +1,5 @@
 //! Random plan texts and masks, and damage to texts and to the bytes of tables. Everything follows from a seed.
+use crate::deep::{deep_text, deepest_text};
 use crate::second::formula::RELATIONS;
 use crate::second::plan::{HEADER, RECORD};
 
@@ -216,7 +217,7 @@ fn damage_tokens(text: &mut Text, which: usize, r: &mut Random) -> bool {
 const CONSTANTS: [&str; 6] = ["64", "65", "66", "100", "18446744073709551616", "99999999999999999999999"];
 
 /// The i-th letter from `first` on, round and round.
-fn letter(first: u8, i: usize) -> String {
+pub fn letter(first: u8, i: usize) -> String {
     ((first + (i % 26) as u8) as char).to_string()
 }
 
@@ -310,10 +311,15 @@ fn damage_bytes(bytes: &mut Vec<u8>, which: usize, r: &mut Random) {
     }
 }
 
-/// Ports and bytes of a text with no damage, one or two; at times with a number of ports that no plan has.
+/// Ports and bytes of a text with no damage, one or two; at times with a number of ports that no plan has. Some texts nest about as
+/// deep as a text may, and a few much deeper.
 pub fn any_text(r: &mut Random) -> (u64, Vec<u8>) {
-    let mut made = text(r);
-    let times = r.one_of(&[0, 0, 0, 1, 1, 2]);
+    let (mut made, times) = match r.below(200) {
+        // These are broken already.
+        0..=15 => (deep_text(r), 0),
+        16 | 17 => (deepest_text(r), 0),
+        _ => (text(r), r.one_of(&[0, 0, 0, 1, 1, 2])),
+    };
     let damages: Vec<usize> = (0..times).map(|_| r.below(DAMAGES)).collect();
     let left: Vec<usize> = damages.into_iter().filter(|d| made.tokens.is_empty() || !damage_tokens(&mut made, *d, r)).collect();
     let mut bytes = made.bytes(r);

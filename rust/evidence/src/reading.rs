@@ -10,7 +10,7 @@ use crate::random::{any_bytes, any_text, Random};
 use crate::second::formula::RELATIONS;
 use crate::second::plan::{COMPARE, SIZE};
 use crate::second::table::encode;
-use crate::second::text::{read as second_read, Accepted};
+use crate::second::text::{deepest, read as second_read, Accepted, MOST_AROUND};
 
 /// Reads a random text with both; hands back what is accepted.
 pub fn one_text(r: &mut Random, counts: &mut Counts, damage: &mut Damage) -> Compared<Option<Accepted>> {
@@ -24,6 +24,7 @@ pub fn one_text(r: &mut Random, counts: &mut Counts, damage: &mut Damage) -> Com
     };
     let answer = compare_read(u, &text, room, r, damage)?;
     counts.met("texts");
+    count_deep(&text, answer.as_ref().map_or_else(|number| *number, |_| 0), counts);
     match answer {
         Ok(accepted) => {
             count_accepted(&accepted, counts);
@@ -56,6 +57,44 @@ fn same_reading(answer: Result<Read, u32>, fields: raw::ReadAnswer, expected: &R
     same("read's fields", &fields, &read_fields(numbers))?;
     let own = expected.as_ref().map_or(Vec::new(), |a| encode(&a.plan));
     table.holds("plan table", &own)
+}
+
+/// From so many levels on a text counts as deep, and as much deeper.
+const DEEP: usize = 60;
+const MUCH_DEEPER: usize = 200;
+
+/// A text that nests deep, by its answer; 0 is accepted. Where it leaves the grammar, it counts whether that is behind the 65th level:
+/// a reader that looks no further than the limit would answer 4.
+fn count_deep(text: &[u8], number: u32, counts: &mut Counts) {
+    let deepest = deepest(text);
+    let class = match number {
+        0 => "accepted".to_string(),
+        3 if deepest > MOST_AROUND => "read 03 behind the 65th level".to_string(),
+        number => format!("read {number:02}"),
+    };
+    for (least, name) in [(DEEP, "deep"), (MUCH_DEEPER, "much deeper")] {
+        if deepest >= least {
+            counts.met(format!("{name}: {class}"));
+        }
+    }
+}
+
+/// What a run says at its end about texts that nest deep.
+pub fn told_deep(counts: &Counts) -> String {
+    let [accepted, behind, before, limit] =
+        ["accepted", "read 03 behind the 65th level", "read 03", "read 04"].map(|class| counts.of(&format!("deep: {class}")));
+    let [far, far_limit] = ["read 03 behind the 65th level", "read 04"].map(|class| counts.of(&format!("much deeper: {class}")));
+    format!(
+        "texts of {DEEP} levels or more: {accepted} accepted; refused: {limit} by 4, {behind} by 3 behind the 65th level, {before} by 3 before it; \
+         of {MUCH_DEEPER} or more: {far_limit} by 4, {far} by 3"
+    )
+}
+
+/// Classes of texts that nest deep, and how often a run must meet them.
+pub fn wanted_deep() -> Vec<(String, u64)> {
+    let often = ["accepted", "read 03 behind the 65th level", "read 03", "read 04"].map(|class| (format!("deep: {class}"), 100));
+    let seldom = ["read 03 behind the 65th level", "read 04"].map(|class| (format!("much deeper: {class}"), 20));
+    often.into_iter().chain(seldom).chain([5, 7].map(|n| (format!("deep: read {n:02}"), 20))).collect()
 }
 
 fn count_accepted(accepted: &Accepted, counts: &mut Counts) {

@@ -1,6 +1,8 @@
 //! Texts at the edges of the grounds, as docs/DECISIONS.md reads paper 01: both evaluators give the number written here.
 use evidence::archive::read;
-use evidence::second::text::read as second_read;
+use evidence::deep::sound_text;
+use evidence::random::{Random, Text};
+use evidence::second::text::{deepest, read as second_read};
 use evidence::with_stack;
 
 fn number(u: u64, text: &[u8], room: usize) -> u32 {
@@ -105,6 +107,51 @@ fn deepest_texts() {
         assert_eq!(number(3, format!("[S]{}", "(".repeat(4093)).as_bytes(), 5000), 3);
         assert_eq!(number(3, format!("[S]{}", "~".repeat(4093)).as_bytes(), 5000), 3);
     });
+}
+
+/// What is wrong behind the 65th level is 3 and not 4, wherever it stands.
+#[test]
+fn wrong_behind_the_limit() {
+    let deep =
+        |levels: usize, behind: &str| format!("[S]@x@y@z{}x<y{}{behind}", "(~".repeat((levels - 3) / 2), ")".repeat((levels - 3) / 2));
+    for (levels, sound) in [(63, 0), (65, 4), (2001, 4)] {
+        for (number, behind) in [(sound, ""), (sound, "->#S<1"), (3, ")"), (3, "->#S<1->#S<1"), (3, "&"), (3, "x")] {
+            let text = deep(levels, behind);
+            assert_eq!(with_stack(move || number_of(&text)), number, "{levels} levels, then {behind}");
+        }
+    }
+}
+
+fn number_of(text: &str) -> u32 {
+    number(3, text.as_bytes(), 5000)
+}
+
+/// Every token of some deep texts removed, doubled or exchanged with the next, and a bracket or two arrows put before it.
+#[test]
+fn deep_texts_broken_at_every_place() {
+    let broken = |tokens: &[String], at: usize| {
+        let put = |by: &[&str], skip: usize| {
+            let by: Vec<String> = by.iter().map(|token| token.to_string()).collect();
+            [&tokens[..at], &by, &tokens[at + skip..]].concat()
+        };
+        let own = tokens[at].as_str();
+        let next = tokens.get(at + 1).map_or(own, |next| next);
+        let exchanged = put(&[next, own], 2.min(tokens.len() - at));
+        [put(&[], 1), put(&[own], 0), exchanged, put(&["("], 0), put(&[")"], 0), put(&["->", "#", "S", "<", "1", "->"], 0)]
+    };
+    let mut met = [0; 13];
+    for (seed, levels) in (0..).zip([62, 63, 64, 64, 65, 65, 66, 70]) {
+        let r = &mut Random::new(seed);
+        let sound = sound_text(r, levels);
+        assert_eq!(deepest(&sound.bytes(r)), levels);
+        for at in 0..sound.tokens.len() {
+            for tokens in broken(&sound.tokens, at) {
+                let text = Text { u: sound.u, tokens }.bytes(r);
+                met[number(sound.u, &text, 5000) as usize] += 1;
+            }
+        }
+    }
+    assert!([0, 3, 4].iter().all(|number| met[*number] > 100), "{met:?}");
 }
 
 #[test]

@@ -13,6 +13,7 @@ use evidence::damage::{Damage, Target};
 use evidence::list_damage::{damaged_list, HITS};
 use evidence::lists;
 use evidence::random::Random;
+use evidence::reading::told_deep;
 use evidence::with_stack;
 use evidence::writing::told_writings;
 
@@ -58,6 +59,7 @@ fn rounds_fail(rounds: u64, seed: u64) -> bool {
         }
     }
     print(&counts);
+    println!("{}", told_deep(&counts));
     println!("{}", told_ties(&counts));
     println!("{}", told_writings(&counts));
     println!("{rounds} rounds, {} texts, {} loads: no difference", counts.of("texts"), counts.of("loads"));

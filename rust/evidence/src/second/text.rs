@@ -61,6 +61,23 @@ struct Reader {
 }
 
 impl Reader {
+    fn of(text: &[u8]) -> Option<Reader> {
+        Some(Reader { tokens: tokens(text)?, at: 0, around: 0, deepest: 0 })
+    }
+
+    /// The set letters and the formula's tree.
+    fn text(&mut self) -> Option<(Vec<u8>, Tree)> {
+        if !self.takes("[") {
+            return None;
+        }
+        let mut sets = vec![self.upper()?];
+        while !self.takes("]") {
+            sets.push(self.upper()?);
+        }
+        let tree = self.formula()?;
+        (self.at == self.tokens.len()).then_some((sets, tree))
+    }
+
     fn next(&mut self) -> Option<Token> {
         let token = self.tokens.get(self.at)?.clone();
         self.at += 1;
@@ -181,16 +198,15 @@ impl Reader {
 
 /// The set letters, the formula's tree and the most that stands around one token; nothing for a text outside the grammar.
 fn parse(text: &[u8]) -> Option<(Vec<u8>, Tree, usize)> {
-    let mut reader = Reader { tokens: tokens(text)?, at: 0, around: 0, deepest: 0 };
-    if !reader.takes("[") {
-        return None;
-    }
-    let mut sets = vec![reader.upper()?];
-    while !reader.takes("]") {
-        sets.push(reader.upper()?);
-    }
-    let tree = reader.formula()?;
-    (reader.at == reader.tokens.len()).then_some((sets, tree, reader.deepest))
+    let mut reader = Reader::of(text)?;
+    reader.text().map(|(sets, tree)| (sets, tree, reader.deepest))
+}
+
+/// The most of `(`, `~` and quantifiers around one token, of all that is read before a text leaves the grammar, if it does.
+pub fn deepest(text: &[u8]) -> usize {
+    let Some(mut reader) = Reader::of(text) else { return 0 };
+    reader.text();
+    reader.deepest
 }
 
 /// Ground 5 below a place where these variables are bound: an undeclared set, an unbound variable, one bound again.
