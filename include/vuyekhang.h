@@ -8,7 +8,8 @@
  *
  * An answer's number is 0 where the call is accepted, else the ground for refusal, with all other fields 0. A refused call
  * writes nothing. Nothing past a plan's own bytes, masks or cells is ever read or written. A plan's own masks are one for each set
- * and, after these, that of the ports in test.
+ * and, after these, that of the ports in test. No call takes more than STACK_FIGURE of stack, whatever it is given (measured:
+ * docs/PERFORMANCE.md, Stack).
  *
  * Grounds: 1 text over 4,096 bytes; 2 a byte of no token, space or line end; 3 outside the grammar; 4 more than 64 of `(`, `~` and
  * quantifiers around one token; 5 set undeclared, declared twice or a seventeenth, variable unbound or bound again within its
@@ -47,7 +48,7 @@ typedef struct {
 } vk_read_answer;
 
 /* Reads a plan text over u ports and writes its plan table, 9 + 8 * nodes bytes. Tries ground 10, then 1 to 9, each over the whole
- * text, then 12 (the table is shorter than the plan's). A text may nest so deep that it takes 4 MB of stack. */
+ * text, then 12 (the table is shorter than the plan's). */
 vk_read_answer vk_read(uint64_t u, const uint8_t *text, size_t text_len, uint8_t *table, size_t table_len);
 
 /* Number; how many: bytes of a text that was written, moves that were listed. */
@@ -150,7 +151,7 @@ vk_improve_answer vk_improve(const uint8_t *table, size_t table_len, uint64_t *m
 /* Lists the legal moves of some kinds that leave the least root, as vk_trial would answer it, each once and in order, also where
  * that root is not smaller than now; 0 of them where none is legal. Tries 11 to 13 as vk_trial does, then 14 (kinds), then 16
  * (list_len, in records, is below the count). Masks and cells are kept, and so are the list's records past the count. Scratch as for
- * vk_trial. It takes some 100 KB of stack. */
+ * vk_trial. */
 vk_count_answer vk_best_moves(const uint8_t *table, size_t table_len, const uint64_t *masks, size_t masks_len,
                               const uint32_t *cells, size_t cells_len, uint32_t *scratch, size_t scratch_len, uint32_t kinds,
                               vk_move_record *list, size_t list_len);

@@ -7,7 +7,7 @@ use vuyekhang::MOST_TABLE;
 use super::clock::{medians, now, timed};
 use super::plans::{opposite, Plan, KINDS};
 use super::state::State;
-use crate::calls::{Improved, Move, Numbers, Test};
+use crate::calls::{Improved, Move, Numbers, Read, Test};
 use crate::{archive, plain};
 
 /// Times in nanoseconds; zero where a call has no such time.
@@ -53,13 +53,18 @@ pub fn measure(plan: &Plan, state: &State, each: &mut dyn FnMut(&Line)) {
 }
 
 fn reading(plan: &Plan) -> Line {
+    line("read", read_times(plan.u, plan.text.as_bytes()).1)
+}
+
+/// A text read by the archive and by the plain engine: what both answer, and the times.
+pub fn read_times(u: u64, text: &[u8]) -> (Result<Read, u32>, [f64; 2]) {
     let (mut by_archive, mut by_plain) = (vec![0; MOST_TABLE], vec![0; MOST_TABLE]);
-    let text = plan.text.as_bytes();
-    assert_eq!(archive::read(plan.u, text, &mut by_archive), plain::read(plan.u, text, &mut by_plain));
+    let answer = archive::read(u, text, &mut by_archive);
+    assert_eq!(answer, plain::read(u, text, &mut by_plain));
     assert_eq!(by_archive, by_plain, "plan tables differ");
-    let mut archive = |times| timed(times, || keep(archive::read(plan.u, black_box(text), &mut by_archive)));
-    let mut plain = |times| timed(times, || keep(plain::read(plan.u, black_box(text), &mut by_plain)));
-    line("read", medians([&mut archive, &mut plain]))
+    let mut archive = |times| timed(times, || keep(archive::read(u, black_box(text), &mut by_archive)));
+    let mut plain = |times| timed(times, || keep(plain::read(u, black_box(text), &mut by_plain)));
+    (answer, medians([&mut archive, &mut plain]))
 }
 
 fn loading(state: &State) -> Line {

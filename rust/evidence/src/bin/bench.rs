@@ -1,6 +1,7 @@
 //! `bench [PLAN..]`: times of the archive beside the plain engine, as tables in markdown. Answers are compared; times are only
-//! printed. With names (B1 to B6), only the calls on these plans.
-use evidence::bench::calls::{measure, parts, Line};
+//! printed. With names (B1 to B6, and `deep` for the deep texts), only the calls on these.
+use evidence::bench::calls::{measure, parts, read_times, Line};
+use evidence::bench::deep::{deep_texts, PORTS};
 use evidence::bench::growth::{larger, more_touched, ADD};
 use evidence::bench::plans::{plans, Plan};
 use evidence::bench::state::State;
@@ -9,13 +10,20 @@ use evidence::with_stack;
 fn main() {
     let names: Vec<String> = std::env::args().skip(1).collect();
     with_stack(move || {
-        if !names.is_empty() {
-            return print_calls(|plan| names.iter().any(|name| name == plan));
+        let asked = |name: &str| names.is_empty() || names.iter().any(|asked| asked == name);
+        if names.is_empty() {
+            print_plans();
         }
-        print_plans();
-        print_calls(|_| true);
-        print_growth("The plan grows, the touched cells do not", &larger());
-        print_growth("The touched cells grow, the plan does not", &more_touched());
+        if plans().iter().any(|plan| asked(plan.name)) {
+            print_calls(asked);
+        }
+        if asked("deep") {
+            print_deep();
+        }
+        if names.is_empty() {
+            print_growth("The plan grows, the touched cells do not", &larger());
+            print_growth("The touched cells grow, the plan does not", &more_touched());
+        }
     });
 }
 
@@ -45,6 +53,17 @@ fn print_call(plan: &str, line: &Line) {
     let times = format!("{} | {} | {}", time(line.archive), time(line.plain), ratio(line.archive / line.plain));
     let again = format!("{} | {}", against(line.by_rows), against(line.by_recursion));
     println!("| {plan} | {} | {times} | {again} | {} | {} |", line.call, count(line.touched), count(line.changed as usize));
+}
+
+/// The plain engine's reader recurses, as every evaluator here may: `with_stack` has room for it.
+fn print_deep() {
+    println!("\n| text read | bytes | answer | archive | plain | archive/plain |\n|---|---|---|---|---|---|");
+    for deep in deep_texts() {
+        let (answer, [archive, plain]) = read_times(PORTS, deep.text.as_bytes());
+        let answer = answer.map_or_else(|number| format!("refused ({number})"), |a| format!("{} nodes", a.nodes));
+        let times = format!("{} | {} | {}", time(archive), time(plain), ratio(archive / plain));
+        println!("| {} | {} | {answer} | {times} |", deep.name, deep.text.len());
+    }
 }
 
 fn print_growth(title: &str, plans: &[Plan]) {

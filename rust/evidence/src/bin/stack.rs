@@ -16,10 +16,15 @@ fn main() -> ExitCode {
     ExitCode::from(u8::from(!above.is_empty()))
 }
 
+/// A name in a table, where a bar would end its column.
+fn shown(input: &str) -> String {
+    input.replace('|', "\\|")
+}
+
 fn print_all(lines: &[Line]) {
     println!("| input | call | number | bytes |\n|---|---|---|---|");
     for line in lines {
-        println!("| {} | {} | {} | {} |", line.input, line.call, line.number, line.bytes);
+        println!("| {} | {} | {} | {} |", shown(&line.input), line.call, line.number, line.bytes);
     }
     println!();
 }
@@ -31,7 +36,7 @@ fn print_worst(lines: &[Line]) -> Vec<&'static str> {
     for name in NAMES {
         let of_name = || lines.iter().filter(|line| line.call.name() == name);
         let worst = of_name().max_by_key(|line| line.bytes).expect("every call is measured");
-        println!("| {} | {} | {} | {} | {} |", worst.call, of_name().count(), worst.bytes, worst.number, worst.input);
+        println!("| {} | {} | {} | {} | {} |", worst.call, of_name().count(), worst.bytes, worst.number, shown(&worst.input));
         if worst.bytes > MOST_STACK {
             above.push(name);
         }

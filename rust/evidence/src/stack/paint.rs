@@ -27,9 +27,9 @@ impl Stack {
     pub fn used(&self, room: usize, call: impl FnOnce()) -> usize {
         assert!(room <= MOST && room.is_multiple_of(8));
         let top: usize;
-        // SAFETY: nothing lives below the stack pointer while no call is running (a block that may use the stack, as this one does
-        // not say that it doesn't, leaves no red zone). `room` bytes below it belong to this thread: a `Stack` is only made on one
-        // that has many times `MOST`. The words are written upwards by one instruction, which itself uses no stack.
+        // SAFETY: nothing lives below the stack pointer while no call is running: a block without `nostack` keeps the compiler from
+        // a red zone there. `room` bytes below it belong to this thread, since a `Stack` is only made on one that has many times
+        // `MOST`. One instruction writes the words, upwards, and uses no stack itself.
         unsafe {
             asm!(
                 "mov {top}, rsp",

@@ -105,6 +105,17 @@ fn at_the_limit(nest: (&str, &str), (begin, literal): (&str, &str), sign: &str) 
     few.into_iter().chain(whole_and_broken(&name(most), &text(most))).collect()
 }
 
+/// Literals joined by a sign, and as the last part one inside of 64 levels: as many as a plan may have, and as many as the text has room
+/// for.
+fn behind_literals(nest: (&str, &str), sign: &str) -> Vec<Input> {
+    let times = MOST_AROUND / levels(nest.0);
+    let text = |count: usize| nested(&format!("[S]{}", format!("#S<1{sign}").repeat(count)), nest, times, "#S<1");
+    let counts = [most_of(text, accepted), most_of(text, fits)];
+    counts
+        .map(|count| input(format!("{count} literals joined by `{sign}`, then {times} times `{}..{}`", nest.0, nest.1), &text(count)))
+        .into()
+}
+
 /// No nesting, but as many parts as a plan may have or as fit.
 fn flat((begin, literal): (&str, &str)) -> Vec<Input> {
     let mut all = Vec::new();
@@ -117,15 +128,27 @@ fn flat((begin, literal): (&str, &str)) -> Vec<Input> {
     all
 }
 
+/// The smallest plan, and texts that are long by their set letters, digits or blanks.
+fn long() -> [Input; 5] {
+    let letters: String = ('A'..='Z').cycle().take(4_000).collect();
+    [
+        input("the smallest plan".to_string(), "[S]#S<1"),
+        input("4,000 set letters".to_string(), &format!("[{letters}]#A<1")),
+        input("the same set letter 4,000 times".to_string(), &format!("[{}]#A<1", "A".repeat(4_000))),
+        input("4,000 digits".to_string(), &format!("[S]#S<{}", "9".repeat(4_000))),
+        input("4,000 blanks".to_string(), &format!("[S]{}#S<1", " ".repeat(4_000))),
+    ]
+}
+
 fn deep(nest: (&'static str, &'static str)) -> impl Iterator<Item = Input> {
     let ways = BEGINNINGS.into_iter().flat_map(|begin| ["&", "|"].map(|sign| (begin, sign)));
     let limit = ways.flat_map(move |(begin, sign)| at_the_limit(nest, begin, sign));
-    closed(nest).into_iter().chain(limit)
+    let behind = ["&", "|"].into_iter().flat_map(move |sign| behind_literals(nest, sign));
+    closed(nest).into_iter().chain(limit).chain(behind)
 }
 
 pub fn texts() -> impl Iterator<Item = Input> {
-    let smallest = input("the smallest plan".to_string(), "[S]#S<1");
     let openings: BTreeSet<&str> = NESTS.into_iter().map(|(open, _)| open).collect();
     let unclosed = openings.into_iter().map(opened);
-    std::iter::once(smallest).chain(BEGINNINGS.into_iter().flat_map(flat)).chain(unclosed).chain(NESTS.into_iter().flat_map(deep))
+    long().into_iter().chain(BEGINNINGS.into_iter().flat_map(flat)).chain(unclosed).chain(NESTS.into_iter().flat_map(deep))
 }
