@@ -2,10 +2,11 @@
 //! follows from a seed.
 use crate::random::{letter, Random, Text};
 use crate::second::formula::RELATIONS;
+use crate::second::text::LONGEST_TEXT;
 
 const ARROWS: [&str; 3] = ["->", "<-", "<->"];
 
-/// Nests `(`, `~` and quantifiers in each other, with literals beside what is nested.
+/// Nests `(`, `~` and quantifiers in each other, with other parts beside what is nested.
 struct Nest<'a> {
     r: &'a mut Random,
     /// What stands before the nested part, and behind it, the innermost level first.
@@ -15,8 +16,10 @@ struct Nest<'a> {
     bound: usize,
     /// The most quantifiers.
     quantifiers: usize,
-    /// How many of a hundred brackets have a literal before what is nested in them, and as many behind it.
+    /// How many of a hundred brackets have another part before what is nested in them, and as many behind it.
     beside: usize,
+    /// How many levels may be opened yet.
+    room: usize,
 }
 
 fn words(tokens: &[&str]) -> Vec<String> {
@@ -42,6 +45,31 @@ impl Nest<'_> {
         }
     }
 
+    /// A literal, at times inside of some levels of its own, up to the last that may be opened: they end before the next part begins.
+    fn part(&mut self) -> Vec<String> {
+        let levels = self.r.one_of(&[0, 0, 0, 0, 1, 3, self.room]).min(self.room);
+        let (outer, mut tokens, mut closing) = (self.bound, Vec::new(), Vec::new());
+        for _ in 0..levels {
+            match self.r.below(8) {
+                0 if self.bound < self.quantifiers => tokens.extend(self.quantifier()),
+                0..=3 => {
+                    tokens.push("(".to_string());
+                    closing.push(")".to_string());
+                }
+                _ => tokens.push("~".to_string()),
+            }
+        }
+        let literal = self.literal();
+        self.bound = outer;
+        [tokens, literal, closing].concat()
+    }
+
+    /// Binds one variable more.
+    fn quantifier(&mut self) -> [String; 2] {
+        self.bound += 1;
+        [self.r.pick(&["@", "?"]).to_string(), letter(b'a', self.bound - 1)]
+    }
+
     /// A sign that joins two parts: most often `&` or `|`; an arrow only where there is none yet.
     fn sign(&mut self, arrow: bool) -> &'static str {
         if arrow && self.r.chance(10) {
@@ -54,31 +82,29 @@ impl Nest<'_> {
         self.before.push("(".to_string());
         let mut arrow = true;
         if self.r.chance(self.beside) {
-            let (literal, sign) = (self.literal(), self.sign(true));
+            let (part, sign) = (self.part(), self.sign(true));
             arrow = !ARROWS.contains(&sign);
-            self.before.extend(literal);
+            self.before.extend(part);
             self.before.push(sign.to_string());
         }
         let mut behind = Vec::new();
         if self.r.chance(self.beside) {
             behind.push(self.sign(arrow).to_string());
-            behind.extend(self.literal());
+            behind.extend(self.part());
         }
         behind.push(")".to_string());
         self.behind.splice(0..0, behind);
     }
 
-    fn open_quantifier(&mut self) {
-        let sign = self.r.pick(&["@", "?"]);
-        self.before.extend([sign.to_string(), letter(b'a', self.bound)]);
-        self.bound += 1;
-    }
-
     /// One level more, by one of some signs.
     fn open(&mut self, signs: &str) {
+        self.room = self.room.saturating_sub(1);
         match signs.as_bytes()[self.r.below(signs.len())] {
             b'~' => self.before.push("~".to_string()),
-            b'@' if self.bound < self.quantifiers => self.open_quantifier(),
+            b'@' if self.bound < self.quantifiers => {
+                let quantifier = self.quantifier();
+                self.before.extend(quantifier);
+            }
             _ => self.open_bracket(),
         }
     }
@@ -93,17 +119,15 @@ impl Nest<'_> {
     }
 }
 
-/// A sound text that nests until it is deep enough, by its levels and its bytes.
-fn nested(r: &mut Random, beside: usize, enough: impl Fn(usize, usize) -> bool) -> Text {
+/// A sound text of so many levels, or of as many as so many bytes hold.
+fn nested(r: &mut Random, beside: usize, levels: usize, bytes: usize) -> Text {
     // More than three are 7, and more than 26 bind a letter again, which is 5.
     let quantifiers = r.one_of(&[0, 1, 2, 3, 3, 4, 70]);
     let signs = r.pick(&["(", "(~", "((~@", "(~~@", "(@", "~@"]);
     let u = 1 + r.below(3) as u64;
-    let mut nest = Nest { r, before: words(&["[", "S", "]"]), behind: Vec::new(), bound: 0, quantifiers, beside };
-    let mut levels = 0;
-    while !enough(levels, nest.bytes()) {
+    let mut nest = Nest { r, before: words(&["[", "S", "]"]), behind: Vec::new(), bound: 0, quantifiers, beside, room: levels };
+    while nest.room > 0 && nest.bytes() < bytes {
         nest.open(signs);
-        levels += 1;
     }
     Text { u, tokens: nest.text() }
 }
@@ -157,7 +181,7 @@ fn broken(mut text: Text, r: &mut Random) -> Text {
 /// A sound text of so many levels.
 pub fn sound_text(r: &mut Random, levels: usize) -> Text {
     let beside = r.one_of(&[0, 10, 40, 80]);
-    nested(r, beside, |now, _| now == levels)
+    nested(r, beside, levels, usize::MAX)
 }
 
 /// 58 to 70 levels.
@@ -169,7 +193,7 @@ pub fn deep_text(r: &mut Random) -> Text {
 
 /// Hundreds of levels, or thousands.
 pub fn deepest_text(r: &mut Random) -> Text {
-    let (beside, most) = (r.one_of(&[0, 0, 5]), r.one_of(&[500, 1500, 2400, 3900]));
-    let text = nested(r, beside, |_, bytes| bytes >= most);
+    let bytes = r.one_of(&[500, 1500, 2400, 3900]);
+    let text = nested(r, 0, LONGEST_TEXT, bytes);
     broken(text, r)
 }

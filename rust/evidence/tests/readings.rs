@@ -112,18 +112,28 @@ fn deepest_texts() {
 /// What is wrong behind the 65th level is 3 and not 4, wherever it stands.
 #[test]
 fn wrong_behind_the_limit() {
-    let deep =
-        |levels: usize, behind: &str| format!("[S]@x@y@z{}x<y{}{behind}", "(~".repeat((levels - 3) / 2), ")".repeat((levels - 3) / 2));
-    for (levels, sound) in [(63, 0), (65, 4), (2001, 4)] {
-        for (number, behind) in [(sound, ""), (sound, "->#S<1"), (3, ")"), (3, "->#S<1->#S<1"), (3, "&"), (3, "x")] {
-            let text = deep(levels, behind);
-            assert_eq!(with_stack(move || number_of(&text)), number, "{levels} levels, then {behind}");
+    // Three quantifiers, and two levels a time.
+    let deep = |times: usize, behind: &str| format!("[S]@x@y@z{}x<y{}{behind}", "(~".repeat(times), ")".repeat(times));
+    for (times, sound) in [(30, 0), (31, 4), (1000, 4)] {
+        for (expected, behind) in [(sound, ""), (sound, "->#S<1"), (3, ")"), (3, "->#S<1->#S<1"), (3, "&"), (3, "x")] {
+            let text = deep(times, behind);
+            assert_eq!(with_stack(move || number(3, text.as_bytes(), 5000)), expected, "{times} times, then {behind}");
         }
     }
 }
 
-fn number_of(text: &str) -> u32 {
-    number(3, text.as_bytes(), 5000)
+/// Levels end with what they stand around: in another part there are 64 again.
+#[test]
+fn sixty_four_in_each_part() {
+    let inside = |levels: [usize; 2], sign: &str| {
+        let [one, other] = levels.map(|levels| nested(sign, levels).split_off(3));
+        format!("[S]{one}&{one}|{other}->{one}")
+    };
+    for sign in ["(", "~"] {
+        assert_eq!(number(3, inside([64, 64], sign).as_bytes(), 5000), 0);
+        assert_eq!(number(3, inside([64, 65], sign).as_bytes(), 5000), 4);
+        assert_eq!(number(3, format!("{}->#S<1", inside([64, 65], sign)).as_bytes(), 5000), 3);
+    }
 }
 
 /// Every token of some deep texts removed, doubled or exchanged with the next, and a bracket or two arrows put before it.
@@ -140,7 +150,7 @@ fn deep_texts_broken_at_every_place() {
         [put(&[], 1), put(&[own], 0), exchanged, put(&["("], 0), put(&[")"], 0), put(&["->", "#", "S", "<", "1", "->"], 0)]
     };
     let mut met = [0; 13];
-    for (seed, levels) in (0..).zip([62, 63, 64, 64, 65, 65, 66, 70]) {
+    for (seed, levels) in (0..).zip([63, 64, 65, 70]) {
         let r = &mut Random::new(seed);
         let sound = sound_text(r, levels);
         assert_eq!(deepest(&sound.bytes(r)), levels);
