@@ -63,13 +63,16 @@ fn same_reading(answer: Result<Read, u32>, fields: raw::ReadAnswer, expected: &R
 const DEEP: usize = 60;
 const MUCH_DEEPER: usize = 200;
 
+const BEHIND: &str = "read 03 behind the 65th level";
+const CLASSES: [&str; 4] = ["accepted", "read 04", BEHIND, "read 03"];
+
 /// A text that nests deep, by its answer; 0 is accepted. Where it leaves the grammar, it counts whether that is behind the 65th level:
 /// a reader that looks no further than the limit would answer 4.
 fn count_deep(text: &[u8], number: u32, counts: &mut Counts) {
     let deepest = deepest(text);
     let class = match number {
         0 => "accepted".to_string(),
-        3 if deepest > MOST_AROUND => "read 03 behind the 65th level".to_string(),
+        3 if deepest > MOST_AROUND => BEHIND.to_string(),
         number => format!("read {number:02}"),
     };
     for (least, name) in [(DEEP, "deep"), (MUCH_DEEPER, "much deeper")] {
@@ -81,20 +84,20 @@ fn count_deep(text: &[u8], number: u32, counts: &mut Counts) {
 
 /// What a run says at its end about texts that nest deep.
 pub fn told_deep(counts: &Counts) -> String {
-    let [accepted, behind, before, limit] =
-        ["accepted", "read 03 behind the 65th level", "read 03", "read 04"].map(|class| counts.of(&format!("deep: {class}")));
-    let [far, far_limit] = ["read 03 behind the 65th level", "read 04"].map(|class| counts.of(&format!("much deeper: {class}")));
+    let [accepted, limit, behind, before] = CLASSES.map(|class| counts.of(&format!("deep: {class}")));
+    let [_, far_limit, far, _] = CLASSES.map(|class| counts.of(&format!("much deeper: {class}")));
+    let refused = format!("{limit} by 4, {behind} by 3 behind the 65th level, {before} by 3 before it");
     format!(
-        "texts of {DEEP} levels or more: {accepted} accepted; refused: {limit} by 4, {behind} by 3 behind the 65th level, {before} by 3 before it; \
-         of {MUCH_DEEPER} or more: {far_limit} by 4, {far} by 3"
+        "texts of {DEEP} levels or more: {accepted} accepted, refused {refused}; of {MUCH_DEEPER} or more: {far_limit} by 4, {far} by 3"
     )
 }
 
 /// Classes of texts that nest deep, and how often a run must meet them.
 pub fn wanted_deep() -> Vec<(String, u64)> {
-    let often = ["accepted", "read 03 behind the 65th level", "read 03", "read 04"].map(|class| (format!("deep: {class}"), 100));
-    let seldom = ["read 03 behind the 65th level", "read 04"].map(|class| (format!("much deeper: {class}"), 20));
-    often.into_iter().chain(seldom).chain([5, 7].map(|n| (format!("deep: read {n:02}"), 20))).collect()
+    let often = CLASSES.map(|class| (format!("deep: {class}"), 100));
+    let seldom = ["read 05", "read 07"].map(|class| (format!("deep: {class}"), 20));
+    let far = ["read 04", BEHIND].map(|class| (format!("much deeper: {class}"), 20));
+    often.into_iter().chain(seldom).chain(far).collect()
 }
 
 fn count_accepted(accepted: &Accepted, counts: &mut Counts) {
