@@ -10,10 +10,11 @@ use lib.ListN.{length, getD}
 use Rattle.text_tree.specs.Tree.{Join, Tree, neg, par, join}
 use Rattle.text_tokens.specs.Tokens.{pick}
 use Rattle.text_grammar.specs.Grammar.{Level, unit, conjunction, disjunction, formula, kindAt, nextAt}
-use Rattle.text_grammar.specs.Parser.{Part, missing, found, test, follow, nothing, mapPart, joinSign, joined, closed, rank, parseAt}
-use Rattle.text_grammar.proofs.Readers.{Joins, joins-conjunction, joins-disjunction, joins-formula, unit-bracket}
-use Rattle.text_grammar.proofs.Calls.{rank-range, same-calls}
-use Rattle.text_deep.specs.inner.Deep.{endOf, calls, partAt, conjoined, disjoined, arrowed, closing, bracket, outward}
+use Rattle.text_grammar.specs.Parser.{Part, missing, found, test, follow, nothing, mapPart, joinSign, joined, closed}
+use Rattle.text_grammar.specs.inner.Contract.{calls, partAt}
+use Rattle.text_grammar.proofs.Readers.{joins-conjunction, joins-disjunction, joins-formula, unit-bracket}
+use Rattle.text_grammar.proofs.Calls.{one-more, joined-at}
+use Rattle.text_deep.specs.inner.Deep.{endOf, conjoined, disjoined, arrowed, closing, bracket, outward}
 
 -- parts without their trees
 
@@ -74,26 +75,18 @@ outward-missing s (b ∷ bs) = ap (λ (p : Part). endOf (outward s bs (closed s 
     go true = refl
     go false = refl
 
--- the parser with calls enough for every position
-
 module _ (s : List ℕ) where
-  pub one-more : (l : Level) (i : ℕ) → i ≤ length s → partAt l s i ≡ parseAt (suc (calls s)) l s i
-  one-more l i h = let r = rank-range l in same-calls (calls s) (suc (calls s)) s l i h (omega (arith, r .1)) (omega (arith, r .1))
-
-  joined-at : (l m k : Level) → Joins l m k → (i : ℕ) → i ≤ length s → partAt l s i ≡ joined s (joinSign l) (partAt k s) (partAt m s i)
-  joined-at l m k J i h = one-more l i h ∙ J .step (calls s) s i
-
   conjunction-at : (i : ℕ) → i ≤ length s → partAt conjunction s i ≡ conjoined s (partAt unit s i)
-  conjunction-at i h = joined-at conjunction unit conjunction joins-conjunction i h
+  conjunction-at i h = joined-at s conjunction unit conjunction joins-conjunction i h
 
   disjunction-at : (i : ℕ) → i ≤ length s → partAt disjunction s i ≡ disjoined s (conjoined s (partAt unit s i))
-  disjunction-at i h = joined-at disjunction conjunction disjunction joins-disjunction i h ∙ ap (disjoined s) (conjunction-at i h)
+  disjunction-at i h = joined-at s disjunction conjunction disjunction joins-disjunction i h ∙ ap (disjoined s) (conjunction-at i h)
 
   -- a bracket opens
   pub opens : (i : ℕ) → i ≤ length s → nextAt s i ≤ length s → kindAt s i ≡ 3 → partAt unit s i ≡ bracket s 0 (partAt unit s (nextAt s i))
   opens i h w e =
-      one-more unit i h ∙ unit-bracket (calls s) s i e
-      ∙ ap (closed s) (joined-at formula disjunction disjunction joins-formula (nextAt s i) w ∙ ap (joined s (joinSign formula) (partAt disjunction s)) (disjunction-at (nextAt s i) w))
+      one-more s unit i h ∙ unit-bracket (calls s) s i e
+      ∙ ap (closed s) (joined-at s formula disjunction disjunction joins-formula (nextAt s i) w ∙ ap (joined s (joinSign formula) (partAt disjunction s)) (disjunction-at (nextAt s i) w))
 
   -- behind a unit of the bracket with mark b
   module _ (b : ℕ) (a : Tree) (i : ℕ) (w : nextAt s i ≤ length s) where

@@ -12,12 +12,12 @@ use Rattle.logic.proofs.Lists.{or-left, or-right, or-true-left}
 use Rattle.text_tree.specs.Tree.{Tree, leaf, neg, par, bind, join, tooDeep}
 use Rattle.text_grammar.specs.declared.Reading.{Reading}
 use Rattle.text_grammar.specs.Grammar.{unit}
-use Rattle.text_grammar.specs.Parser.{Part, missing, found, parseAt}
-use Rattle.text_grammar.specs.inner.Contract.{ReaderRoom, Reads}
+use Rattle.text_grammar.specs.Parser.{Part, missing, found}
+use Rattle.text_grammar.specs.inner.Contract.{ReaderRoom, Reads, partAt}
 use Rattle.text_grammar.proofs.Readers.{clash, refusal}
-use Rattle.text_grammar.proofs.Calls.{same-calls}
+use Rattle.text_grammar.proofs.Calls.{every}
 use Rattle.text_deep.specs.declared.Passing.{Passing}
-use Rattle.text_deep.specs.inner.Deep.{endOf, calls, partAt, outward, marks, endFrom, Step}
+use Rattle.text_deep.specs.inner.Deep.{endOf, outward, marks, endFrom, Step}
 
 -- a tree with more than 64 around it is too deep
 too-deep : (d : ℕ) (a : Tree) → 64 < d → tooDeep d a ≡ true
@@ -55,9 +55,6 @@ module _ (s before : List ℕ) (at n d : ℕ) (room : ReaderRoom s before at n d
   unfolding marks outward
   along-start p E = rw E (record { within = room .within; few = omega arith; past = λ y. clash true refl y; kept = λ i l. refl; long = refl; same = refl })
 
-  every : (f : ℕ) → 4 * (length s - at) + 1 ≤ f → parseAt f unit s at ≡ partAt unit s at
-  every f h = same-calls f (calls s) s unit at (room .within) h (omega arith)
-
   module _ (t : List ℕ) (p : Passing) (A : Along s before t at n p) where
     pub along-room : ReaderRoom s t (p .next) (n + p .brackets) d
     along-room =
@@ -80,7 +77,7 @@ module _ (s before : List ℕ) (at n d : ℕ) (room : ReaderRoom s before at n d
       along-less y = let O = S .accepts y in omega (arith, O .onward, O .within)
 
       pub along-refused : r .ok ≡ false → (q : Reading) → q .ok ≡ false → Reads unit s before u at n d q
-      along-refused z q e f h = refusal _ s before u at n d q (every f h ∙ no-end (partAt unit s at) (sym (A .same) ∙ S .refuses z)) e
+      along-refused z q e f h = refusal _ s before u at n d q (every s unit at (room .within) f h ∙ no-end (partAt unit s at) (sym (A .same) ∙ S .refuses z)) e
 
     pub along-end : 64 < d → (p .due || ltb 0 (p .brackets)) ≡ false → Reads unit s before t at n d (record { ok = true; deep = true; next = p .next; count = n })
     unfolding marks outward
@@ -93,7 +90,7 @@ module _ (s before : List ℕ) (at n d : ℕ) (room : ReaderRoom s before at n d
         record {
           accepts = λ _. record {
             tree = w .0;
-            is = every f h ∙ w .1;
+            is = every s unit at (room .within) f h ∙ w .1;
             stored = λ y. clash true refl y;
             deeper = sym (too-deep d (w .0) deep);
             kept = A .kept;

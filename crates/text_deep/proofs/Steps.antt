@@ -17,12 +17,13 @@ use Rattle.text_tokens.proofs.Laws.{Moves, between-range}
 use Rattle.text_grammar.specs.declared.Reading.{Reading}
 use Rattle.text_grammar.specs.Grammar.{Level, unit, conjunction, disjunction, formula, kindAt, nextAt}
 use Rattle.text_grammar.specs.Parser.{Part, missing, mapPart, variableLiteral, sizeLiteral, arrowOf, quantifierOf, joinSign, parseAt}
-use Rattle.text_grammar.specs.inner.Contract.{ReaderRoom, Outcome, Reads}
+use Rattle.text_grammar.specs.inner.Contract.{ReaderRoom, Outcome, Reads, calls, partAt}
 use Rattle.text_grammar.proofs.Signs.{stands, stands-not, one-sign, no-sign}
 use Rattle.text_grammar.proofs.Readers.{clash, kind-of, next-of, same-kind, not-kind, moves, unit-tilde, unit-variable-literal, unit-size-literal, unit-unbound, no-unit, quantified-as, bound-yes}
+use Rattle.text_grammar.proofs.Calls.{one-more}
 use Rattle.text_deep.specs.declared.Passing.{Passing}
-use Rattle.text_deep.specs.inner.Deep.{endOf, calls, partAt, bracket, outward, marks, unitAt, endFrom, Onward, Step}
-use Rattle.text_deep.proofs.Ends.{map-end, outward-blind, outward-missing, one-more, opens, and-follows, or-follows, arrow-follows, second-arrow, stops, closes}
+use Rattle.text_deep.specs.inner.Deep.{endOf, bracket, outward, marks, unitAt, endFrom, Onward, Step}
+use Rattle.text_deep.proofs.Ends.{map-end, outward-blind, outward-missing, opens, and-follows, or-follows, arrow-follows, second-arrow, stops, closes}
 
 -- what a reader that refuses tells
 abbrev no-reading : Reading

@@ -21,6 +21,7 @@ use text_tokens::token_at;
 use text_tokens::within;
 use text_tree::or;
 use text_tree::push;
+use text_tree::push_joins;
 ghost use Prim.Native.Nat.{_-_, _≤_};
 ghost use lib.ListN.{length};
 ghost use Rattle.text_grammar.specs.Grammar.{unit, conjunction, disjunction, formula};
@@ -62,55 +63,63 @@ pub fn formula(text: &[u8], at: usize, out: &mut [u16], n: usize, d: usize) -> R
     }
 }
 
-// "A disjunction joins conjunctions by `|`"
+// "A disjunction joins conjunctions by `|`": they are read in a loop, with a link behind each to the one before, and joined at the end.
 fn disjunction(text: &[u8], at: usize, out: &mut [u16], n: usize, d: usize) -> Reading
     requires { ⌜ ReaderRoom (now text) (now out) at n d ⌝ }
     ensures { λ r. ⌜ Reads disjunction (now (text .entry)) (now (out .entry)) (now (out .exit)) at n d r ⌝ }
 {
-    let a = conjunction(text, at, out, n, d);
-    if !a.ok {
-        return a;
-    }
-    let t = token_at(text, a.next);
-    if t.kind != BAR {
-        return a;
-    }
-    let b = disjunction(text, t.next, out, a.count, d);
-    if !b.ok {
-        return b;
-    }
-    push(out, b.count, a.count as u16, DISJUNCTION);
-    Reading {
-        ok: true,
-        deep: or(a.deep, b.deep),
-        next: b.next,
-        count: b.count + 2,
+    let mut next = at;
+    let mut link = n;
+    let mut deep = false;
+    loop {
+        let a = conjunction(text, next, out, link, d);
+        if !a.ok {
+            return a;
+        }
+        deep = or(deep, a.deep);
+        let t = token_at(text, a.next);
+        if t.kind != BAR {
+            let end = push_joins(out, n, link, a.count, DISJUNCTION);
+            return Reading {
+                ok: true,
+                deep: deep,
+                next: a.next,
+                count: end,
+            };
+        }
+        push(out, a.count, link as u16, DISJUNCTION);
+        link = a.count + 2;
+        next = t.next;
     }
 }
 
-// "a conjunction joins units by `&`"
+// "a conjunction joins units by `&`": read and joined likewise.
 fn conjunction(text: &[u8], at: usize, out: &mut [u16], n: usize, d: usize) -> Reading
     requires { ⌜ ReaderRoom (now text) (now out) at n d ⌝ }
     ensures { λ r. ⌜ Reads conjunction (now (text .entry)) (now (out .entry)) (now (out .exit)) at n d r ⌝ }
 {
-    let a = unit(text, at, out, n, d);
-    if !a.ok {
-        return a;
-    }
-    let t = token_at(text, a.next);
-    if t.kind != AMPERSAND {
-        return a;
-    }
-    let b = conjunction(text, t.next, out, a.count, d);
-    if !b.ok {
-        return b;
-    }
-    push(out, b.count, a.count as u16, CONJUNCTION);
-    Reading {
-        ok: true,
-        deep: or(a.deep, b.deep),
-        next: b.next,
-        count: b.count + 2,
+    let mut next = at;
+    let mut link = n;
+    let mut deep = false;
+    loop {
+        let a = unit(text, next, out, link, d);
+        if !a.ok {
+            return a;
+        }
+        deep = or(deep, a.deep);
+        let t = token_at(text, a.next);
+        if t.kind != AMPERSAND {
+            let end = push_joins(out, n, link, a.count, CONJUNCTION);
+            return Reading {
+                ok: true,
+                deep: deep,
+                next: a.next,
+                count: end,
+            };
+        }
+        push(out, a.count, link as u16, CONJUNCTION);
+        link = a.count + 2;
+        next = t.next;
     }
 }
 

@@ -11,6 +11,7 @@ use borrow.Author.Tests.{eqb-true}
 use Rattle.text_tree.specs.Tree.{Quantifier, Join, neg, bind, join}
 use Rattle.text_grammar.specs.Grammar.{Level, unit, conjunction, disjunction, formula, kindAt, nextAt, valueAt}
 use Rattle.text_grammar.specs.Parser.{Part, missing, found, test, follow, nothing, mapPart, quantifierOf, joinSign, quantifierSign, joined, closed, bound, variableLiteral, sizeLiteral, rank, parseAt}
+use Rattle.text_grammar.specs.inner.Contract.{calls, partAt}
 use Rattle.text_grammar.proofs.Signs.{of-stands, join-sign-some}
 use Rattle.text_grammar.proofs.Readers.{Joins, joins-conjunction, joins-disjunction, joins-formula}
 use Rattle.text_grammar.proofs.Positions.{token-span, span}
@@ -95,3 +96,16 @@ same-calls (suc f) (suc g) s unit i h p q = unit-same f g s (same-calls f g s) i
 same-calls (suc f) (suc g) s conjunction i h p q = joined-same f g s (same-calls f g s) i h conjunction unit conjunction joins-conjunction p q
 same-calls (suc f) (suc g) s disjunction i h p q = joined-same f g s (same-calls f g s) i h disjunction conjunction disjunction joins-disjunction p q
 same-calls (suc f) (suc g) s formula i h p q = joined-same f g s (same-calls f g s) i h formula disjunction disjunction joins-formula p q
+
+-- with calls enough for every position
+
+module _ (s : List ℕ) where
+  pub one-more : (l : Level) (i : ℕ) → i ≤ length s → partAt l s i ≡ parseAt (suc (calls s)) l s i
+  one-more l i h = let r = rank-range l in same-calls (calls s) (suc (calls s)) s l i h (omega (arith, r .1)) (omega (arith, r .1))
+
+  pub joined-at : (l m k : Level) → Joins l m k → (i : ℕ) → i ≤ length s → partAt l s i ≡ joined s (joinSign l) (partAt k s) (partAt m s i)
+  joined-at l m k J i h = one-more l i h ∙ J .step (calls s) s i
+
+  -- the parser with any number of calls that suffices
+  pub every : (l : Level) (i : ℕ) → i ≤ length s → (f : ℕ) → 4 * (length s - i) + rank l ≤ f → parseAt f l s i ≡ partAt l s i
+  every l i h f q = let r = rank-range l in same-calls f (calls s) s l i h q (omega (arith, r .1))

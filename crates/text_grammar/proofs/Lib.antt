@@ -3,6 +3,7 @@ pub mod Calls
 pub mod Complete
 pub mod Declaration
 pub mod Examples
+pub mod Parts
 pub mod Positions
 pub mod Readers
 pub mod Signs

@@ -446,15 +446,15 @@ size-form k e = record { make = size (relationOf (k - 16)); operates = λ x y. o
 module _ (s before : List ℕ) (at n d : ℕ) (room : ReaderRoom s before at n d) (t : Token) (T : t ≡ tokenAt s at) where
   module _ (first operator wanted : ℕ) where
     pub operand-no : (t .kind ≡ wanted → ⊥) → (o : List ℕ) (r : Reading) → r .ok ≡ false → Operands s before o first operator wanted at n d r
-    operand-no z o r q m = refusal _ s before o at n d r (rw (not-kind s at t T wanted z)) q
+    operand-no z o r q m = refusal _ s before o (at - 1) n d r (rw (not-kind s at t T wanted z)) q
 
     pub operand-push : 1 ≤ wanted → t .kind ≡ wanted → n + 2 ≤ 8192
     operand-push low y = let M = moves s at t T (room .within) in omega (arith, M .on, M .within, room .room)
 
-    pub operand-yes : 1 ≤ wanted → t .kind ≡ wanted → (o : List ℕ) → o ≡ set (set before n (256 * first + t .value)) (n + 1) operator
+    pub operand-yes : 1 ≤ at → 1 ≤ wanted → t .kind ≡ wanted → (o : List ℕ) → o ≡ set (set before n (256 * first + t .value)) (n + 1) operator
         → Operands s before o first operator wanted at n d (record { ok = true; deep = ltb 64 d; next = t .next; count = n + 2 })
     unfolding tooDeep literalOf
-    operand-yes low y o w m =
+    operand-yes behind low y o w m =
         let M = moves s at t T (room .within) in
         let U = pushed before o n (256 * first + t .value) operator (omega (arith, operand-push low y, room .wide)) w in
         record {
@@ -474,22 +474,22 @@ module _ (s before : List ℕ) (at n d : ℕ) (room : ReaderRoom s before at n d
 
   module _ (v : ℕ) where
     -- the outcome of a literal from that of its last operand
-    literal-is : (p q : Part) (o : List ℕ) (r : Reading) → p ≡ q → Outcome q s before o (t .next) n d r → Outcome p s before o at n d r
-    literal-is p q o r e O = let M = moves s at t T (room .within) in earlier p q s before o at (t .next) n d r e (omega (arith, M .on)) O
+    literal-is : (p q : Part) (o : List ℕ) (r : Reading) → 1 ≤ t .kind → p ≡ q → Outcome q s before o (t .next - 1) n d r → Outcome p s before o at n d r
+    literal-is p q o r k e O = let M = moves s at t T (room .within) in earlier p q s before o at (t .next - 1) n d r e (omega (arith, M .on)) O
 
     colon-step : t .kind ≡ 13 → variableLiteral s v at ≡ operand s 23 (isin v) (t .next)
     colon-step y = rw (kind-of s at t T 13 y, next-of s at t T)
 
     pub literal-in : t .kind ≡ 13 → (o : List ℕ) (r : Reading) → Operands s before o v 0 23 (t .next) n d r → Outcome (variableLiteral s v at) s before o at n d r
     unfolding in-form
-    literal-in y o r O = literal-is _ _ o r (colon-step y) (O in-form)
+    literal-in y o r O = literal-is _ _ o r (omega arith) (colon-step y) (O in-form)
 
     slash-step : t .kind ≡ 14 → variableLiteral s v at ≡ operand s 23 (notin v) (t .next)
     slash-step y = rw (kind-of s at t T 14 y, next-of s at t T)
 
     pub literal-not-in : t .kind ≡ 14 → (o : List ℕ) (r : Reading) → Operands s before o v 1 23 (t .next) n d r → Outcome (variableLiteral s v at) s before o at n d r
     unfolding not-in-form
-    literal-not-in y o r O = literal-is _ _ o r (slash-step y) (O not-in-form)
+    literal-not-in y o r O = literal-is _ _ o r (omega arith) (slash-step y) (O not-in-form)
 
     module _ (colon : t .kind ≡ 13 → ⊥) (slash : t .kind ≡ 14 → ⊥) where
       port-step : between 16 (t .kind) 21 ≡ true → variableLiteral s v at ≡ operand s 22 (port (relationOf (t .kind - 16)) v) (t .next)
@@ -498,7 +498,7 @@ module _ (s before : List ℕ) (at n d : ℕ) (room : ReaderRoom s before at n d
 
       pub literal-port : (y : between 16 (t .kind) 21 ≡ true) → (o : List ℕ) (r : Reading) → Operands s before o v (t .kind) 22 (t .next) n d r → Outcome (variableLiteral s v at) s before o at n d r
       unfolding port-form
-      literal-port y o r O = literal-is _ _ o r (port-step y) (O (port-form (t .kind) y))
+      literal-port y o r O = literal-is _ _ o r (omega (arith, between-range 16 (t .kind) 21 y)) (port-step y) (O (port-form (t .kind) y))
 
       none-step : between 16 (t .kind) 21 ≡ false → variableLiteral s v at ≡ missing
       none-step y = rw (not-kind s at t T 13 colon, not-kind s at t T 14 slash, ap relationSign (same-kind s at t T) ∙ stands-not 16 21 relationOf (t .kind) y)
@@ -528,4 +528,4 @@ module _ (s before : List ℕ) (at n d : ℕ) (room : ReaderRoom s before at n d
     literal-size z o r O =
         let M = moves s at t T (room .within) in
         let N = moves s (t .next) u U (M .within) in
-        earlier _ _ s before o at (u .next) n d r (size-step ∙ compared-yes z) (omega (arith, M .on, N .on)) (O (size-form (u .kind) z))
+        earlier _ _ s before o at (u .next - 1) n d r (size-step ∙ compared-yes z) (omega (arith, M .on, N .on, between-range 16 (u .kind) 21 z)) (O (size-form (u .kind) z))

@@ -50,7 +50,7 @@ fn operand(
     n: usize,
     d: usize,
 ) -> Reading
-    requires { ⌜ ReaderRoom (now text) (now out) at n d × (1 ≤ wanted) ⌝ }
+    requires { ⌜ ReaderRoom (now text) (now out) at n d × (1 ≤ wanted) × (1 ≤ at) ⌝ }
     ensures { λ r. ⌜ Operands (now (text .entry)) (now (out .entry)) (now (out .exit)) first operator wanted at n d r ⌝ }
 {
     let t = token_at(text, at);

@@ -29,7 +29,7 @@ pushed t u c x y h w =
       kept = λ i l. rw (getD-set-other (set t c x) (c + 1) i y 0 (omega arith), getD-set-other t c i x 0 (omega arith));
     })
 
-record-kept : {t : List ℕ} {e x y : ℕ} → Record t e x y → (u : List ℕ) → length u ≡ length t → ((i : ℕ) → i < e → getD u i 0 ≡ getD t i 0) → Record u e x y
+pub record-kept : {t : List ℕ} {e x y : ℕ} → Record t e x y → (u : List ℕ) → length u ≡ length t → ((i : ℕ) → i < e → getD u i 0 ≡ getD t i 0) → Record u e x y
 record-kept {e = e} r u n k =
     let after : 2 ≤ e = r .after in
     record { after = r .after; within = omega (arith, r .within); payload-is = k (e - 2) (omega arith) ∙ r .payload-is; operator-is = k (e - 1) (omega arith) ∙ r .operator-is }

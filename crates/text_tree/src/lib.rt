@@ -3,6 +3,7 @@ ghost use mathlib.Core.Path.{_≡_};
 ghost use mathlib.Core.Bool.{true, false, _||_, not};
 ghost use Prim.Native.Nat.{_+_, _-_, _≤_};
 ghost use lib.ListN.{length, set, getD};
+ghost use Rattle.text_tree.specs.inner.Links.{JoinsRoom, WritesJoins};
 ghost use Rattle.text_tree.specs.inner.Stored.{literalCode, JoinAt, Joins};
 
 // One of two holds.
@@ -93,4 +94,21 @@ pub fn joins_at(t: &[u16], e: usize) -> usize
         at -= 2;
     }
     n
+}
+
+// Writes the joins of linked parts behind the last part, which ends at e: the links are gone through newest first, from the one
+// that ends at `last` back to place n, so that each part is joined with all that follows it. Says where the last join ends.
+pub fn push_joins(out: &mut [u16], n: usize, last: usize, e: usize, operator: u16) -> usize
+    requires { ⌜ JoinsRoom (now out) n last e ⌝ }
+    ensures { λ r. ⌜ WritesJoins (now (out .entry)) (now (out .exit)) n last e operator r ⌝ }
+{
+    let mut link = last;
+    let mut end = e;
+    while link != n {
+        let back = out[link - 2];
+        push(out, end, (link - 2) as u16, operator);
+        link = place(back);
+        end = end + 2;
+    }
+    end
 }

@@ -3,27 +3,21 @@ use mathlib.Core.Path.{_≡_}
 use mathlib.Core.List.{List, [], _∷_}
 use mathlib.Core.Bool.{Bool, true, false}
 use mathlib.Core.Option.{Option, none, some}
-use Prim.Native.Nat.{ℕ, zero, suc, _+_, _*_, _<_, _≤_}
+use Prim.Native.Nat.{ℕ, zero, suc, _+_, _<_, _≤_}
 use lib.Dec.{eqb}
 use lib.ListN.{length, getD}
 use Rattle.logic.specs.Formula.{isin}
 use Rattle.text_tree.specs.Tree.{leafOf}
 use Rattle.text_tokens.specs.Tokens.{pick}
-use Rattle.text_grammar.specs.Grammar.{Level, unit, conjunction, disjunction, formula}
-use Rattle.text_grammar.specs.Parser.{Part, missing, found, joinSign, joined, closed, parseAt}
+use Rattle.text_grammar.specs.Grammar.{unit, conjunction, disjunction, formula}
+use Rattle.text_grammar.specs.Parser.{Part, missing, found, joinSign, joined, closed}
+use Rattle.text_grammar.specs.inner.Contract.{partAt}
 use Rattle.text_deep.specs.declared.Passing.{Passing}
 
 -- Where a part ends: it without its tree.
 abbrev pub endOf : Part → Option ℕ
 endOf missing = none
 endOf (found a i) = some i
-
--- Nested calls of the parser, enough for every position.
-abbrev pub calls : List ℕ → ℕ
-calls s = 4 * length s + 4
-
-abbrev pub partAt : Level → List ℕ → ℕ → Part
-partAt l s i = parseAt (calls s) l s i
 
 -- A unit with the units that `&` joins to it, a conjunction with the conjunctions that `|` joins to it.
 abbrev pub conjoined : List ℕ → Part → Part

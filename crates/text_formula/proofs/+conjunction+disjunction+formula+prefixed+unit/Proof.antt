@@ -12,9 +12,11 @@ use Rattle.text_tokens.proofs.Laws.{between-range}
 use Rattle.text_grammar.specs.Parser.{arrowOf}
 use Rattle.text_grammar.proofs.Signs.{stands, stands-not, one-sign, no-sign, arrow-operator}
 use Rattle.text_grammar.proofs.Readers.{accepted, joins-conjunction, joins-disjunction, joins-formula, join-no, join-one, join-room, join-bad, join-push, join-more, prefix-room, prefix-no, prefix-push, prefix-yes, prefixed-room, first-on, first-within, unit-negation, unit-unbound, variable-on, variable-within, unit-quantified, bracket-room, bracket-no, bracket-open, bracket-yes, unit-variable-literal, unit-size-literal, no-unit, token-room}
-use Rattle.text_formula.proofs.+conjunction+disjunction+formula+prefixed+unit.{statement}
-use Rattle.text_formula.proofs.+conjunction+disjunction+formula+prefixed+unit.Tie.{close}
+use Rattle.text_grammar.proofs.Parts.{Parts, parts-start, part-room, parts-refused, part-within, parts-fit, joins-room, joins-same, parts-end, parts-less, parts-on}
 use Rattle.text_grammar.specs.Grammar as G
+use Prim.Native.Nat.{ℕ, _<_}
+use borrow.Fn.Kinds.{In}
+use borrow.Fn.PlainCycle.{Measures, is, falls, and}
 use Rattle.text_formula.proofs.conjunction.Reads as conjunction
 use Rattle.text_formula.proofs.conjunction.Kinds as conjunction-kinds
 use Rattle.text_formula.proofs.+conjunction+disjunction+formula+prefixed+unit.Lts-conjunction as conjunction-lts
@@ -30,14 +32,17 @@ use Rattle.text_formula.proofs.+conjunction+disjunction+formula+prefixe
 use Rattle.text_formula.proofs.unit.Reads as unit
 use Rattle.text_formula.proofs.unit.Kinds as unit-kinds
 use Rattle.text_formula.proofs.+conjunction+disjunction+formula+prefixed+unit.Lts-unit as unit-lts
-use Rattle.text_tree.proofs.or.Reads as or-reads
-use Rattle.text_tree.proofs.push.Reads as push-reads
 use Rattle.text_deep.proofs.deep_unit.Reads as deep-unit-reads
 use Rattle.text_literal.proofs.refused.Reads as refused-reads
 use Rattle.text_literal.proofs.size_literal.Reads as size-literal-reads
 use Rattle.text_literal.proofs.variable_literal.Reads as variable-literal-reads
 use Rattle.text_tokens.proofs.token_at.Reads as token-at-reads
 use Rattle.text_tokens.proofs.within.Reads as within-reads
+use Rattle.text_tree.proofs.or.Reads as or-reads
+use Rattle.text_tree.proofs.push.Reads as push-reads
+use Rattle.text_tree.proofs.push_joins.Reads as push-joins-reads
+use Rattle.text_formula.proofs.+conjunction+disjunction+formula+prefixed+unit.{statement}
+use Rattle.text_formula.proofs.+conjunction+disjunction+formula+prefixed+unit.Tie.{close}
 
 abbrev μ-conjunction : Measures 2 conjunction-kinds.ps ℕ
 μ-conjunction κs a = 4 * (length (a .0 .now) - a .1 .0) + 2
@@ -91,11 +96,11 @@ unit-below t = and 2 unit-kinds.ps (falls 2 unit-kinds.ps _<_ μ-unit t) unit.Pr
 
 -- what the callees of `conjunction` ask and give
 abbrev conjunction-claims : ℕ → conjunction-lts.Claims
-conjunction-claims t = (unit-below t, unit.Post, token-at-reads.Asked, token-at-reads.Learnt, conjunction-below t, conjunction.Post, push-reads.Asked, push-reads.Learnt, or-reads.Asked, or-reads.Learnt)
+conjunction-claims t = (unit-below t, unit.Post, or-reads.Asked, or-reads.Learnt, token-at-reads.Asked, token-at-reads.Learnt, push-joins-reads.Asked, push-joins-reads.Learnt, push-reads.Asked, push-reads.Learnt)
 
 -- what the callees of `disjunction` ask and give
 abbrev disjunction-claims : ℕ → disjunction-lts.Claims
-disjunction-claims t = (conjunction-below t, conjunction.Post, token-at-reads.Asked, token-at-reads.Learnt, disjunction-below t, disjunction.Post, push-reads.Asked, push-reads.Learnt, or-reads.Asked, or-reads.Learnt)
+disjunction-claims t = (conjunction-below t, conjunction.Post, or-reads.Asked, or-reads.Learnt, token-at-reads.Asked, token-at-reads.Learnt, push-joins-reads.Asked, push-joins-reads.Learnt, push-reads.Asked, push-reads.Learnt)
 
 -- what the callees of `formula` ask and give
 abbrev formula-claims : ℕ → formula-lts.Claims
@@ -109,129 +114,135 @@ prefixed-claims t = (unit-below t, unit.Post, push-reads.Asked, push-reads.Learn
 abbrev unit-claims : ℕ → unit-lts.Claims
 unit-claims t = (deep-unit-reads.Asked, deep-unit-reads.Learnt, token-at-reads.Asked, token-at-reads.Learnt, formula-below t, formula.Post, refused-reads.Asked, refused-reads.Learnt, prefixed-below t, prefixed.Post, within-reads.Asked, within-reads.Learnt, variable-literal-reads.Asked, variable-literal-reads.Learnt, size-literal-reads.Asked, size-literal-reads.Learnt)
 
-conjunction-unit-requires : (t : ℕ) → conjunction-lts.Need-unit-requires (conjunction-claims t) (conjunction-at t) conjunction.Post
+abbrev conjunction-Inv-loop : conjunction-lts.InvT-loop
+conjunction-Inv-loop text at out₀ n d next₀ link₀ deep₀ out next link deep = Parts G.conjunction conj text out₀ out at n d next link deep
+
+abbrev conjunction-μ-loop : conjunction-lts.MeasureT-loop
+conjunction-μ-loop text at out₀ n d next₀ link₀ deep₀ out next link deep = length text - next
+
+conjunction-loop-holds : (t : ℕ) → conjunction-lts.Need-loop-holds (conjunction-claims t) (conjunction-at t) conjunction.Post conjunction-Inv-loop conjunction-μ-loop
+conjunction-loop-holds t c =
+    parts-start G.conjunction G.unit joins-conjunction conj _ _ _ _ _ (c .before .before .pre .1)
+
+conjunction-unit-requires : (t : ℕ) → conjunction-lts.Need-unit-requires (conjunction-claims t) (conjunction-at t) conjunction.Post conjunction-Inv-loop conjunction-μ-loop
 conjunction-unit-requires t c κs =
-    (omega (arith, c .before .before .before .pre .0), c .before .before .before .pre .1)
+    let w = part-room G.conjunction G.unit joins-conjunction conj _ _ _ _ _ (c .before .before .before .before .pre .1) _ _ _ _ (c .before .loop .inv) in
+    (omega (arith, w .0, c .before .before .before .before .pre .0), w .1)
 
-conjunction-same-length : (t : ℕ) → conjunction-lts.Need-same-length (conjunction-claims t) (conjunction-at t) conjunction.Post
+conjunction-same-length : (t : ℕ) → conjunction-lts.Need-same-length (conjunction-claims t) (conjunction-at t) conjunction.Post conjunction-Inv-loop conjunction-μ-loop
 conjunction-same-length t c =
-    (c .before .before .before .before .unit .kept .1 .1 .0)
+    c .before .before .before .before .unit .kept .1 .1 .0 ∙ c .before .before .before .before .before .before .loop .inv .long
 
-conjunction-returns : (t : ℕ) → conjunction-lts.Need-returns (conjunction-claims t) (conjunction-at t) conjunction.Post
+conjunction-returns : (t : ℕ) → conjunction-lts.Need-returns (conjunction-claims t) (conjunction-at t) conjunction.Post conjunction-Inv-loop conjunction-μ-loop
 conjunction-returns t c =
-    join-no G.conjunction G.unit G.conjunction joins-conjunction _ _ _ _ _ _ _ (c .before .before .before .before .unit .ensures) (not-true _ (c .if1 .taken))
+    parts-refused G.conjunction G.unit joins-conjunction conj _ _ _ _ _ (c .before .before .before .before .before .before .before .before .before .pre .1) _ _ _ _ (c .before .before .before .before .before .before .loop .inv) _ _ (c .before .before .before .before .unit .ensures) (not-true _ (c .if1 .taken))
 
-conjunction-token-at-requires : (t : ℕ) → conjunction-lts.Need-token-at-requires (conjunction-claims t) (conjunction-at t) conjunction.Post
-conjunction-token-at-requires t c κs =
-    accepted G.unit _ _ _ _ _ _ _ (c .before .before .before .before .unit .ensures) (not-false _ (c .if1 .left)) .within
-
-conjunction-same-length-2 : (t : ℕ) → conjunction-lts.Need-same-length-2 (conjunction-claims t) (conjunction-at t) conjunction.Post
-conjunction-same-length-2 t c =
-    (c .before .before .before .before .before .before .before .unit .kept .1 .1 .0)
-
-conjunction-returns-2 : (t : ℕ) → conjunction-lts.Need-returns-2 (conjunction-claims t) (conjunction-at t) conjunction.Post
-conjunction-returns-2 t c =
-    join-one G.conjunction G.unit G.conjunction joins-conjunction _ _ _ _ _ _ _ _ (c .before .before .before .before .before .before .before .unit .ensures) (not-false _ (c .before .before .before .if1 .left)) (c .before .before .token-at .ensures) (no-sign 8 _ conj (c .if2 .taken))
-
-conjunction-conjunction-requires : (t : ℕ) → conjunction-lts.Need-conjunction-requires (conjunction-claims t) (conjunction-at t) conjunction.Post
-conjunction-conjunction-requires t c κs =
-    let w = join-room G.conjunction G.unit G.conjunction joins-conjunction _ _ _ _ _ _ _ _ (c .before .before .before .before .before .before .before .before .unit .ensures) (not-false _ (c .before .before .before .before .if1 .left)) (c .before .before .before .token-at .ensures) _ (one-sign 8 _ conj (c .before .if2 .left)) (c .before .before .before .before .before .before .before .before .before .before .before .before .pre .1) (c .before .before .before .before .before .before .before .before .unit .kept .1 .1 .0) in
-    (omega (arith, w .0, c .before .before .before .before .before .before .before .before .before .before .before .before .pre .0), w .1)
-
-conjunction-same-length-3 : (t : ℕ) → conjunction-lts.Need-same-length-3 (conjunction-claims t) (conjunction-at t) conjunction.Post
-conjunction-same-length-3 t c =
-    (c .before .before .before .before .conjunction .kept .1 .1 .0) ∙ (c .before .before .before .before .before .before .before .before .before .before .before .before .before .unit .kept .1 .1 .0)
-
-conjunction-returns-3 : (t : ℕ) → conjunction-lts.Need-returns-3 (conjunction-claims t) (conjunction-at t) conjunction.Post
-conjunction-returns-3 t c =
-    join-bad G.conjunction G.unit G.conjunction joins-conjunction _ _ _ _ _ _ _ _ (c .before .before .before .before .before .before .before .before .before .before .before .before .before .unit .ensures) (not-false _ (c .before .before .before .before .before .before .before .before .before .if1 .left)) (c .before .before .before .before .before .before .before .before .token-at .ensures) _ (one-sign 8 _ conj (c .before .before .before .before .before .before .if2 .left)) _ _ (c .before .before .before .before .conjunction .ensures) (not-true _ (c .if3 .taken))
-
-conjunction-cast-push : (t : ℕ) → conjunction-lts.Need-cast-push (conjunction-claims t) (conjunction-at t) conjunction.Post
-conjunction-cast-push t c =
-    omega (arith, join-push G.conjunction G.unit G.conjunction joins-conjunction _ _ _ _ _ _ _ _ (c .before .before .before .before .before .before .before .before .before .before .before .before .before .before .before .unit .ensures) (not-false _ (c .before .before .before .before .before .before .before .before .before .before .before .if1 .left)) (c .before .before .before .before .before .before .before .before .before .before .token-at .ensures) _ (one-sign 8 _ conj (c .before .before .before .before .before .before .before .before .if2 .left)) _ _ (c .before .before .before .before .before .before .conjunction .ensures) (c .before .before .before .before .before .before .before .before .before .before .before .before .before .before .before .before .before .before .before .pre .1) (not-false _ (c .before .before .if3 .left)))
-
-conjunction-push-requires : (t : ℕ) → conjunction-lts.Need-push-requires (conjunction-claims t) (conjunction-at t) conjunction.Post
-conjunction-push-requires t c κs =
-    omega (arith, c .before .before .before .before .before .before .before .before .before .before .before .before .before .before .before .before .before .before .before .pre .1, (c .before .before .before .before .before .before .before .before .before .before .before .before .before .before .before .unit .kept .1 .1 .0), (c .before .before .before .before .before .before .conjunction .kept .1 .1 .0), join-push G.conjunction G.unit G.conjunction joins-conjunction _ _ _ _ _ _ _ _ (c .before .before .before .before .before .before .before .before .before .before .before .before .before .before .before .unit .ensures) (not-false _ (c .before .before .before .before .before .before .before .before .before .before .before .if1 .left)) (c .before .before .before .before .before .before .before .before .before .before .token-at .ensures) _ (one-sign 8 _ conj (c .before .before .before .before .before .before .before .before .if2 .left)) _ _ (c .before .before .before .before .before .before .conjunction .ensures) (c .before .before .before .before .before .before .before .before .before .before .before .before .before .before .before .before .before .before .before .pre .1) (not-false _ (c .before .before .if3 .left)))
-
-conjunction-or-requires : (t : ℕ) → conjunction-lts.Need-or-requires (conjunction-claims t) (conjunction-at t) conjunction.Post
+conjunction-or-requires : (t : ℕ) → conjunction-lts.Need-or-requires (conjunction-claims t) (conjunction-at t) conjunction.Post conjunction-Inv-loop conjunction-μ-loop
 conjunction-or-requires t c κs =
     search needs
 
-conjunction-add-t18 : (t : ℕ) → conjunction-lts.Need-add-t18 (conjunction-claims t) (conjunction-at t) conjunction.Post
-conjunction-add-t18 t c =
-    omega (arith, join-push G.conjunction G.unit G.conjunction joins-conjunction _ _ _ _ _ _ _ _ (c .before .before .before .before .before .before .before .before .before .before .before .before .before .before .before .before .before .before .before .before .unit .ensures) (not-false _ (c .before .before .before .before .before .before .before .before .before .before .before .before .before .before .before .before .if1 .left)) (c .before .before .before .before .before .before .before .before .before .before .before .before .before .before .before .token-at .ensures) _ (one-sign 8 _ conj (c .before .before .before .before .before .before .before .before .before .before .before .before .before .if2 .left)) _ _ (c .before .before .before .before .before .before .before .before .before .before .before .conjunction .ensures) (c .before .before .before .before .before .before .before .before .before .before .before .before .before .before .before .before .before .before .before .before .before .before .before .before .pre .1) (not-false _ (c .before .before .before .before .before .before .before .if3 .left)))
+conjunction-token-at-requires : (t : ℕ) → conjunction-lts.Need-token-at-requires (conjunction-claims t) (conjunction-at t) conjunction.Post conjunction-Inv-loop conjunction-μ-loop
+conjunction-token-at-requires t c κs =
+    part-within G.conjunction G.unit joins-conjunction conj _ _ _ _ _ (c .before .before .before .before .before .before .before .before .before .before .pre .1) _ _ _ _ (c .before .before .before .before .before .before .before .loop .inv) _ _ (c .before .before .before .before .before .unit .ensures) (c .before .before .before .before .before .unit .kept .1 .1 .0) (not-false _ (c .before .if1 .left))
 
-conjunction-same-length-4 : (t : ℕ) → conjunction-lts.Need-same-length-4 (conjunction-claims t) (conjunction-at t) conjunction.Post
-conjunction-same-length-4 t c =
-    c .before .before .before .before .push .kept .0 ∙ ((c .before .before .before .before .before .before .before .before .before .before .before .conjunction .kept .1 .1 .0) ∙ (c .before .before .before .before .before .before .before .before .before .before .before .before .before .before .before .before .before .before .before .before .unit .kept .1 .1 .0))
+conjunction-push-joins-requires : (t : ℕ) → conjunction-lts.Need-push-joins-requires (conjunction-claims t) (conjunction-at t) conjunction.Post conjunction-Inv-loop conjunction-μ-loop
+conjunction-push-joins-requires t c κs =
+    joins-room G.conjunction G.unit joins-conjunction conj _ _ _ _ _ (c .before .before .before .before .before .before .before .before .before .before .before .before .before .before .pre .1) _ _ _ _ (c .before .before .before .before .before .before .before .before .before .before .before .loop .inv) _ _ (c .before .before .before .before .before .before .before .before .before .unit .ensures) (c .before .before .before .before .before .before .before .before .before .unit .kept .1 .1 .0) (not-false _ (c .before .before .before .before .before .if1 .left))
 
-conjunction-returns-4 : (t : ℕ) → conjunction-lts.Need-returns-4 (conjunction-claims t) (conjunction-at t) conjunction.Post
+conjunction-same-length-2 : (t : ℕ) → conjunction-lts.Need-same-length-2 (conjunction-claims t) (conjunction-at t) conjunction.Post conjunction-Inv-loop conjunction-μ-loop
 unfolding joinOperator
-conjunction-returns-4 t c =
-    join-more G.conjunction G.unit G.conjunction joins-conjunction _ _ _ _ _ _ _ _ (c .before .before .before .before .before .before .before .before .before .before .before .before .before .before .before .before .before .before .before .before .unit .ensures) (not-false _ (c .before .before .before .before .before .before .before .before .before .before .before .before .before .before .before .before .if1 .left)) (c .before .before .before .before .before .before .before .before .before .before .before .before .before .before .before .token-at .ensures) _ (one-sign 8 _ conj (c .before .before .before .before .before .before .before .before .before .before .before .before .before .if2 .left)) _ _ (c .before .before .before .before .before .before .before .before .before .before .before .conjunction .ensures) (c .before .before .before .before .before .before .before .before .before .before .before .before .before .before .before .before .before .before .before .before .before .before .before .before .pre .1) (c .before .before .before .before .before .before .before .before .before .before .before .before .before .before .before .before .before .before .before .before .unit .kept .1 .1 .0) (c .before .before .before .before .before .before .before .before .before .before .before .conjunction .kept .1 .1 .0) (not-false _ (c .before .before .before .before .before .before .before .if3 .left)) _ (c .before .before .before .before .push .ensures) _ (c .before .or .ensures)
+conjunction-same-length-2 t c =
+    joins-same G.conjunction G.unit joins-conjunction conj _ _ _ _ _ (c .before .before .before .before .before .before .before .before .before .before .before .before .before .before .before .before .before .pre .1) _ _ _ _ (c .before .before .before .before .before .before .before .before .before .before .before .before .before .before .loop .inv) _ _ (c .before .before .before .before .before .before .before .before .before .before .before .before .unit .ensures) (c .before .before .before .before .before .before .before .before .before .before .before .before .unit .kept .1 .1 .0) (not-false _ (c .before .before .before .before .before .before .before .before .if1 .left)) _ (c .before .before .before .before .before .before .before .or .ensures) _ (c .before .before .before .before .before .before .token-at .ensures) _ _ (c .before .before .push-joins .ensures)
 
-disjunction-conjunction-requires : (t : ℕ) → disjunction-lts.Need-conjunction-requires (disjunction-claims t) (disjunction-at t) disjunction.Post
+conjunction-returns-2 : (t : ℕ) → conjunction-lts.Need-returns-2 (conjunction-claims t) (conjunction-at t) conjunction.Post conjunction-Inv-loop conjunction-μ-loop
+unfolding joinOperator
+conjunction-returns-2 t c =
+    parts-end G.conjunction G.unit joins-conjunction conj _ _ _ _ _ (c .before .before .before .before .before .before .before .before .before .before .before .before .before .before .before .before .before .pre .1) _ _ _ _ (c .before .before .before .before .before .before .before .before .before .before .before .before .before .before .loop .inv) _ _ (c .before .before .before .before .before .before .before .before .before .before .before .before .unit .ensures) (c .before .before .before .before .before .before .before .before .before .before .before .before .unit .kept .1 .1 .0) (not-false _ (c .before .before .before .before .before .before .before .before .if1 .left)) _ (c .before .before .before .before .before .before .before .or .ensures) _ (c .before .before .before .before .before .before .token-at .ensures) _ _ (c .before .before .push-joins .ensures) (no-sign 8 _ conj (c .before .before .before .before .if2 .taken))
+
+conjunction-cast-push : (t : ℕ) → conjunction-lts.Need-cast-push (conjunction-claims t) (conjunction-at t) conjunction.Post conjunction-Inv-loop conjunction-μ-loop
+conjunction-cast-push t c =
+    omega (arith, parts-fit G.conjunction G.unit joins-conjunction conj _ _ _ _ _ (c .before .before .before .before .before .before .before .before .before .before .before .before .before .before .pre .1) _ _ _ _ (c .before .before .before .before .before .before .before .before .before .before .before .loop .inv) _ _ (c .before .before .before .before .before .before .before .before .before .unit .ensures) (c .before .before .before .before .before .before .before .before .before .unit .kept .1 .1 .0) (not-false _ (c .before .before .before .before .before .if1 .left)))
+
+conjunction-push-requires : (t : ℕ) → conjunction-lts.Need-push-requires (conjunction-claims t) (conjunction-at t) conjunction.Post conjunction-Inv-loop conjunction-μ-loop
+conjunction-push-requires t c κs =
+    omega (arith, parts-fit G.conjunction G.unit joins-conjunction conj _ _ _ _ _ (c .before .before .before .before .before .before .before .before .before .before .before .before .before .before .pre .1) _ _ _ _ (c .before .before .before .before .before .before .before .before .before .before .before .loop .inv) _ _ (c .before .before .before .before .before .before .before .before .before .unit .ensures) (c .before .before .before .before .before .before .before .before .before .unit .kept .1 .1 .0) (not-false _ (c .before .before .before .before .before .if1 .left)))
+
+conjunction-add-link : (t : ℕ) → conjunction-lts.Need-add-link (conjunction-claims t) (conjunction-at t) conjunction.Post conjunction-Inv-loop conjunction-μ-loop
+conjunction-add-link t c =
+    omega (arith, parts-fit G.conjunction G.unit joins-conjunction conj _ _ _ _ _ (c .before .before .before .before .before .before .before .before .before .before .before .before .before .before .before .before .before .before .pre .1) _ _ _ _ (c .before .before .before .before .before .before .before .before .before .before .before .before .before .before .before .loop .inv) _ _ (c .before .before .before .before .before .before .before .before .before .before .before .before .before .unit .ensures) (c .before .before .before .before .before .before .before .before .before .before .before .before .before .unit .kept .1 .1 .0) (not-false _ (c .before .before .before .before .before .before .before .before .before .if1 .left)))
+
+conjunction-loop-less : (t : ℕ) → conjunction-lts.Need-loop-less (conjunction-claims t) (conjunction-at t) conjunction.Post conjunction-Inv-loop conjunction-μ-loop
+conjunction-loop-less t c =
+    parts-less G.conjunction G.unit joins-conjunction conj _ _ _ _ _ (c .before .before .before .before .before .before .before .before .before .before .before .before .before .before .before .before .before .before .pre .1) _ _ _ _ (c .before .before .before .before .before .before .before .before .before .before .before .before .before .before .before .loop .inv) _ _ (c .before .before .before .before .before .before .before .before .before .before .before .before .before .unit .ensures) (c .before .before .before .before .before .before .before .before .before .before .before .before .before .unit .kept .1 .1 .0) (not-false _ (c .before .before .before .before .before .before .before .before .before .if1 .left)) _ (c .before .before .before .before .before .before .before .before .or .ensures) _ (c .before .before .before .before .before .before .before .token-at .ensures) (one-sign 8 _ conj (c .before .before .before .before .before .if2 .left))
+
+conjunction-loop-again : (t : ℕ) → conjunction-lts.Need-loop-again (conjunction-claims t) (conjunction-at t) conjunction.Post conjunction-Inv-loop conjunction-μ-loop
+conjunction-loop-again t c =
+    parts-on G.conjunction G.unit joins-conjunction conj _ _ _ _ _ (c .before .before .before .before .before .before .before .before .before .before .before .before .before .before .before .before .before .before .pre .1) _ _ _ _ (c .before .before .before .before .before .before .before .before .before .before .before .before .before .before .before .loop .inv) _ _ (c .before .before .before .before .before .before .before .before .before .before .before .before .before .unit .ensures) (c .before .before .before .before .before .before .before .before .before .before .before .before .before .unit .kept .1 .1 .0) (not-false _ (c .before .before .before .before .before .before .before .before .before .if1 .left)) _ (c .before .before .before .before .before .before .before .before .or .ensures) _ (c .before .before .before .before .before .before .before .token-at .ensures) (one-sign 8 _ conj (c .before .before .before .before .before .if2 .left)) _ _ (c .before .before .before .push .ensures)
+
+abbrev disjunction-Inv-loop : disjunction-lts.InvT-loop
+disjunction-Inv-loop text at out₀ n d next₀ link₀ deep₀ out next link deep = Parts G.disjunction disj text out₀ out at n d next link deep
+
+abbrev disjunction-μ-loop : disjunction-lts.MeasureT-loop
+disjunction-μ-loop text at out₀ n d next₀ link₀ deep₀ out next link deep = length text - next
+
+disjunction-loop-holds : (t : ℕ) → disjunction-lts.Need-loop-holds (disjunction-claims t) (disjunction-at t) disjunction.Post disjunction-Inv-loop disjunction-μ-loop
+disjunction-loop-holds t c =
+    parts-start G.disjunction G.conjunction joins-disjunction disj _ _ _ _ _ (c .before .before .pre .1)
+
+disjunction-conjunction-requires : (t : ℕ) → disjunction-lts.Need-conjunction-requires (disjunction-claims t) (disjunction-at t) disjunction.Post disjunction-Inv-loop disjunction-μ-loop
 disjunction-conjunction-requires t c κs =
-    (omega (arith, c .before .before .before .pre .0), c .before .before .before .pre .1)
+    let w = part-room G.disjunction G.conjunction joins-disjunction disj _ _ _ _ _ (c .before .before .before .before .pre .1) _ _ _ _ (c .before .loop .inv) in
+    (omega (arith, w .0, c .before .before .before .before .pre .0), w .1)
 
-disjunction-same-length : (t : ℕ) → disjunction-lts.Need-same-length (disjunction-claims t) (disjunction-at t) disjunction.Post
+disjunction-same-length : (t : ℕ) → disjunction-lts.Need-same-length (disjunction-claims t) (disjunction-at t) disjunction.Post disjunction-Inv-loop disjunction-μ-loop
 disjunction-same-length t c =
-    (c .before .before .before .before .conjunction .kept .1 .1 .0)
+    c .before .before .before .before .conjunction .kept .1 .1 .0 ∙ c .before .before .before .before .before .before .loop .inv .long
 
-disjunction-returns : (t : ℕ) → disjunction-lts.Need-returns (disjunction-claims t) (disjunction-at t) disjunction.Post
+disjunction-returns : (t : ℕ) → disjunction-lts.Need-returns (disjunction-claims t) (disjunction-at t) disjunction.Post disjunction-Inv-loop disjunction-μ-loop
 disjunction-returns t c =
-    join-no G.disjunction G.conjunction G.disjunction joins-disjunction _ _ _ _ _ _ _ (c .before .before .before .before .conjunction .ensures) (not-true _ (c .if1 .taken))
+    parts-refused G.disjunction G.conjunction joins-disjunction disj _ _ _ _ _ (c .before .before .before .before .before .before .before .before .before .pre .1) _ _ _ _ (c .before .before .before .before .before .before .loop .inv) _ _ (c .before .before .before .before .conjunction .ensures) (not-true _ (c .if1 .taken))
 
-disjunction-token-at-requires : (t : ℕ) → disjunction-lts.Need-token-at-requires (disjunction-claims t) (disjunction-at t) disjunction.Post
-disjunction-token-at-requires t c κs =
-    accepted G.conjunction _ _ _ _ _ _ _ (c .before .before .before .before .conjunction .ensures) (not-false _ (c .if1 .left)) .within
-
-disjunction-same-length-2 : (t : ℕ) → disjunction-lts.Need-same-length-2 (disjunction-claims t) (disjunction-at t) disjunction.Post
-disjunction-same-length-2 t c =
-    (c .before .before .before .before .before .before .before .conjunction .kept .1 .1 .0)
-
-disjunction-returns-2 : (t : ℕ) → disjunction-lts.Need-returns-2 (disjunction-claims t) (disjunction-at t) disjunction.Post
-disjunction-returns-2 t c =
-    join-one G.disjunction G.conjunction G.disjunction joins-disjunction _ _ _ _ _ _ _ _ (c .before .before .before .before .before .before .before .conjunction .ensures) (not-false _ (c .before .before .before .if1 .left)) (c .before .before .token-at .ensures) (no-sign 9 _ disj (c .if2 .taken))
-
-disjunction-disjunction-requires : (t : ℕ) → disjunction-lts.Need-disjunction-requires (disjunction-claims t) (disjunction-at t) disjunction.Post
-disjunction-disjunction-requires t c κs =
-    let w = join-room G.disjunction G.conjunction G.disjunction joins-disjunction _ _ _ _ _ _ _ _ (c .before .before .before .before .before .before .before .before .conjunction .ensures) (not-false _ (c .before .before .before .before .if1 .left)) (c .before .before .before .token-at .ensures) _ (one-sign 9 _ disj (c .before .if2 .left)) (c .before .before .before .before .before .before .before .before .before .before .before .before .pre .1) (c .before .before .before .before .before .before .before .before .conjunction .kept .1 .1 .0) in
-    (omega (arith, w .0, c .before .before .before .before .before .before .before .before .before .before .before .before .pre .0), w .1)
-
-disjunction-same-length-3 : (t : ℕ) → disjunction-lts.Need-same-length-3 (disjunction-claims t) (disjunction-at t) disjunction.Post
-disjunction-same-length-3 t c =
-    (c .before .before .before .before .disjunction .kept .1 .1 .0) ∙ (c .before .before .before .before .before .before .before .before .before .before .before .before .before .conjunction .kept .1 .1 .0)
-
-disjunction-returns-3 : (t : ℕ) → disjunction-lts.Need-returns-3 (disjunction-claims t) (disjunction-at t) disjunction.Post
-disjunction-returns-3 t c =
-    join-bad G.disjunction G.conjunction G.disjunction joins-disjunction _ _ _ _ _ _ _ _ (c .before .before .before .before .before .before .before .before .before .before .before .before .before .conjunction .ensures) (not-false _ (c .before .before .before .before .before .before .before .before .before .if1 .left)) (c .before .before .before .before .before .before .before .before .token-at .ensures) _ (one-sign 9 _ disj (c .before .before .before .before .before .before .if2 .left)) _ _ (c .before .before .before .before .disjunction .ensures) (not-true _ (c .if3 .taken))
-
-disjunction-cast-push : (t : ℕ) → disjunction-lts.Need-cast-push (disjunction-claims t) (disjunction-at t) disjunction.Post
-disjunction-cast-push t c =
-    omega (arith, join-push G.disjunction G.conjunction G.disjunction joins-disjunction _ _ _ _ _ _ _ _ (c .before .before .before .before .before .before .before .before .before .before .before .before .before .before .before .conjunction .ensures) (not-false _ (c .before .before .before .before .before .before .before .before .before .before .before .if1 .left)) (c .before .before .before .before .before .before .before .before .before .before .token-at .ensures) _ (one-sign 9 _ disj (c .before .before .before .before .before .before .before .before .if2 .left)) _ _ (c .before .before .before .before .before .before .disjunction .ensures) (c .before .before .before .before .before .before .before .before .before .before .before .before .before .before .before .before .before .before .before .pre .1) (not-false _ (c .before .before .if3 .left)))
-
-disjunction-push-requires : (t : ℕ) → disjunction-lts.Need-push-requires (disjunction-claims t) (disjunction-at t) disjunction.Post
-disjunction-push-requires t c κs =
-    omega (arith, c .before .before .before .before .before .before .before .before .before .before .before .before .before .before .before .before .before .before .before .pre .1, (c .before .before .before .before .before .before .before .before .before .before .before .before .before .before .before .conjunction .kept .1 .1 .0), (c .before .before .before .before .before .before .disjunction .kept .1 .1 .0), join-push G.disjunction G.conjunction G.disjunction joins-disjunction _ _ _ _ _ _ _ _ (c .before .before .before .before .before .before .before .before .before .before .before .before .before .before .before .conjunction .ensures) (not-false _ (c .before .before .before .before .before .before .before .before .before .before .before .if1 .left)) (c .before .before .before .before .before .before .before .before .before .before .token-at .ensures) _ (one-sign 9 _ disj (c .before .before .before .before .before .before .before .before .if2 .left)) _ _ (c .before .before .before .before .before .before .disjunction .ensures) (c .before .before .before .before .before .before .before .before .before .before .before .before .before .before .before .before .before .before .before .pre .1) (not-false _ (c .before .before .if3 .left)))
-
-disjunction-or-requires : (t : ℕ) → disjunction-lts.Need-or-requires (disjunction-claims t) (disjunction-at t) disjunction.Post
+disjunction-or-requires : (t : ℕ) → disjunction-lts.Need-or-requires (disjunction-claims t) (disjunction-at t) disjunction.Post disjunction-Inv-loop disjunction-μ-loop
 disjunction-or-requires t c κs =
     search needs
 
-disjunction-add-t18 : (t : ℕ) → disjunction-lts.Need-add-t18 (disjunction-claims t) (disjunction-at t) disjunction.Post
-disjunction-add-t18 t c =
-    omega (arith, join-push G.disjunction G.conjunction G.disjunction joins-disjunction _ _ _ _ _ _ _ _ (c .before .before .before .before .before .before .before .before .before .before .before .before .before .before .before .before .before .before .before .before .conjunction .ensures) (not-false _ (c .before .before .before .before .before .before .before .before .before .before .before .before .before .before .before .before .if1 .left)) (c .before .before .before .before .before .before .before .before .before .before .before .before .before .before .before .token-at .ensures) _ (one-sign 9 _ disj (c .before .before .before .before .before .before .before .before .before .before .before .before .before .if2 .left)) _ _ (c .before .before .before .before .before .before .before .before .before .before .before .disjunction .ensures) (c .before .before .before .before .before .before .before .before .before .before .before .before .before .before .before .before .before .before .before .before .before .before .before .before .pre .1) (not-false _ (c .before .before .before .before .before .before .before .if3 .left)))
+disjunction-token-at-requires : (t : ℕ) → disjunction-lts.Need-token-at-requires (disjunction-claims t) (disjunction-at t) disjunction.Post disjunction-Inv-loop disjunction-μ-loop
+disjunction-token-at-requires t c κs =
+    part-within G.disjunction G.conjunction joins-disjunction disj _ _ _ _ _ (c .before .before .before .before .before .before .before .before .before .before .pre .1) _ _ _ _ (c .before .before .before .before .before .before .before .loop .inv) _ _ (c .before .before .before .before .before .conjunction .ensures) (c .before .before .before .before .before .conjunction .kept .1 .1 .0) (not-false _ (c .before .if1 .left))
 
-disjunction-same-length-4 : (t : ℕ) → disjunction-lts.Need-same-length-4 (disjunction-claims t) (disjunction-at t) disjunction.Post
-disjunction-same-length-4 t c =
-    c .before .before .before .before .push .kept .0 ∙ ((c .before .before .before .before .before .before .before .before .before .before .before .disjunction .kept .1 .1 .0) ∙ (c .before .before .before .before .before .before .before .before .before .before .before .before .before .before .before .before .before .before .before .before .conjunction .kept .1 .1 .0))
+disjunction-push-joins-requires : (t : ℕ) → disjunction-lts.Need-push-joins-requires (disjunction-claims t) (disjunction-at t) disjunction.Post disjunction-Inv-loop disjunction-μ-loop
+disjunction-push-joins-requires t c κs =
+    joins-room G.disjunction G.conjunction joins-disjunction disj _ _ _ _ _ (c .before .before .before .before .before .before .before .before .before .before .before .before .before .before .pre .1) _ _ _ _ (c .before .before .before .before .before .before .before .before .before .before .before .loop .inv) _ _ (c .before .before .before .before .before .before .before .before .before .conjunction .ensures) (c .before .before .before .before .before .before .before .before .before .conjunction .kept .1 .1 .0) (not-false _ (c .before .before .before .before .before .if1 .left))
 
-disjunction-returns-4 : (t : ℕ) → disjunction-lts.Need-returns-4 (disjunction-claims t) (disjunction-at t) disjunction.Post
+disjunction-same-length-2 : (t : ℕ) → disjunction-lts.Need-same-length-2 (disjunction-claims t) (disjunction-at t) disjunction.Post disjunction-Inv-loop disjunction-μ-loop
 unfolding joinOperator
-disjunction-returns-4 t c =
-    join-more G.disjunction G.conjunction G.disjunction joins-disjunction _ _ _ _ _ _ _ _ (c .before .before .before .before .before .before .before .before .before .before .before .before .before .before .before .before .before .before .before .before .conjunction .ensures) (not-false _ (c .before .before .before .before .before .before .before .before .before .before .before .before .before .before .before .before .if1 .left)) (c .before .before .before .before .before .before .before .before .before .before .before .before .before .before .before .token-at .ensures) _ (one-sign 9 _ disj (c .before .before .before .before .before .before .before .before .before .before .before .before .before .if2 .left)) _ _ (c .before .before .before .before .before .before .before .before .before .before .before .disjunction .ensures) (c .before .before .before .before .before .before .before .before .before .before .before .before .before .before .before .before .before .before .before .before .before .before .before .before .pre .1) (c .before .before .before .before .before .before .before .before .before .before .before .before .before .before .before .before .before .before .before .before .conjunction .kept .1 .1 .0) (c .before .before .before .before .before .before .before .before .before .before .before .disjunction .kept .1 .1 .0) (not-false _ (c .before .before .before .before .before .before .before .if3 .left)) _ (c .before .before .before .before .push .ensures) _ (c .before .or .ensures)
+disjunction-same-length-2 t c =
+    joins-same G.disjunction G.conjunction joins-disjunction disj _ _ _ _ _ (c .before .before .before .before .before .before .before .before .before .before .before .before .before .before .before .before .before .pre .1) _ _ _ _ (c .before .before .before .before .before .before .before .before .before .before .before .before .before .before .loop .inv) _ _ (c .before .before .before .before .before .before .before .before .before .before .before .before .conjunction .ensures) (c .before .before .before .before .before .before .before .before .before .before .before .before .conjunction .kept .1 .1 .0) (not-false _ (c .before .before .before .before .before .before .before .before .if1 .left)) _ (c .before .before .before .before .before .before .before .or .ensures) _ (c .before .before .before .before .before .before .token-at .ensures) _ _ (c .before .before .push-joins .ensures)
+
+disjunction-returns-2 : (t : ℕ) → disjunction-lts.Need-returns-2 (disjunction-claims t) (disjunction-at t) disjunction.Post disjunction-Inv-loop disjunction-μ-loop
+unfolding joinOperator
+disjunction-returns-2 t c =
+    parts-end G.disjunction G.conjunction joins-disjunction disj _ _ _ _ _ (c .before .before .before .before .before .before .before .before .before .before .before .before .before .before .before .before .before .pre .1) _ _ _ _ (c .before .before .before .before .before .before .before .before .before .before .before .before .before .before .loop .inv) _ _ (c .before .before .before .before .before .before .before .before .before .before .before .before .conjunction .ensures) (c .before .before .before .before .before .before .before .before .before .before .before .before .conjunction .kept .1 .1 .0) (not-false _ (c .before .before .before .before .before .before .before .before .if1 .left)) _ (c .before .before .before .before .before .before .before .or .ensures) _ (c .before .before .before .before .before .before .token-at .ensures) _ _ (c .before .before .push-joins .ensures) (no-sign 9 _ disj (c .before .before .before .before .if2 .taken))
+
+disjunction-cast-push : (t : ℕ) → disjunction-lts.Need-cast-push (disjunction-claims t) (disjunction-at t) disjunction.Post disjunction-Inv-loop disjunction-μ-loop
+disjunction-cast-push t c =
+    omega (arith, parts-fit G.disjunction G.conjunction joins-disjunction disj _ _ _ _ _ (c .before .before .before .before .before .before .before .before .before .before .before .before .before .before .pre .1) _ _ _ _ (c .before .before .before .before .before .before .before .before .before .before .before .loop .inv) _ _ (c .before .before .before .before .before .before .before .before .before .conjunction .ensures) (c .before .before .before .before .before .before .before .before .before .conjunction .kept .1 .1 .0) (not-false _ (c .before .before .before .before .before .if1 .left)))
+
+disjunction-push-requires : (t : ℕ) → disjunction-lts.Need-push-requires (disjunction-claims t) (disjunction-at t) disjunction.Post disjunction-Inv-loop disjunction-μ-loop
+disjunction-push-requires t c κs =
+    omega (arith, parts-fit G.disjunction G.conjunction joins-disjunction disj _ _ _ _ _ (c .before .before .before .before .before .before .before .before .before .before .before .before .before .before .pre .1) _ _ _ _ (c .before .before .before .before .before .before .before .before .before .before .before .loop .inv) _ _ (c .before .before .before .before .before .before .before .before .before .conjunction .ensures) (c .before .before .before .before .before .before .before .before .before .conjunction .kept .1 .1 .0) (not-false _ (c .before .before .before .before .before .if1 .left)))
+
+disjunction-add-link : (t : ℕ) → disjunction-lts.Need-add-link (disjunction-claims t) (disjunction-at t) disjunction.Post disjunction-Inv-loop disjunction-μ-loop
+disjunction-add-link t c =
+    omega (arith, parts-fit G.disjunction G.conjunction joins-disjunction disj _ _ _ _ _ (c .before .before .before .before .before .before .before .before .before .before .before .before .before .before .before .before .before .before .pre .1) _ _ _ _ (c .before .before .before .before .before .before .before .before .before .before .before .before .before .before .before .loop .inv) _ _ (c .before .before .before .before .before .before .before .before .before .before .before .before .before .conjunction .ensures) (c .before .before .before .before .before .before .before .before .before .before .before .before .before .conjunction .kept .1 .1 .0) (not-false _ (c .before .before .before .before .before .before .before .before .before .if1 .left)))
+
+disjunction-loop-less : (t : ℕ) → disjunction-lts.Need-loop-less (disjunction-claims t) (disjunction-at t) disjunction.Post disjunction-Inv-loop disjunction-μ-loop
+disjunction-loop-less t c =
+    parts-less G.disjunction G.conjunction joins-disjunction disj _ _ _ _ _ (c .before .before .before .before .before .before .before .before .before .before .before .before .before .before .before .before .before .before .pre .1) _ _ _ _ (c .before .before .before .before .before .before .before .before .before .before .before .before .before .before .before .loop .inv) _ _ (c .before .before .before .before .before .before .before .before .before .before .before .before .before .conjunction .ensures) (c .before .before .before .before .before .before .before .before .before .before .before .before .before .conjunction .kept .1 .1 .0) (not-false _ (c .before .before .before .before .before .before .before .before .before .if1 .left)) _ (c .before .before .before .before .before .before .before .before .or .ensures) _ (c .before .before .before .before .before .before .before .token-at .ensures) (one-sign 9 _ disj (c .before .before .before .before .before .if2 .left))
+
+disjunction-loop-again : (t : ℕ) → disjunction-lts.Need-loop-again (disjunction-claims t) (disjunction-at t) disjunction.Post disjunction-Inv-loop disjunction-μ-loop
+disjunction-loop-again t c =
+    parts-on G.disjunction G.conjunction joins-disjunction disj _ _ _ _ _ (c .before .before .before .before .before .before .before .before .before .before .before .before .before .before .before .before .before .before .pre .1) _ _ _ _ (c .before .before .before .before .before .before .before .before .before .before .before .before .before .before .before .loop .inv) _ _ (c .before .before .before .before .before .before .before .before .before .before .before .before .before .conjunction .ensures) (c .before .before .before .before .before .before .before .before .before .before .before .before .before .conjunction .kept .1 .1 .0) (not-false _ (c .before .before .before .before .before .before .before .before .before .if1 .left)) _ (c .before .before .before .before .before .before .before .before .or .ensures) _ (c .before .before .before .before .before .before .before .token-at .ensures) (one-sign 9 _ disj (c .before .before .before .before .before .if2 .left)) _ _ (c .before .before .before .push .ensures)
 
 formula-disjunction-requires : (t : ℕ) → formula-lts.Need-disjunction-requires (formula-claims t) (formula-at t) formula.Post
 formula-disjunction-requires t c κs =
@@ -478,39 +489,41 @@ pub +conjunction+disjunction+formula+prefixed+unit-spec : {M : Type 1} → state
     close μ-conjunction μ-disjunction μ-formula μ-prefixed μ-unit (λ t. conjunction-lts.spec (conjunction-claims t)
     (conjunction-at t)
     conjunction.Post
+    conjunction-Inv-loop
+    conjunction-μ-loop
+    (conjunction-loop-holds t)
     (conjunction-unit-requires t)
     (conjunction-same-length t)
     (conjunction-returns t)
+    (conjunction-or-requires t)
     (conjunction-token-at-requires t)
+    (conjunction-push-joins-requires t)
     (conjunction-same-length-2 t)
     (conjunction-returns-2 t)
-    (conjunction-conjunction-requires t)
-    (conjunction-same-length-3 t)
-    (conjunction-returns-3 t)
     (conjunction-cast-push t)
     (conjunction-push-requires t)
-    (conjunction-or-requires t)
-    (conjunction-add-t18 t)
-    (conjunction-same-length-4 t)
-    (conjunction-returns-4 t))
+    (conjunction-add-link t)
+    (conjunction-loop-less t)
+    (conjunction-loop-again t))
     (λ t. disjunction-lts.spec (disjunction-claims t)
     (disjunction-at t)
     disjunction.Post
+    disjunction-Inv-loop
+    disjunction-μ-loop
+    (disjunction-loop-holds t)
     (disjunction-conjunction-requires t)
     (disjunction-same-length t)
     (disjunction-returns t)
+    (disjunction-or-requires t)
     (disjunction-token-at-requires t)
+    (disjunction-push-joins-requires t)
     (disjunction-same-length-2 t)
     (disjunction-returns-2 t)
-    (disjunction-disjunction-requires t)
-    (disjunction-same-length-3 t)
-    (disjunction-returns-3 t)
     (disjunction-cast-push t)
     (disjunction-push-requires t)
-    (disjunction-or-requires t)
-    (disjunction-add-t18 t)
-    (disjunction-same-length-4 t)
-    (disjunction-returns-4 t))
+    (disjunction-add-link t)
+    (disjunction-loop-less t)
+    (disjunction-loop-again t))
     (λ t. formula-lts.spec (formula-claims t)
     (formula-at t)
     formula.Post

@@ -14,7 +14,7 @@ use Rattle.text_grammar.specs.Grammar.{Level, unit}
 use Rattle.text_grammar.specs.Parser.{Part, missing, found, mapPart, operand, rank, parseAt, setsAt, afterSets, failed, read, parsed}
 
 -- A reader at position `at` of the text s, with n numbers in the table and d of `(`, `~` and quantifiers around it. Each
--- byte gives at most one record, so a text of 4,096 bytes fits 8,192 numbers.
+-- byte gives at most one record or link, so a text of 4,096 bytes fits 8,192 numbers.
 pub record ReaderRoom (s out : List ℕ) (at n d : ℕ) : Type 0 where
   pub within : at ≤ length s
   pub room : n + 2 * (length s - at) ≤ 8192
@@ -22,6 +22,7 @@ pub record ReaderRoom (s out : List ℕ) (at n d : ℕ) : Type 0 where
   pub shallow : d ≤ at
 
 -- The tree that was found, its flag of ground 4, and, where that is down, its records behind the n numbers that stood there.
+-- Records and links are fewer than the bytes that were read: a sign of one byte leaves a link and a join.
 pub record Accepted (p : Part) (s before after : List ℕ) (at n d : ℕ) (r : Reading) : Type 0 where
   pub tree : Tree
   pub is : p ≡ found tree (r .next)
@@ -31,7 +32,7 @@ pub record Accepted (p : Part) (s before after : List ℕ) (at n d : ℕ) (r : R
   pub count : n ≤ r .count
   pub onward : at < r .next
   pub within : r .next ≤ length s
-  pub short : r .count + 2 * at ≤ n + 2 * r .next
+  pub short : r .count + 2 * at + 2 ≤ n + 2 * r .next
 
 pub record Outcome (p : Part) (s before after : List ℕ) (at n d : ℕ) (r : Reading) : Type 0 where
   pub accepts : r .ok ≡ true → Accepted p s before after at n d r
@@ -40,6 +41,13 @@ pub record Outcome (p : Part) (s before after : List ℕ) (at n d : ℕ) (r : Re
 -- A reader of a level, for every number of nested calls that suffices.
 abbrev pub Reads : Level → List ℕ → List ℕ → List ℕ → ℕ → ℕ → ℕ → Reading → Type 0
 Reads l s before after at n d r = (f : ℕ) → 4 * (length s - at) + rank l ≤ f → Outcome (parseAt f l s at) s before after at n d r
+
+-- Nested calls of the parser, enough for every position.
+abbrev pub calls : List ℕ → ℕ
+calls s = 4 * length s + 4
+
+abbrev pub partAt : Level → List ℕ → ℕ → Part
+partAt l s i = parseAt (calls s) l s i
 
 -- What a record of this payload and operator behind a unit's records makes of the unit: `~` or a quantifier.
 pub record Prefix (payload operator : ℕ) : Type 0 where
@@ -58,9 +66,9 @@ pub record Form (operator : ℕ) : Type 0 where
   pub operates : (x y : ℕ) → testOperator (make x y) ≡ operator
   pub pays : (x y : ℕ) → testPayload (make x y) ≡ 256 * x + y
 
--- The literal of an operator and a first operand, with its last operand of the kind `wanted` at `at`.
+-- The literal of an operator and a first operand, with its last operand of the kind `wanted` at `at`, behind a sign.
 abbrev pub Operands : List ℕ → List ℕ → List ℕ → ℕ → ℕ → ℕ → ℕ → ℕ → ℕ → Reading → Type 0
-Operands s before after first operator wanted at n d r = (m : Form operator) → Outcome (operand s wanted (m .make first) at) s before after at n d r
+Operands s before after first operator wanted at n d r = (m : Form operator) → Outcome (operand s wanted (m .make first) at) s before after (at - 1) n d r
 
 -- A letter v goes into the table behind n others, if there is room.
 pub record Keeps (n v : ℕ) (before after : List ℕ) (r : ℕ) : Type 0 where

@@ -3,7 +3,7 @@ use native.Mathlib.Omega.{arith}
 use borrow.Author.Needs.{needs}
 use borrow.Author.Tests.{not-true, not-false}
 use Rattle.text_tokens.proofs.Laws.{between-range}
-use Rattle.text_grammar.proofs.Readers.{token-room, token-within, size-no-set, size-no-relation, literal-size}
+use Rattle.text_grammar.proofs.Readers.{moves, token-room, token-within, size-no-set, size-no-relation, literal-size}
 use Rattle.text_literal.proofs.size_literal.Statement.{statement}
 use Rattle.text_literal.proofs.size_literal.Tie as tie
 
@@ -38,7 +38,7 @@ add-operand c =
 
 operand-requires : tie.Need-operand-requires
 operand-requires c κs =
-    (token-room _ _ _ (c .before .before .before .before .token-at2 .ensures) _ _ _ (token-room _ _ _ (c .before .before .before .before .before .before .before .token-at .ensures) _ _ _ (c .before .before .before .before .before .before .before .before .before .before .pre)), omega arith)
+    (token-room _ _ _ (c .before .before .before .before .token-at2 .ensures) _ _ _ (token-room _ _ _ (c .before .before .before .before .before .before .before .token-at .ensures) _ _ _ (c .before .before .before .before .before .before .before .before .before .before .pre)), omega arith, omega (arith, between-range 16 (c .before .before .before .before .token-at2 .result .kind) 21 (sym (c .before .before .before .within .ensures) ∙ not-false _ (c .before .before .if2 .left)), moves _ _ _ (c .before .before .before .before .token-at2 .ensures) (token-within _ _ _ (c .before .before .before .before .before .before .before .token-at .ensures) _ _ _ (c .before .before .before .before .before .before .before .before .before .before .pre)) .on))
 
 same-length : tie.Need-same-length
 same-length c = search needs

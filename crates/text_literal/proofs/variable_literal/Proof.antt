@@ -1,7 +1,8 @@
 use mathlib.Core.Path.{sym, _∙_}
 use native.Mathlib.Omega.{arith}
 use borrow.Author.Needs.{needs}
-use Rattle.text_grammar.proofs.Readers.{token-room, literal-in, literal-not-in, literal-port, literal-none}
+use Rattle.text_tokens.proofs.Laws.{between-range}
+use Rattle.text_grammar.proofs.Readers.{moves, token-room, literal-in, literal-not-in, literal-port, literal-none}
 use Rattle.text_literal.proofs.variable_literal.Statement.{statement}
 use Rattle.text_literal.proofs.variable_literal.Tie as tie
 
@@ -11,7 +12,7 @@ token-at-requires c κs =
 
 operand-requires : tie.Need-operand-requires
 operand-requires c κs =
-    (token-room _ _ _ (c .before .before .before .token-at .ensures) _ _ _ (c .before .before .before .before .before .before .pre), omega arith)
+    (token-room _ _ _ (c .before .before .before .token-at .ensures) _ _ _ (c .before .before .before .before .before .before .pre), omega arith, omega (arith, c .before .if1 .taken, moves _ _ _ (c .before .before .before .token-at .ensures) (c .before .before .before .before .before .before .pre .within) .on))
 
 same-length : tie.Need-same-length
 same-length c = search needs
@@ -22,7 +23,7 @@ returns c =
 
 operand-requires-2 : tie.Need-operand-requires-2
 operand-requires-2 c κs =
-    (token-room _ _ _ (c .before .before .before .before .before .token-at .ensures) _ _ _ (c .before .before .before .before .before .before .before .before .pre), omega arith)
+    (token-room _ _ _ (c .before .before .before .before .before .token-at .ensures) _ _ _ (c .before .before .before .before .before .before .before .before .pre), omega arith, omega (arith, c .before .if2 .taken, moves _ _ _ (c .before .before .before .before .before .token-at .ensures) (c .before .before .before .before .before .before .before .before .pre .within) .on))
 
 same-length-2 : tie.Need-same-length-2
 same-length-2 c = search needs
@@ -36,7 +37,7 @@ within-requires c κs = search needs
 
 operand-requires-3 : tie.Need-operand-requires-3
 operand-requires-3 c κs =
-    (token-room _ _ _ (c .before .before .before .before .before .before .before .token-at .ensures) _ _ _ (c .before .before .before .before .before .before .before .before .before .before .pre), omega arith)
+    (token-room _ _ _ (c .before .before .before .before .before .before .before .token-at .ensures) _ _ _ (c .before .before .before .before .before .before .before .before .before .before .pre), omega arith, omega (arith, between-range 16 (c .before .before .before .before .before .before .before .token-at .result .kind) 21 (sym (c .before .before .within .ensures) ∙ c .before .if3 .taken), moves _ _ _ (c .before .before .before .before .before .before .before .token-at .ensures) (c .before .before .before .before .before .before .before .before .before .before .pre .within) .on))
 
 same-length-3 : tie.Need-same-length-3
 same-length-3 c = search needs
