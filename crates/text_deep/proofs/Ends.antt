@@ -3,11 +3,11 @@ use mathlib.Core.Path.{_≡_, refl, sym, ap, _∙_}
 use mathlib.Core.List.{List, [], _∷_}
 use mathlib.Core.Bool.{Bool, true, false}
 use mathlib.Core.Option.{Option, none, some}
-use Prim.Native.Nat.{ℕ, zero, suc, _+_, _*_, _-_, _≤_, _<_}
+use Prim.Native.Nat.{ℕ, suc, _≤_}
 use native.Mathlib.Omega.{arith}
 use lib.Dec.{eqb}
-use lib.ListN.{length, getD}
-use Rattle.text_tree.specs.Tree.{Join, Tree, neg, par, join}
+use lib.ListN.{length}
+use Rattle.text_tree.specs.Tree.{Join, Tree, par, join}
 use Rattle.text_tokens.specs.Tokens.{pick}
 use Rattle.text_grammar.specs.Grammar.{Level, unit, conjunction, disjunction, formula, kindAt, nextAt}
 use Rattle.text_grammar.specs.Parser.{Part, missing, found, test, follow, nothing, mapPart, joinSign, joined, closed}

@@ -35,6 +35,7 @@ struct Passing {
     brackets: usize,
 }
 
+// What a step tells.
 fn passed(ok: bool, due: bool, next: usize, brackets: usize) -> Passing
     ensures { λ r. ⌜ r ≡ record { ok = ok; due = due; next = next; brackets = brackets } ⌝ }
 {

@@ -8,7 +8,7 @@ use native.Mathlib.Omega.{arith}
 use lib.Dec.{eqb}
 use lib.ListN.{length}
 use borrow.Author.Tests.{eqb-true}
-use Rattle.text_tree.specs.Tree.{Quantifier, Join, neg, bind, join}
+use Rattle.text_tree.specs.Tree.{Quantifier, neg, bind, join}
 use Rattle.text_grammar.specs.Grammar.{Level, unit, conjunction, disjunction, formula, kindAt, nextAt, valueAt}
 use Rattle.text_grammar.specs.Parser.{Part, missing, found, test, follow, nothing, mapPart, quantifierOf, joinSign, quantifierSign, joined, closed, bound, variableLiteral, sizeLiteral, rank, parseAt}
 use Rattle.text_grammar.specs.inner.Contract.{calls, partAt}

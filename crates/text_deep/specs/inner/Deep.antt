@@ -56,7 +56,8 @@ unitAt s false i = found (leafOf (isin 0 0)) i
 abbrev pub endFrom : List ℕ → List ℕ → Bool → ℕ → Option ℕ
 endFrom s bs due i = endOf (outward s bs (unitAt s due i))
 
--- One token or literal is passed, from p to r: the end stays what it was.
+-- One token or literal is passed, from p to r: the end stays what it was. A bracket more costs a byte at least, so there is room
+-- for its mark.
 pub record Onward (s before after : List ℕ) (n : ℕ) (p r : Passing) : Type 0 where
   pub onward : p .next < r .next
   pub within : r .next ≤ length s
