@@ -1,44 +1,41 @@
--- Filling the cells of some trees, from what the leaf functions and the two recursive calls leave. Assumes nothing.
+-- Filling siblings one after the other: what is left to fill says what the whole part comes to. Assumes nothing.
 use mathlib.Core.Path.{_≡_, refl, sym, ap, ap₂, _∙_, subst}
 use mathlib.Core.Bool.{Bool, true, false}
 use mathlib.Core.Logic.{⊎-elim, inl, inr}
 use mathlib.Core.List.{List, [], _∷_, _++_, append-assoc}
 use Prim.Native.Nat.{ℕ, _+_, _-_, _*_, _^_, _≤_, _<_, min}
-use native.Mathlib.Nat.{add-zero, suc-add, mul-le-mul-right, mul-left-comm, pow-suc, one-le-pow}
+use native.Mathlib.Nat.{add-zero, suc-add, mul-one, pow-suc, one-le-pow}
 use native.Mathlib.Omega.{arith}
 use lib.Dec.{eqb}
 use lib.ListN.{length, getD, take, drop, length-append, length-drop, take-append-drop, List·getD-append}
-use lib.Seq.{drop-at, length-take-le, drop-append-add}
-use borrow.Author.Tests.{eq-eqb, ne-eqb}
+use lib.Seq.{take-all, take-at, drop-at, drop-drop, length-take-le, drop-append-add}
+use borrow.Author.Tests.{ne-eqb}
 use Rattle.logic.specs.Formula.{Node, root, all, any, and, or, lit, Forest, none, tree, kindNumber, nodeCount, childDepth}
-use Rattle.logic.specs.inner.Literals.{ConstantLow, ConstantsLow}
-use Rattle.logic.specs.Configuration.{Configuration, inMasks}
-use Rattle.logic.specs.Truth.{Tuple}
-use Rattle.logic.specs.Penalty.{sum, below, penalties, penalty}
+use Rattle.logic.specs.Configuration.{Configuration}
+use Rattle.logic.specs.Penalty.{below, penalty}
 use Rattle.logic.specs.Cells.{cellCount, tupleAt, tabulate, layout}
 use Rattle.logic.proofs.Tables.{length-tabulate, getD-tabulate, tabulate-cong, length-layout}
-use Rattle.logic.proofs.Bound.{spread, spread-pos, subtreeCells, subtree-count, below-penalties-le, literals-low, sizes-64}
-use Rattle.logic.proofs.Lent.{lent, back, lent-is, back-is}
-use Rattle.table_format.specs.Bytes.{recordLength, kindField, relationField, aField, bField, endField, nodeOf, records}
-use Rattle.table_format.specs.Rules.{treeCount, arityRule, everyNode, nodeRule}
-use Rattle.table_format.specs.inner.Tests.{kindDepth, kindWidth}
-use Rattle.table_format.proofs.Parts.{rest-all, some-record}
+use Rattle.logic.proofs.Written.{take-tabulate}
+use Rattle.table_format.specs.Bytes.{recordLength, endField, records}
+use Rattle.table_format.specs.Rules.{treeCount, everyNode, nodeRule}
+use Rattle.table_format.proofs.Parts.{rest-all, length-rest-all, some-record, one-fits}
 use Rattle.table_format.proofs.Opened.{one-forest, not-none, PartOpened, part-opened, part-span}
 use Rattle.table_format.proofs.Bytes.{record-pos}
 use Rattle.table_format.proofs.Encoding.{length-records}
-use Rattle.table_format.proofs.FieldRules.{kind-depth-le, kind-width}
-use Rattle.table_format.proofs.Facts.{every-inner, constant-low}
-use Rattle.table_format.proofs.Laid.{kidsOf, restOf, width-low}
-use Rattle.cells_join.specs.inner.Joined.{joinInto, merged, joinOf, spreadOf, ChildPlaced}
-use Rattle.cells_fill.specs.inner.Fill.{startCell, treewise, config, table, StartPlaced, started, FillPlaced, Filled, Fills}
+use Rattle.cells_join.specs.inner.Joined.{joinInto, merged, settled, joinOf, spreadOf, HeldPlaced, ChildPlaced, Joins}
 use Rattle.cells_join.proofs.Prefix.{into-none, into-append}
-use Rattle.logic.proofs.Lent.{lentTo, backTo, lent-length, back-to-is, back-to-length}
-use Rattle.cells_fill.proofs.Starting.{as-tabulated}
-use Rattle.cells_fill.proofs.Values.{below-pos, literal-spread, own-cell, one-child, cells-below, table-tree}
+use Rattle.cells_join.proofs.Held.{settled-none, settled-behind, length-settled, settled-front}
+use Rattle.cells_fill.specs.inner.Fill.{treewise, config, table, TreesPlaced, FillPlaced, TreeFilled, FillsTree, Filled, Fills}
+use Rattle.cells_fill.proofs.Values.{below-pos, literal-spread, cells-below, table-tree}
+use Rattle.cells_fill.proofs.Trees.{few-parts}
 
 length-table : (u : ℕ) (k : Configuration) (f : Forest) (d : ℕ) → length (table u k f d) ≡ cellCount u f d
 unfolding table
 length-table u k f d = length-layout u (λ n c b i e. penalty u k n c e) f 0 d
+
+-- a list is what can be read of it
+as-tabulated : (m : ℕ) (l : List ℕ) → length l ≡ m → l ≡ tabulate m (λ t. getD l t 0)
+as-tabulated m l h = sym (take-all m l (omega arith)) ∙ take-tabulate m l (omega arith)
 
 -- no records: nothing is written
 pub fill-none : (l : List ℕ) (i above ports sets depth over at : ℕ) (masks cells : List ℕ) → length l < recordLength → Fills l i above ports sets depth over at masks cells cells at
@@ -56,29 +53,6 @@ fill-none l i above ports sets depth over at masks cells h n outer none up kn dn
     no-length (x ∷ X) q = absurd (omega arith)
 fill-none l i above ports sets depth over at masks cells h n outer (tree m c s) up kn dn on is =
     absurd (omega (arith, some-record recordLength record-pos (length l) (nodeCount c + nodeCount s) (ap length is ∙ length-records (tree m c s) i up ∙ ap (λ (x : ℕ). recordLength * x) (suc-add (nodeCount c) (nodeCount s)))))
-
--- the constants of nodes that keep the rules are low
-pub constants-low : (sets : ℕ) (f : Forest) (d : ℕ) → everyNode (nodeRule sets) f d ≡ true → ConstantsLow f d
-unfolding ConstantsLow
-constants-low sets f d h = every-inner sets (λ i t. ConstantLow t) (constant-low sets) f d h
-
--- the cells for one tuple, of a tree and of its parts
-pub few-parts : (u : ℕ) (m : Node) (c s : Forest) → 1 ≤ u → cellCount u (tree m c s) 0 ≤ 1048576
-    → (spread u m * subtreeCells u c ≤ 1048576) × (cellCount u c 0 ≤ 1048576) × (cellCount u s 0 ≤ 1048576)
-unfolding subtreeCells
-few-parts u m c s h l =
-    let a = subtree-count u (tree m c s) in
-    let p = mul-le-mul-right (subtreeCells u c) (spread-pos u m h) in
-    (omega arith, omega (arith, subtree-count u c), omega (arith, subtree-count u s))
-
--- The sum below a cell of a plan's node stays below 2^32.
-pub low-below : (u sets : ℕ) (masks : List ℕ) (m : Node) (c s : Forest) (depth : ℕ) (e : Tuple) → 1 ≤ u → u ≤ 64 → everyNode (nodeRule sets) c (childDepth m depth) ≡ true
-    → cellCount u (tree m c s) 0 ≤ 1048576 → sum (below u m e (penalties u (config u sets masks) c)) < 4294967296
-low-below u sets masks m c s depth e u1 u64 rules few =
-    let k = config u sets masks in
-    let small : (S : ℕ) → k .size S ≤ 64 = sizes-64 u sets (inMasks masks) u64 in
-    let b = below-penalties-le u 65 (omega arith) k m c (childDepth m depth) e (literals-low k small c (childDepth m depth) (constants-low sets c (childDepth m depth) rules)) in
-    omega (arith, few-parts u m c s u1 few .0, mul-left-comm (spread u m) 65 (subtreeCells u c))
 
 -- a tree's own cells, below the node n of depth outer
 abbrev rowOf : ℕ → Configuration → Node → Node → Forest → ℕ → List ℕ
@@ -111,197 +85,118 @@ module _ (ports : ℕ) (k : Configuration) (n m : Node) (c : Forest) (outer over
       ∙ cells-below ports (penalty ports k m c) T n outer t (rw (← on) h))))
       (drop-at A (G ++ (row ++ T)) over lA)
 
-split : (X : List ℕ) (w cc : ℕ) → X ≡ take w X ++ (take cc (drop w X) ++ drop cc (drop w X))
-split X w cc = sym (take-append-drop w X) ∙ ap (λ (Y : List ℕ). take w X ++ Y) (sym (take-append-drop cc (drop w X)))
-
--- One tree and its later siblings, from the leaf functions and the two calls.
-module _ (l : List ℕ) (i up above ports sets depth width over at outer : ℕ) (masks xs : List ℕ) (n m : Node) (c s : Forest) (e : ℕ)
-    (o : PartOpened l i up depth sets m c s e) (u1 : 1 ≤ ports) (u64 : ports ≤ 64) (few : cellCount ports (tree m c s) 0 ≤ 1048576)
-    (kn : kindNumber n ≡ above) (dn : depth ≡ childDepth n outer) (on : over ≡ ports ^ outer) (wn : width ≡ ports ^ depth) (after : over ≤ at)
-    (below′ nn r : ℕ) (bd : below′ ≡ childDepth m depth) (ys₁ zs₁ xs₃ xs₄ : List ℕ) where
+-- One tree, joined or held, and its later siblings.
+module _ (above ports sets depth over at outer held held₂ nn r : ℕ) (masks xs xs₂ xs₃ xs₄ : List ℕ) (n m : Node) (c s : Forest) (u1 : 1 ≤ ports)
+    (kn : kindNumber n ≡ above) (dn : depth ≡ childDepth n outer) (on : over ≡ ports ^ outer) (after : over ≤ at) (room : at ≤ length xs) (waits : HeldPlaced over held at)
+    (made : TreeFilled ports sets depth at m c masks xs xs₂ nn) (met : Joins above ports over held at xs₂ xs₃ held₂)
+    (rest : Filled above ports sets depth over (at + nn) outer n s masks (settled (joinOf above) over held₂ xs₃) xs₄ r) where
   abbrev K : Configuration
   K = config ports sets masks
 
-  abbrev xs₁ : List ℕ
-  xs₁ = backTo at (at + width) xs ys₁
+  abbrev T : List ℕ
+  T = table ports K c (childDepth m depth)
 
-  abbrev xs₂ : List ℕ
-  xs₂ = back at xs₁ zs₁
+  abbrev own : List ℕ
+  own = rowOf ports K n m c outer
 
-  module _ (st : ys₁ ≡ started (kindField l) (relationField l) (aField l) (bField l) sets ports depth width masks (lentTo at (at + width) xs))
-      (kids : Filled (kindField l) ports sets below′ width width depth m c masks (lent at xs₁) zs₁ nn)
-      (mg : xs₃ ≡ merged (joinOf above) (eqb at over) over (spreadOf above ports) at xs₂)
-      (rest : Filled above ports sets depth over (at + nn) outer n s masks xs₃ xs₄ r) where
-    abbrev cc : ℕ
-    cc = cellCount ports c below′
+  joined-at : List ℕ → ℕ → ℕ
+  joined-at A t = joinInto (joinOf above) (eqb at over) (getD A t 0) (below ports n (tupleAt ports outer t) (λ x. penalty ports K m c x ∷ []))
 
-    abbrev tuples : ℕ → Tuple
-    tuples = tupleAt ports depth
+  -- the table in its parts, after each step
+  module _ (A G X Y R : List ℕ) (ex : settled (joinOf above) over held xs ≡ A ++ (G ++ (X ++ (Y ++ R)))) (lA : length A ≡ over) (lG : length A + length G ≡ at)
+      (lX : length X ≡ nn) (lY : length Y ≡ cellCount ports s depth) where
+    abbrev C : List ℕ
+    C = take at xs
 
-    -- what the t-th own cell holds before anything is joined to it
-    abbrev begin : ℕ → ℕ
-    begin t = startCell K (nodeOf (kindField l) (relationField l) (aField l) (bField l)) (tuples t) (getD (lentTo at (at + width) xs) t 0)
+    lC : length C ≡ at
+    lC = length-take-le at xs room
 
-    abbrev U : List ℕ
-    U = tabulate width begin
+    both : settled (joinOf above) over held xs ≡ (A ++ G) ++ (X ++ (Y ++ R))
+    both = ex ∙ sym (append-assoc A G (X ++ (Y ++ R)))
 
-    abbrev own : List ℕ
-    own = tabulate width (λ t. penalty ports K m c (tuples t))
+    front : xs ≡ C ++ (X ++ (Y ++ R))
+    front =
+        sym (take-append-drop at xs)
+        ∙ ap (λ (x : List ℕ). C ++ x)
+        (sym (settled-behind (joinOf above) over held at xs after) ∙ ap (drop at) both ∙ drop-at (A ++ G) (X ++ (Y ++ R)) at (length-append A G ∙ lG))
 
-    abbrev T : List ℕ
-    T = table ports K c below′
+    held-front : (D : List ℕ) → settled (joinOf above) over held (C ++ D) ≡ settled (joinOf above) over held C ++ D
+    held-front D = settled-front (joinOf above) over held C D (subst (HeldPlaced over held) (sym lC) waits)
 
-    own-is : tabulate width (λ t. joinInto (joinOf (kindField l)) (eqb width width) (getD U t 0) (treewise ports K m c (tuples t))) ≡ own
-    own-is = tabulate-cong width _ _ (λ t h.
-        ap (λ (b : Bool). joinInto (joinOf (kindField l)) b (getD U t 0) (treewise ports K m c (tuples t))) (eq-eqb width width refl)
-        ∙ ap₂ (λ (a b : ℕ). joinInto (joinOf a) true b (treewise ports K m c (tuples t))) (o .kind)
-        (getD-tabulate width begin t h ∙ ap (λ (q : Node). startCell K q (tuples t) (getD (lentTo at (at + width) xs) t 0)) (o .node-is))
-        ∙ own-cell ports K m c (tuples t) (getD (lentTo at (at + width) xs) t 0) u1 (o .arity) (low-below ports sets masks m c s depth (tuples t) u1 u64 (o .rules-kids) few))
+    head : settled (joinOf above) over held C ≡ A ++ G
+    head =
+        sym (take-at (settled (joinOf above) over held C) (X ++ (Y ++ R)) at (length-settled (joinOf above) over held C (omega (arith, lC)) ∙ lC))
+        ∙ ap (take at) (sym (held-front (X ++ (Y ++ R))) ∙ ap (settled (joinOf above) over held) (sym front) ∙ both)
+        ∙ take-at (A ++ G) (X ++ (Y ++ R)) at (length-append A G ∙ lG)
 
-    row-is : own ≡ rowOf ports K n m c outer
-    row-is = ap₂ (λ (a b : ℕ). tabulate a (λ t. penalty ports K m c (tupleAt ports b t))) (wn ∙ ap (λ (a : ℕ). ports ^ a) dn) dn
+    filled : settled (joinOf above) over held xs₂ ≡ A ++ (G ++ (own ++ (T ++ (Y ++ R))))
+    filled =
+        ap (settled (joinOf above) over held) (made .cells-are C X (Y ++ R) front lC lX)
+        ∙ ap (λ (a : ℕ). settled (joinOf above) over held (C ++ (tabulate (ports ^ a) (λ t. penalty ports K m c (tupleAt ports a t)) ++ (T ++ (Y ++ R))))) dn
+        ∙ held-front (own ++ (T ++ (Y ++ R))) ∙ ap (λ (x : List ℕ). x ++ (own ++ (T ++ (Y ++ R)))) head ∙ append-assoc A G (own ++ (T ++ (Y ++ R)))
 
-    joined-at : List ℕ → ℕ → ℕ
-    joined-at A t = joinInto (joinOf above) (eqb at over) (getD A t 0) (below ports n (tupleAt ports outer t) (λ x. penalty ports K m c x ∷ []))
+    abbrev G₃ : List ℕ
+    G₃ = G ++ (own ++ T)
 
-    -- the table in the four parts, after each step
-    module _ (A G X₁ X₂ X₃ R : List ℕ) (ex : xs ≡ (A ++ G) ++ (X₁ ++ (X₂ ++ (X₃ ++ R)))) (lA : length A ≡ over) (lG : length A + length G ≡ at)
-        (l₁ : length X₁ ≡ width) (l₂ : length X₂ ≡ cc) (l₃ : length X₃ ≡ cellCount ports s depth) where
-      lC : length (A ++ G) ≡ at
-      lC = length-append A G ∙ lG
+    regroup : (Z : List ℕ) → G ++ (own ++ (T ++ Z)) ≡ G₃ ++ Z
+    regroup Z = ap (λ (x : List ℕ). G ++ x) (sym (append-assoc own T Z)) ∙ sym (append-assoc G (own ++ T) Z)
 
-      begun : ys₁ ≡ U
-      unfolding started
-      begun = st
+    joined-is : settled (joinOf above) over held₂ xs₃ ≡ tabulate over (joined-at A) ++ (G₃ ++ (Y ++ R))
+    unfolding joined-at
+    joined-is =
+        met .joined ∙ ap (merged (joinOf above) (eqb at over) over (spreadOf above ports) at) filled
+        ∙ merged-is ports K n m c outer over at above (eqb at over) on kn A G (T ++ (Y ++ R)) lA lG
+        ∙ ap (λ (x : List ℕ). tabulate over (joined-at A) ++ x) (regroup (Y ++ R))
 
-      table₁ : xs₁ ≡ (A ++ G) ++ (U ++ (X₂ ++ (X₃ ++ R)))
-      table₁ = ap₂ (backTo at (at + width)) ex begun ∙ back-to-is at (at + width) (A ++ G) X₁ (X₂ ++ (X₃ ++ R)) U lC (omega (arith, l₁))
+    long : length (tabulate over (joined-at A)) + length G₃ ≡ at + nn
+    long =
+        let a = length-tabulate over (joined-at A) in
+        let b = length-append G (own ++ T) in
+        let d = length-append own T in
+        let f : length own ≡ ports ^ depth = length-tabulate (ports ^ childDepth n outer) _ ∙ ap (λ (x : ℕ). ports ^ x) (sym dn) in
+        let g = length-table ports K c (childDepth m depth) in
+        let h = made .count in
+        omega arith
 
-      below-filled : zs₁ ≡ own ++ (T ++ (X₃ ++ R))
-      below-filled =
-          kids .cells-are U [] X₂ (X₃ ++ R) (ap (lent at) table₁ ∙ lent-is at (A ++ G) (U ++ (X₂ ++ (X₃ ++ R))) lC)
-          (length-tabulate width _) (omega (arith, length-tabulate width begin)) l₂
-          ∙ ap (λ (x : List ℕ). x ++ (T ++ (X₃ ++ R))) own-is
+    -- a later sibling does not begin right behind the parent's cells
+    later : eqb (at + nn) over ≡ false
+    later = ne-eqb (at + nn) over (λ q. absurd (omega (arith, made .count, one-le-pow depth ports u1)))
 
-      table₂ : xs₂ ≡ A ++ (G ++ (rowOf ports K n m c outer ++ (T ++ (X₃ ++ R))))
-      table₂ =
-          ap₂ (back at) table₁ below-filled ∙ back-is at (A ++ G) (U ++ (X₂ ++ (X₃ ++ R))) (own ++ (T ++ (X₃ ++ R))) lC
-          ∙ append-assoc A G (own ++ (T ++ (X₃ ++ R))) ∙ ap (λ (x : List ℕ). A ++ (G ++ (x ++ (T ++ (X₃ ++ R))))) row-is
+    last : xs₄ ≡ tabulate over (λ t. joinInto (joinOf above) (eqb (at + nn) over) (getD (tabulate over (joined-at A)) t 0) (treewise ports K n s (tupleAt ports outer t)))
+        ++ (G₃ ++ (table ports K s depth ++ R))
+    last = rest .cells-are (tabulate over (joined-at A)) G₃ Y R joined-is (length-tabulate over (joined-at A)) long lY
 
-      abbrev G₃ : List ℕ
-      G₃ = G ++ (rowOf ports K n m c outer ++ T)
+    all-joined : tabulate over (λ t. joinInto (joinOf above) (eqb (at + nn) over) (getD (tabulate over (joined-at A)) t 0) (treewise ports K n s (tupleAt ports outer t)))
+        ≡ tabulate over (λ t. joinInto (joinOf above) (eqb at over) (getD A t 0) (treewise ports K n (tree m c s) (tupleAt ports outer t)))
+    unfolding treewise joined-at
+    all-joined = tabulate-cong over _ _ (λ t h.
+        ap₂ (λ (b : Bool) (x : ℕ). joinInto (joinOf above) b x (treewise ports K n s (tupleAt ports outer t))) later (getD-tabulate over (joined-at A) t h)
+        ∙ sym (into-append (joinOf above) (eqb at over) (getD A t 0) (below ports n (tupleAt ports outer t) (λ x. penalty ports K m c x ∷ [])) (treewise ports K n s (tupleAt ports outer t))
+        (below-pos ports n (tupleAt ports outer t) (λ x. penalty ports K m c x ∷ []) u1 (λ x. omega arith))))
 
-      regroup : (Y : List ℕ) → G ++ (rowOf ports K n m c outer ++ (T ++ Y)) ≡ G₃ ++ Y
-      regroup Y =
-          ap (λ (x : List ℕ). G ++ x) (sym (append-assoc (rowOf ports K n m c outer) T Y)) ∙ sym (append-assoc G (rowOf ports K n m c outer ++ T) Y)
+    whole-table : table ports K (tree m c s) depth ≡ own ++ (T ++ table ports K s depth)
+    whole-table =
+        table-tree ports K m c s depth
+        ∙ ap (λ (a : ℕ). tabulate (ports ^ a) (λ t. penalty ports K m c (tupleAt ports a t)) ++ (T ++ table ports K s depth)) dn
 
-      table₃ : xs₃ ≡ tabulate over (joined-at A) ++ (G₃ ++ (X₃ ++ R))
-      unfolding joined-at
-      table₃ =
-          mg ∙ ap (merged (joinOf above) (eqb at over) over (spreadOf above ports) at) table₂
-          ∙ merged-is ports K n m c outer over at above (eqb at over) on kn A G (T ++ (X₃ ++ R)) lA lG
-          ∙ ap (λ (x : List ℕ). tabulate over (joined-at A) ++ x) (regroup (X₃ ++ R))
+    tree-cells : xs₄ ≡ tabulate over (λ t. joinInto (joinOf above) (eqb at over) (getD A t 0) (treewise ports K n (tree m c s) (tupleAt ports outer t)))
+        ++ (G ++ (table ports K (tree m c s) depth ++ R))
+    tree-cells = last ∙ ap₂ _++_ all-joined
+        (sym (regroup (table ports K s depth ++ R))
+        ∙ ap (λ (x : List ℕ). G ++ x)
+        (ap (λ (x : List ℕ). own ++ x) (sym (append-assoc T (table ports K s depth) R))
+        ∙ sym (append-assoc own (T ++ table ports K s depth) R) ∙ ap (λ (x : List ℕ). x ++ R) (sym whole-table)))
 
-      long₃ : length (tabulate over (joined-at A)) + length G₃ ≡ at + nn
-      long₃ =
-          let a = length-tabulate over (joined-at A) in
-          let b = length-append G (rowOf ports K n m c outer ++ T) in
-          let d = length-append (rowOf ports K n m c outer) T in
-          let f : length (rowOf ports K n m c outer) ≡ width = ap length (sym row-is) ∙ length-tabulate width _ in
-          let g = length-table ports K c below′ in
-          let h = kids .ends-at in
-          omega arith
-
-      -- a later sibling does not begin right behind the parent's cells
-      later : eqb (at + nn) over ≡ false
-      later = ne-eqb (at + nn) over (λ q. absurd (omega (arith, kids .ends-at, wn, one-le-pow depth ports u1)))
-
-      last : xs₄ ≡ tabulate over (λ t. joinInto (joinOf above) (eqb (at + nn) over) (getD (tabulate over (joined-at A)) t 0) (treewise ports K n s (tupleAt ports outer t)))
-          ++ (G₃ ++ (table ports K s depth ++ R))
-      last = rest .cells-are (tabulate over (joined-at A)) G₃ X₃ R table₃ (length-tabulate over (joined-at A)) long₃ l₃
-
-      all-joined : tabulate over (λ t. joinInto (joinOf above) (eqb (at + nn) over) (getD (tabulate over (joined-at A)) t 0) (treewise ports K n s (tupleAt ports outer t)))
-          ≡ tabulate over (λ t. joinInto (joinOf above) (eqb at over) (getD A t 0) (treewise ports K n (tree m c s) (tupleAt ports outer t)))
-      unfolding treewise joined-at
-      all-joined = tabulate-cong over _ _ (λ t h.
-          ap₂ (λ (b : Bool) (x : ℕ). joinInto (joinOf above) b x (treewise ports K n s (tupleAt ports outer t))) later (getD-tabulate over (joined-at A) t h)
-          ∙ sym (into-append (joinOf above) (eqb at over) (getD A t 0) (below ports n (tupleAt ports outer t) (λ x. penalty ports K m c x ∷ [])) (treewise ports K n s (tupleAt ports outer t))
-          (below-pos ports n (tupleAt ports outer t) (λ x. penalty ports K m c x ∷ []) u1 (λ x. omega arith))))
-
-      whole-table : table ports K (tree m c s) depth ≡ rowOf ports K n m c outer ++ (T ++ table ports K s depth)
-      whole-table =
-          table-tree ports K m c s depth
-          ∙ ap₂ (λ (x y : List ℕ). x ++ (y ++ table ports K s depth))
-          (ap (λ (a : ℕ). tabulate (ports ^ a) (λ t. penalty ports K m c (tupleAt ports a t))) dn) (ap (table ports K c) (sym bd))
-
-      tree-cells : xs₄ ≡ tabulate over (λ t. joinInto (joinOf above) (eqb at over) (getD A t 0) (treewise ports K n (tree m c s) (tupleAt ports outer t)))
-          ++ (G ++ (table ports K (tree m c s) depth ++ R))
-      tree-cells = last ∙ ap₂ _++_ all-joined
-          (sym (regroup (table ports K s depth ++ R))
-          ∙ ap (λ (x : List ℕ). G ++ x)
-          (ap (λ (x : List ℕ). rowOf ports K n m c outer ++ x) (sym (append-assoc T (table ports K s depth) R))
-          ∙ sym (append-assoc (rowOf ports K n m c outer) (T ++ table ports K s depth) R) ∙ ap (λ (x : List ℕ). x ++ R) (sym whole-table)))
-
-    pub tree-filled : Filled above ports sets depth over at outer n (tree m c s) masks xs xs₄ r
-    unfolding cellCount
-    tree-filled = record {
-      ends-at = omega (arith, rest .ends-at, kids .ends-at, ap (cellCount ports c) bd);
-      cells-are = λ A G X R ex lA lG lX.
-          let Y = drop width X in
-          let q : length X ≡ width + cc + cellCount ports s depth = lX ∙ (λ j. sym wn j + cellCount ports c (sym bd j) + cellCount ports s depth) in
-          let dY = length-drop width X in
-          tree-cells A G (take width X) (take cc Y) (drop cc Y) R
-          (ex ∙ sym (append-assoc A G (X ++ R))
-          ∙ ap (λ (x : List ℕ). (A ++ G) ++ x)
-          (ap (λ (x : List ℕ). x ++ R) (split X width cc) ∙ append-assoc (take width X) (take cc Y ++ drop cc Y) R
-          ∙ ap (λ (x : List ℕ). take width X ++ x) (append-assoc (take cc Y) (drop cc Y) R)))
-          lA lG (length-take-le width X (omega arith)) (length-take-le cc Y (omega arith)) (omega (arith, length-drop cc Y));
-    }
-
--- The same over the calls' own contracts and the fields as the code reads them.
-pub fill-tree : (l : List ℕ) (i above ports sets depth width over at : ℕ) (masks xs : List ℕ) → FillPlaced l i above ports sets depth width over at masks xs
-    → (e : ℕ) → e ≡ endField l
-    → (kind relation a b : ℕ) → kind ≡ kindField l → relation ≡ relationField l → a ≡ aField l → b ≡ bField l
-    → (below′ nn r : ℕ) → below′ ≡ kindDepth kind depth → (ys₁ zs₁ xs₃ xs₄ : List ℕ) → recordLength ≤ length l
-    → ys₁ ≡ started kind relation a b sets ports depth width masks (lentTo at (at + width) xs)
-    → Fills (kidsOf l i e) (i + 1) kind ports sets below′ width width masks (lent at (backTo at (at + width) xs ys₁)) zs₁ nn
-    → xs₃ ≡ merged (joinOf above) (eqb at over) over (spreadOf above ports) at (back at (backTo at (at + width) xs ys₁) zs₁)
-    → Fills (restOf l i e) e above ports sets depth over (at + nn) masks xs₃ xs₄ r
-    → Fills l i above ports sets depth over at masks xs xs₄ r
-unfolding Fills
-fill-tree l i above ports sets depth width over at masks xs p e en kind relation a b ki ri ai bi below′ nn r bd ys₁ zs₁ xs₃ xs₄ long st kids mg rest n outer f up kn dn on is =
-    go f is (one-forest l (p .forest) f i (p .up) up (p .is) is)
-  where
-    go : (f : Forest) → l ≡ records f i up → p .forest ≡ f → Filled above ports sets depth over at outer n f masks xs xs₄ r
-    go none q g = absurd (not-none l i up q long)
-    go (tree m c s) q g =
-        let o = part-opened l i up depth sets e m c s q (ap (λ (x : Forest). everyNode (nodeRule sets) x depth) (sym g) ∙ p .rules) en in
-        let below-is = bd ∙ ap (λ (x : ℕ). kindDepth x depth) ki ∙ sym (o .below) in
-        let started-is = st ∙ (λ j. started (ki j) (ri j) (ai j) (bi j) sets ports depth width masks (lentTo at (at + width) xs)) in
-        let filled = kids m depth c i (sym (ki ∙ o .kind)) below-is (p .width-is) (o .kids) in
-        tree-filled l i up above ports sets depth width over at outer masks xs n m c s e o (p .ports1) (p .ports64)
-        (rw g at (p .few)) kn dn on (p .width-is) (p .after) below′ nn r below-is ys₁ zs₁ xs₃ xs₄ started-is
-        (subst (λ (x : ℕ). Filled x ports sets below′ width width depth m c masks (lent at (backTo at (at + width) xs ys₁)) zs₁ nn) ki filled) mg
-        (rest n outer s up kn dn on (rest-all (recordLength * (e - i)) l ∙ o .rest))
-
--- What the code needs before each call.
-pub record FillFacts (l : List ℕ) (i above ports sets depth width over at : ℕ) (masks xs : List ℕ) (e kind relation a b : ℕ) : Type 0 where
-  pub after : i < e
-  pub few : e ≤ 512
-  pub within : recordLength * (e - i) ≤ length l
-  pub kids-shorter : length (kidsOf l i e) < length l
-  pub rest-shorter : length (restOf l i e) < length l
-  pub depth3 : depth ≤ 3
-  pub width-low : width ≤ 262144
-  pub own-room : at + width ≤ length xs
-  pub start : StartPlaced kind relation a b sets ports depth width masks (lentTo at (at + width) xs)
-  pub kids : (ys : List ℕ) → length ys ≡ length (lentTo at (at + width) xs) → (below wider : ℕ) → below ≡ kindDepth kind depth → wider ≡ kindWidth kind width ports
-      → FillPlaced (kidsOf l i e) (i + 1) kind ports sets below wider width width masks (lent at (backTo at (at + width) xs ys))
-  pub joining : (ws : List ℕ) → length ws ≡ length xs → ChildPlaced above ports over at ws
-  pub rest : (nn below : ℕ) → below ≡ kindDepth kind depth → ((m : Node) (outer : ℕ) (c : Forest) (up : ℕ) → kindNumber m ≡ kind → below ≡ childDepth m outer → width ≡ ports ^ outer
-      → kidsOf l i e ≡ records c (i + 1) up → nn ≡ width + cellCount ports c below)
-      → (ws : List ℕ) → length ws ≡ length xs
-      → (at + nn ≤ length xs) × FillPlaced (restOf l i e) e above ports sets depth width over (at + nn) masks ws
+  tree-filled : Filled above ports sets depth over at outer n (tree m c s) masks (settled (joinOf above) over held xs) xs₄ r
+  unfolding cellCount
+  tree-filled = record {
+    ends-at = omega (arith, rest .ends-at, made .count);
+    cells-are = λ A G X R ex lA lG lX.
+        let d = length-drop nn X in
+        tree-cells A G (take nn X) (drop nn X) R
+        (ex ∙ ap (λ (x : List ℕ). A ++ (G ++ x)) (ap (λ (x : List ℕ). x ++ R) (sym (take-append-drop nn X)) ∙ append-assoc (take nn X) (drop nn X) R))
+        lA lG (length-take-le nn X (omega (arith, made .count))) (omega (arith, made .count));
+  }
 
 spread-width : (n : Node) (ports outer : ℕ) → ports ^ outer * spreadOf (kindNumber n) ports ≡ ports ^ childDepth n outer
 unfolding spreadOf kindNumber childDepth
@@ -312,108 +207,170 @@ spread-width and ports outer = omega arith
 spread-width or ports outer = omega arith
 spread-width (lit l) ports outer = rw (literal-spread (l .test) ports) (omega arith)
 
-pub fill-facts : (l : List ℕ) (i above ports sets depth width over at : ℕ) (masks xs : List ℕ) → FillPlaced l i above ports sets depth width over at masks xs
-    → recordLength ≤ length l → (e : ℕ) → e ≡ endField l
-    → (kind relation a b : ℕ) → kind ≡ kindField l → relation ≡ relationField l → a ≡ aField l → b ≡ bField l
-    → FillFacts l i above ports sets depth width over at masks xs e kind relation a b
-unfolding cellCount nodeCount treeCount
-fill-facts l i above ports sets depth width over at masks xs p long e en kind relation a b ki ri ai bi = rw (ki, ri, ai, bi) (go (p .forest) refl)
-  where
-    go : (f : Forest) → p .forest ≡ f → FillFacts l i above ports sets depth width over at masks xs e (kindField l) (relationField l) (aField l) (bField l)
-    go none q = absurd (not-none l i (p .up) (p .is ∙ ap (λ (x : Forest). records x i (p .up)) q) long)
-    go (tree m c s) q =
-        let is = p .is ∙ ap (λ (x : Forest). records x i (p .up)) q in
-        let o = part-opened l i (p .up) depth sets e m c s is (ap (λ (x : Forest). everyNode (nodeRule sets) x depth) (sym q) ∙ p .rules) en in
-        let room : at + cellCount ports (tree m c s) depth ≤ length xs = rw q at (p .room) in
-        let few : cellCount ports (tree m c s) 0 ≤ 1048576 = rw q at (p .few) in
-        let parts = few-parts ports m c s (p .ports1) few in
-        let w = p .width-is in
-        let sp = part-span l i (p .up) depth sets m c s e o (p .nodes) in
-        let lk = sp .kids-long in
-        let lr = sp .rest-long in
-        let own : at + width ≤ length xs = omega arith in
-        let lx = lent-length at (at + width) xs (omega arith) own in
-        let wl : width ≤ 262144 = rw w (width-low ports depth (p .ports1) (p .ports64) (o .depth3)) in
-        record {
-          after = sp .after;
-          few = sp .few;
-          within = sp .within;
-          kids-shorter = sp .kids-shorter;
-          rest-shorter = sp .rest-shorter;
-          depth3 = o .depth3;
-          width-low = wl;
-          own-room = own;
-          start = record {
-            fields = o .fields;
-            ports1 = p .ports1;
-            ports64 = p .ports64;
-            depth3 = o .depth3;
-            width-is = w;
-            own-cells = omega arith;
-            sets-masks = p .sets-masks;
-            within = p .within;
-          };
-          kids = λ ys ly below wider bd wd.
-              let ws = backTo at (at + width) xs ys in
-              let lb = back-to-length at (at + width) xs ys (omega arith) own ly in
-              let lz : length (lent at ws) ≡ length xs - at = lent-length at (length ws) ws (omega arith) (omega arith) ∙ ap (λ (x : ℕ). x - at) lb in
-              let b = bd ∙ sym (o .below) in
-              record {
-                parent = m;
-                outer = depth;
-                forest = c;
-                up = i;
-                kind-is = sym (o .kind);
-                depth-is = b;
-                over-is = w;
-                width-is = wd ∙ kind-width (kindField l) width ports depth w ∙ ap (λ (x : ℕ). ports ^ x) (sym bd);
-                is = o .kids;
-                rules = ap (everyNode (nodeRule sets) c) b ∙ o .rules-kids;
-                few = parts .1;
-                nodes = sp .kids-nodes;
-                ports1 = p .ports1;
-                ports64 = p .ports64;
-                depth4 = omega (arith, kind-depth-le (kindField l) depth, o .depth3);
-                sets-masks = p .sets-masks;
-                within = p .within;
-                after = omega arith;
-                alone = ⊎-elim (λ (h : spreadOf (kindField l) ports ≡ 1). inl h) (λ (h : treeCount c ≤ 1). inr (omega arith)) (one-child (kindField l) (treeCount c) ports (ap (λ (x : ℕ). arityRule x (treeCount c)) (o .kind) ∙ o .arity));
-                room = omega (arith, lz, ap (cellCount ports c) b);
-              };
-          joining = λ ws lw.
-              let e = ap₂ (λ (x y : ℕ). x * spreadOf y ports) (p .over-is) (sym (p .kind-is)) ∙ spread-width (p .parent) ports (p .outer) ∙ ap (λ (x : ℕ). ports ^ x) (sym (p .depth-is)) in
-              record {
-                ports1 = p .ports1;
-                after = p .after;
-                room = omega arith;
-                later = λ h. ⊎-elim (λ (q : spreadOf above ports ≡ 1). q) (λ (q : treeCount (tree m c s) + min 1 (at - over) ≤ 1). absurd (omega arith)) (rw q at (p .alone));
-              };
-          rest = λ nn below bd H ws lw.
-              let b = bd ∙ sym (o .below) in
-              let nw = H m depth c i (sym (o .kind)) b w (o .kids) in
-              let cb = ap (cellCount ports c) b in (
-                (omega arith),
-                record {
-                  parent = p .parent;
-                  outer = p .outer;
+-- a row of one cell below each has as many
+held-width : (n : Node) (above ports outer : ℕ) → kindNumber n ≡ above → spreadOf above ports ≡ 1 → ports ^ outer ≡ ports ^ childDepth n outer
+held-width n above ports outer kn s =
+    let e = ap (λ (x : ℕ). ports ^ outer * spreadOf x ports) kn ∙ ap (λ (x : ℕ). ports ^ outer * x) s ∙ mul-one (ports ^ outer) in sym e ∙ spread-width n ports outer
+
+-- A part of which the trees before byte `place` are filled, and joined but for the row held: where the trees from there on stand,
+-- and that what filling them comes to, the whole part comes to.
+pub record Passed (l : List ℕ) (i above ports sets depth width over : ℕ) (masks xs : List ℕ) (place node at held : ℕ) (cells : List ℕ) : Type 0 where
+  pub within : place ≤ length l
+  pub same-length : length cells ≡ length xs
+  pub placed : FillPlaced (drop place l) node above ports sets depth width over at masks cells
+  pub waits : HeldPlaced over held at
+  pub comes-to : (ys : List ℕ) (r : ℕ) → Fills (drop place l) node above ports sets depth over at masks (settled (joinOf above) over held cells) ys r
+      → Fills l i above ports sets depth over over masks xs ys r
+
+pub passed-none : (l : List ℕ) (i above ports sets depth width over : ℕ) (masks xs : List ℕ) → FillPlaced l i above ports sets depth width over over masks xs
+    → Passed l i above ports sets depth width over masks xs 0 i over 0 xs
+unfolding HeldPlaced
+passed-none l i above ports sets depth width over masks xs p = record {
+  within = omega arith;
+  same-length = refl;
+  placed = p;
+  waits = λ h. absurd (omega arith);
+  comes-to = λ ys r f. subst (λ (x : List ℕ). Fills l i above ports sets depth over over masks x ys r) (settled-none (joinOf above) over 0 xs refl) f;
+}
+
+module _ (l : List ℕ) (i above ports sets depth width over : ℕ) (masks xs : List ℕ) (place node at held : ℕ) (cells : List ℕ)
+    (p : Passed l i above ports sets depth width over masks xs place node at held cells) where
+  -- where all are passed
+  pub passed-all : (ys : List ℕ) → length l ≤ place → ys ≡ settled (joinOf above) over held cells → Fills l i above ports sets depth over over masks xs ys at
+  passed-all ys h e =
+      p .comes-to ys at (subst (λ (x : List ℕ). Fills (drop place l) node above ports sets depth over at masks (settled (joinOf above) over held cells) x at) (sym e)
+      (fill-none (drop place l) node above ports sets depth over at masks (settled (joinOf above) over held cells) (omega (arith, length-drop place l, record-pos))))
+
+  -- the row held stands before the end of the cells
+  pub held-placed : (n : ℕ) → at ≤ n → HeldPlaced over held n
+  unfolding HeldPlaced
+  held-placed n h q = let w = p .waits q in (w .0, omega (arith, w .1))
+
+  -- the part from there on, as the code lends it
+  pub placed-on : TreesPlaced (take (length l - place) (drop place l)) node ports sets depth width at masks cells
+  placed-on = subst (λ (x : List ℕ). TreesPlaced x node ports sets depth width at masks cells) (sym (rest-all place l)) (p .placed .trees)
+
+  module _ (more : place < length l) where
+    abbrev L : List ℕ
+    L = drop place l
+
+    some-tree : recordLength ≤ length L
+    unfolding records nodeCount
+    some-tree = go (p .placed .trees .forest) (p .placed .trees .is)
+      where
+        go : (f : Forest) → L ≡ records f node (p .placed .trees .up) → recordLength ≤ length L
+        go none q = absurd (omega (arith, ap length q, length-drop place l))
+        go (tree m c s) q =
+            some-record recordLength record-pos (length L) (nodeCount c + nodeCount s)
+            (ap length q ∙ length-records (tree m c s) node (p .placed .trees .up) ∙ ap (λ (x : ℕ). recordLength * x) (suc-add (nodeCount c) (nodeCount s)))
+
+    pub tree-long : recordLength ≤ length (take (length l - place) L)
+    tree-long = rw (rest-all place l) some-tree
+
+    module _ (e : ℕ) (en : e ≡ endField (take (length l - place) L)) where
+      abbrev far : ℕ
+      far = recordLength * (e - node)
+
+      end-is : e ≡ endField L
+      end-is = en ∙ ap endField (rest-all place l)
+
+      opened : (m : Node) (c s : Forest) (up : ℕ) → L ≡ records (tree m c s) node up
+          → PartOpened L node up depth sets m c s e × (p .placed .trees .forest ≡ tree m c s)
+      opened m c s up is =
+          let g = one-forest L (p .placed .trees .forest) (tree m c s) node (p .placed .trees .up) up (p .placed .trees .is) is in
+          (part-opened L node up depth sets e m c s is (ap (λ (x : Forest). everyNode (nodeRule sets) x depth) (sym g) ∙ p .placed .trees .rules) end-is, g)
+
+      first-tree : (m : Node) × (c : Forest) × (s : Forest) × (L ≡ records (tree m c s) node (p .placed .trees .up))
+      first-tree = go (p .placed .trees .forest) (p .placed .trees .is)
+        where
+          go : (f : Forest) → L ≡ records f node (p .placed .trees .up) → (m : Node) × (c : Forest) × (s : Forest) × (L ≡ records (tree m c s) node (p .placed .trees .up))
+          go none q = absurd (not-none L node (p .placed .trees .up) q some-tree)
+          go (tree m c s) q = (m, c, s, q)
+
+      pub tree-ahead : (node < e) × (e ≤ 512) × (1 ≤ far) × (place + far ≤ length l)
+      tree-ahead =
+          let f = first-tree in
+          let o = opened (f .0) (f .1) (f .2) (p .placed .trees .up) (f .3) .0 in
+          let sp = part-span L node (p .placed .trees .up) depth sets (f .0) (f .1) (f .2) e o (p .placed .trees .nodes) in (
+            sp .after,
+            sp .few,
+            omega (arith, one-fits recordLength record-pos (e - node) (omega (arith, sp .after)), record-pos),
+            omega (arith, sp .within, length-drop place l, p .within),
+          )
+
+      -- where its cells are joined
+      pub join-placed : (ws : List ℕ) → length ws ≡ length cells → ChildPlaced above ports over held at ws
+      unfolding cellCount treeCount
+      join-placed ws lw =
+          let f = first-tree in
+          let g = opened (f .0) (f .1) (f .2) (p .placed .trees .up) (f .3) .1 in
+          let q = p .placed in
+          let w = ap₂ (λ (x y : ℕ). x * spreadOf y ports) (q .over-is) (sym (q .kind-is)) ∙ spread-width (q .parent) ports (q .outer) ∙ ap (λ (x : ℕ). ports ^ x) (sym (q .depth-is)) in
+          let room : at + cellCount ports (tree (f .0) (f .1) (f .2)) depth ≤ length cells = rw g at (q .trees .room) in
+          record {
+            ports1 = q .trees .ports1;
+            over1 = rw (q .over-is) (one-le-pow (q .outer) ports (q .trees .ports1));
+            after = q .after;
+            room = omega arith;
+            later = λ h. ⊎-elim (λ (x : spreadOf above ports ≡ 1). x) (λ (x : treeCount (tree (f .0) (f .1) (f .2)) + min 1 (at - over) ≤ 1). absurd (omega arith)) (rw g at (q .alone));
+            waits = p .waits;
+          }
+
+      -- The tree is passed as well.
+      pub passed-tree : (nn held₂ : ℕ) (xs₂ xs₃ : List ℕ) → FillsTree (take (length l - place) L) node ports sets depth at masks cells xs₂ nn → Joins above ports over held at xs₂ xs₃ held₂
+          → length xs₃ ≡ length cells → (at + nn ≤ length xs) × Passed l i above ports sets depth width over masks xs (place + far) e (at + nn) held₂ xs₃
+      unfolding FillsTree Fills HeldPlaced cellCount treeCount
+      passed-tree nn held₂ xs₂ xs₃ made met lx =
+          let f = first-tree in
+          let m = f .0 in
+          let c = f .1 in
+          let s = f .2 in
+          let up = p .placed .trees .up in
+          let op = opened m c s up (f .3) in
+          let o = op .0 in
+          let g = op .1 in
+          let q = p .placed in
+          let sp = part-span L node up depth sets m c s e o (q .trees .nodes) in
+          let t = made m c s up (rest-all place l ∙ f .3) in
+          let room : at + cellCount ports (tree m c s) depth ≤ length cells = rw g at (q .trees .room) in
+          let few : cellCount ports (tree m c s) 0 ≤ 1048576 = rw g at (q .trees .few) in
+          let on-part : drop far L ≡ drop (place + far) l = drop-drop far place l in (
+            omega (arith, t .count, p .same-length),
+            record {
+              within = tree-ahead .3;
+              same-length = lx ∙ p .same-length;
+              placed = record {
+                trees = record {
                   forest = s;
-                  up = p .up;
-                  kind-is = p .kind-is;
-                  depth-is = p .depth-is;
-                  over-is = p .over-is;
-                  width-is = w;
-                  is = rest-all (recordLength * (e - i)) l ∙ o .rest;
+                  up = up;
+                  width-is = q .trees .width-is;
+                  is = sym on-part ∙ o .rest;
                   rules = o .rules-rest;
-                  few = parts .2;
-                  nodes = sp .rest-nodes;
-                  ports1 = p .ports1;
-                  ports64 = p .ports64;
-                  depth4 = p .depth4;
-                  sets-masks = p .sets-masks;
-                  within = p .within;
-                  after = omega (arith, p .after);
-                  alone = ⊎-elim (λ (h : spreadOf above ports ≡ 1). inl h) (λ (h : treeCount (tree m c s) + min 1 (at - over) ≤ 1). inr (omega arith)) (rw q at (p .alone));
-                  room = omega arith;
-                },
-              );
-        }
+                  few = few-parts ports m c s (q .trees .ports1) few .2;
+                  nodes = rw (sym on-part ∙ sym (rest-all far L)) (sp .rest-nodes);
+                  ports1 = q .trees .ports1;
+                  ports64 = q .trees .ports64;
+                  depth4 = q .trees .depth4;
+                  sets-masks = q .trees .sets-masks;
+                  within = q .trees .within;
+                  room = omega (arith, t .count);
+                };
+                parent = q .parent;
+                outer = q .outer;
+                kind-is = q .kind-is;
+                depth-is = q .depth-is;
+                over-is = q .over-is;
+                after = omega (arith, q .after);
+                alone = ⊎-elim (λ (h : spreadOf above ports ≡ 1). inl h) (λ (h : treeCount (tree m c s) + min 1 (at - over) ≤ 1). inr (omega arith)) (rw g at (q .alone));
+              };
+              waits = λ h.
+                  let k = met .held-is h in
+                  let w : over ≡ ports ^ depth = q .over-is ∙ held-width (q .parent) above ports (q .outer) (q .kind-is) (k .1) ∙ ap (λ (x : ℕ). ports ^ x) (sym (q .depth-is)) in
+                  (omega (arith, k .0, q .after), omega (arith, k .0, w, t .count));
+              comes-to = λ ys r rest. p .comes-to ys r (λ n outer f′ up′ kn dn on is.
+                  let g′ = one-forest L (tree m c s) f′ node up up′ (f .3) is in
+                  subst (λ (x : Forest). Filled above ports sets depth over at outer n x masks (settled (joinOf above) over held cells) ys r) g′
+                  (tree-filled above ports sets depth over at outer held held₂ nn r masks cells xs₂ xs₃ ys n m c s (q .trees .ports1) kn dn on (q .after) (omega arith) (p .waits) t met
+                  (rest n outer s up kn dn on (sym on-part ∙ o .rest))));
+            },
+          )

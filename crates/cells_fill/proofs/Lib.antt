@@ -1,5 +1,5 @@
 -- Laws.
 pub mod Filling
 pub mod Loading
-pub mod Starting
+pub mod Trees
 pub mod Values

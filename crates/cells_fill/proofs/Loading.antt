@@ -22,47 +22,48 @@ use Rattle.table_format.proofs.Bytes.{record-pos}
 use Rattle.table_format.proofs.Encoding.{length-records, decode-sound, one-plan}
 use Rattle.table_format.proofs.Rooted.{rooted, RootedIs, rooted-cells}
 use Rattle.cells_join.specs.inner.Joined.{joinInto, joinOf, spreadOf}
-use Rattle.cells_fill.specs.inner.Fill.{startCell, treewise, config, table, FillPlaced, Fills, FillsPlan}
+use Rattle.cells_fill.specs.inner.Fill.{treewise, config, table, FillPlaced, Fills, FillsPlan}
 use Rattle.cells_fill.proofs.Values.{own-cell, table-tree}
-use Rattle.cells_fill.proofs.Filling.{low-below}
+use Rattle.cells_fill.proofs.Trees.{low-below}
 use Rattle.logic.proofs.Lent.{nothing-behind}
 use Rattle.table_format.proofs.Ready.{TableReady, own-zero}
 
 pub placed-plan : (bytes : List ℕ) (P : Plan) (nodes : ℕ) (masks xs : List ℕ) → TableReady bytes P nodes → ownMasks P ≤ length masks → allWithin (P .ports) (take (ownMasks P) masks) ≡ true
     → ownCells P ≤ length xs
-    → FillPlaced (belowRoot bytes nodes) 1 0 (P .ports) (P .sets) 0 1 1 1
-    (take (ownMasks P) masks) xs
+    → FillPlaced (belowRoot bytes nodes) 1 0 (P .ports) (P .sets) 0 1 1 1 (take (ownMasks P) masks) xs
 unfolding ownMasks kindNumber childDepth spreadOf
 placed-plan bytes P nodes masks xs r m st l =
     let f = r .facts in
     record {
+      trees = record {
+        forest = r .below;
+        up = 0;
+        width-is = sym (pow-zero (P .ports));
+        is = r .part;
+        rules = f .rules;
+        few = omega (arith, f .few);
+        nodes = omega (
+          arith,
+          ap length (r .part),
+          length-records (r .below) 1 0,
+          mul-one recordLength,
+          mul-suc recordLength (nodeCount (r .below)),
+          span-within recordLength record-pos (suc (nodeCount (r .below))) 512 (f .nodes512),
+        );
+        ports1 = f .ports1;
+        ports64 = f .ports64;
+        depth4 = omega arith;
+        sets-masks = omega (arith, length-take-le (ownMasks P) masks m);
+        within = st;
+        room = omega (arith, r .total);
+      };
       parent = root;
       outer = 0;
-      forest = r .below;
-      up = 0;
       kind-is = refl;
       depth-is = refl;
       over-is = sym (pow-zero (P .ports));
-      width-is = sym (pow-zero (P .ports));
-      is = r .part;
-      rules = f .rules;
-      few = omega (arith, f .few);
-      nodes = omega (
-        arith,
-        ap length (r .part),
-        length-records (r .below) 1 0,
-        mul-one recordLength,
-        mul-suc recordLength (nodeCount (r .below)),
-        span-within recordLength record-pos (suc (nodeCount (r .below))) 512 (f .nodes512),
-      );
-      ports1 = f .ports1;
-      ports64 = f .ports64;
-      depth4 = omega arith;
-      sets-masks = omega (arith, length-take-le (ownMasks P) masks m);
-      within = st;
       after = omega arith;
       alone = inl refl;
-      room = omega (arith, r .total);
     }
 
 -- the root over what is filled below it
@@ -75,9 +76,9 @@ root-cells u k c =
 root-own : (P : Plan) (own : List ℕ) (c : Forest) (x : ℕ) → RootedIs (P .ports) (P .sets) c
     → joinInto (joinOf 0) true x (treewise (P .ports) (config (P .ports) (P .sets) own) root c (tupleAt (P .ports) 0 0))
     ≡ penalty (P .ports) (config (P .ports) (P .sets) own) root c []
-unfolding kindNumber startCell joinOf arityRule childDepth tupleAt
+unfolding kindNumber joinOf arityRule childDepth tupleAt
 root-own P own c x f =
-    own-cell (P .ports) (config (P .ports) (P .sets) own) root c [] x (f .ports1) (eq-eqb (treeCount c) 1 (f .one))
+    own-cell (P .ports) (config (P .ports) (P .sets) own) root c [] x (f .ports1) (omega arith) (eq-eqb (treeCount c) 1 (f .one))
     (low-below (P .ports) (P .sets) own root c none 0 [] (f .ports1) (f .ports64) (f .rules) (omega (arith, rooted-cells (P .ports) (P .sets) c, own-zero (P .ports) (P .sets) c, f .few)))
 
 first-one : (g : ℕ → ℕ) → tabulate 1 g ≡ g 0 ∷ []

@@ -22,7 +22,7 @@ use Rattle.logic.proofs.Tables.{length-tabulate, getD-tabulate}
 use Rattle.table_format.specs.Rules.{treeCount, arityRule}
 use Rattle.table_format.proofs.FieldRules.{literal-children}
 use Rattle.cells_join.specs.inner.Joined.{meet, joinAll, joinInto, joinOf, spreadOf}
-use Rattle.cells_fill.specs.inner.Fill.{startCell, treewise, table}
+use Rattle.cells_fill.specs.inner.Fill.{treewise, table}
 
 -- a sum that stays below 2^32
 join-sum : (x : ℕ) (ys : List ℕ) → x + sum ys < 4294967296 → joinAll 0 x ys ≡ x + sum ys
@@ -92,7 +92,7 @@ trees-pos u k n none e h t = absurd (omega arith)
 trees-pos u k n (tree m c s) e h t =
     omega (arith, length-append (below u n e (λ x. penalty u k m c x ∷ [])) (treewise u k n s e), below-pos u n e (λ x. penalty u k m c x ∷ []) h (λ x. omega arith))
 
-no-tree : (f : Forest) → treeCount f ≡ 0 → f ≡ none
+pub no-tree : (f : Forest) → treeCount f ≡ 0 → f ≡ none
 unfolding treeCount
 no-tree none h = refl
 no-tree (tree n c s) h = absurd (omega arith)
@@ -115,25 +115,24 @@ unfolding spreadOf
 literal-spread t u =
     ap (λ (b : Bool). cond b u 1) (and-false (leb 1 (testKind t)) _ (λ _. lt-leb (testKind t) 2 (omega (arith, test-kind-range t))))
 
--- The joined cell is the penalty, whatever an inner node's cell held before.
-pub own-cell : (u : ℕ) (k : Configuration) (n : Node) (c : Forest) (e : Tuple) (x : ℕ) → 1 ≤ u → arityRule (kindNumber n) (treeCount c) ≡ true
-    → sum (below u n e (penalties u k c)) < 4294967296 → joinInto (joinOf (kindNumber n)) true (startCell k n e x) (treewise u k n c e) ≡ penalty u k n c e
-unfolding joinOf kindNumber startCell penalty combine arityRule joinInto treewise
-own-cell u k root c e x h a s =
+-- An inner node's joined cell is the penalty, whatever it held before.
+pub own-cell : (u : ℕ) (k : Configuration) (n : Node) (c : Forest) (e : Tuple) (x : ℕ) → 1 ≤ u → kindNumber n < 5 → arityRule (kindNumber n) (treeCount c) ≡ true
+    → sum (below u n e (penalties u k c)) < 4294967296 → joinInto (joinOf (kindNumber n)) true x (treewise u k n c e) ≡ penalty u k n c e
+unfolding joinOf kindNumber penalty combine arityRule
+own-cell u k root c e x h i a s =
     let one = one-long u k c e (eqb-true (treeCount c) 1 a) in
     into-least x (treewise u k root c e) (omega arith) ∙ copy-least (treewise u k root c e) one ∙ ap copy (sym (below-trees u k root c e a))
-own-cell u k all c e x h a s =
+own-cell u k all c e x h i a s =
     let b = below-trees u k all c e a in
     into-sum x (treewise u k all c e) (trees-pos u k all c e h (omega (arith, eqb-true (treeCount c) 1 a))) (rw (← b) s) ∙ ap sum (sym b)
-own-cell u k any c e x h a s =
+own-cell u k any c e x h i a s =
     into-least x (treewise u k any c e) (trees-pos u k any c e h (omega (arith, eqb-true (treeCount c) 1 a))) ∙ ap least (sym (below-trees u k any c e a))
-own-cell u k and c e x h a s =
+own-cell u k and c e x h i a s =
     let b = below-trees u k and c e a in
     into-sum x (treewise u k and c e) (trees-pos u k and c e h (omega (arith, leb-true 2 (treeCount c) a))) (rw (← b) s) ∙ ap sum (sym b)
-own-cell u k or c e x h a s =
+own-cell u k or c e x h i a s =
     into-least x (treewise u k or c e) (trees-pos u k or c e h (omega (arith, leb-true 2 (treeCount c) a))) ∙ ap least (sym (below-trees u k or c e a))
-own-cell u k (lit l) c e x h a s =
-    ap (λ (f : Forest). joinInto (1 - testKind (l .test) % 2) true (literalPenalty k l e) (treewise u k (lit l) f e)) (no-tree c (literal-children (l .test) (treeCount c) a))
+own-cell u k (lit l) c e x h i a s = absurd (omega (arith, test-kind-range (l .test)))
 
 -- a quantifier has one child at most
 pub one-child : (kind m u : ℕ) → arityRule kind m ≡ true → (spreadOf kind u ≡ 1) ⊎ (m ≤ 1)

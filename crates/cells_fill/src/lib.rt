@@ -1,5 +1,6 @@
 // Fills every cell of a plan, by recursion over its records. Paper 01, section Penalty.
 use cells_join::join_child;
+use cells_join::join_held;
 use cells_literals::put_literal;
 use logic::own_masks;
 use table_format::RECORD;
@@ -11,81 +12,48 @@ use table_format::kind_of;
 use table_format::relation_of;
 use table_rules::child_depth;
 use table_rules::child_width;
-ghost use mathlib.Core.Path.{_≡_};
-ghost use Rattle.cells_fill.specs.inner.Fill.{StartPlaced, started, FillPlaced, Fills, FillReady, FillsPlan};
+ghost use Prim.Native.Nat.{_≤_};
+ghost use lib.ListN.{length};
+ghost use Rattle.table_format.specs.Bytes.{recordLength};
+ghost use Rattle.cells_fill.specs.inner.Fill.{TreesPlaced, FillsTree, FillPlaced, Fills, FillReady, FillsPlan};
 
-// Writes a literal's own cells, which are all it is lent. Another node's are left as they are: its first child writes them.
-fn start_cells(
-    kind: u8,
-    relation: u8,
-    a: u8,
-    b: u8,
-    sets: usize,
-    ports: usize,
-    depth: usize,
-    width: usize,
-    masks: &[u64],
-    cells: &mut [u32],
-)
-    requires { ⌜ StartPlaced kind relation a b sets ports depth width (now masks) (now cells) ⌝ }
-    ensures { λ _. ⌜ now (cells .exit) ≡ started kind relation a b sets ports depth width (now (masks .entry)) (now (cells .entry)) ⌝ }
-{
-    if kind < 5 {
-        return;
-    }
-    put_literal(
-        kind,
-        relation,
-        a,
-        b,
-        sets,
-        ports,
-        depth,
-        width,
-        masks,
-        cells,
-    );
-}
-
-// Fills the cells of some trees and joins them to the cells of the node above; says where they end. The part gets shorter at
-// each call: first the children of the first tree, which fill what is joined to its own cells, then its later siblings.
-fn fill_forest(
+// Fills the cells of a part's first tree, node i, from place `at` on, and says how many they are. A literal is lent its own cells
+// and no others; the children of another node, a shorter part, its own with all that stand behind them.
+fn fill_tree(
     part: &[u8],
     i: usize,
-    above: u8,
     ports: usize,
     sets: usize,
     depth: usize,
     width: usize,
-    over: usize,
     at: usize,
     masks: &[u64],
     cells: &mut [u32],
 ) -> usize
-    requires { ⌜ FillPlaced (now part) i above ports sets depth width over at (now masks) (now cells) ⌝ }
-    ensures { λ r. ⌜ Fills (now (part .entry)) i above ports sets depth over at (now (masks .entry)) (now (cells .entry)) (now (cells .exit)) r ⌝ }
+    requires { ⌜ (recordLength ≤ length (now part)) × TreesPlaced (now part) i ports sets depth width at (now masks) (now cells) ⌝ }
+    ensures { λ r. ⌜ FillsTree (now (part .entry)) i ports sets depth at (now (masks .entry)) (now (cells .entry)) (now (cells .exit)) r ⌝ }
 {
-    if part.len() < RECORD {
-        return at;
+    let kind = kind_of(part);
+    if 5 <= kind {
+        put_literal(
+            kind,
+            relation_of(part),
+            a_of(part),
+            b_of(part),
+            sets,
+            ports,
+            depth,
+            width,
+            masks,
+            &mut cells[at..at + width],
+        );
+        return width;
     }
     let end = end_of(part);
     let span = RECORD * (end - i);
-    let kind = kind_of(part);
-    start_cells(
-        kind,
-        relation_of(part),
-        a_of(part),
-        b_of(part),
-        sets,
-        ports,
-        depth,
-        width,
-        masks,
-        &mut cells[at..at + width],
-    );
     let below = child_depth(kind, depth);
     let wider = child_width(kind, width, ports);
-    let n = fill_forest(
+    fill_children(
         &part[RECORD..span],
         i + 1,
         kind,
@@ -94,24 +62,43 @@ fn fill_forest(
         below,
         wider,
         width,
-        width,
         masks,
         &mut cells[at..],
-    );
-    join_child(above, ports, over, at, cells);
-    fill_forest(
-        &part[span..],
-        end,
-        above,
-        ports,
-        sets,
-        depth,
-        width,
-        over,
-        at + n,
-        masks,
-        cells,
     )
+}
+
+// Fills the cells of a node's children, which stand behind its own, the first `over`, and joins them to these; says where they
+// end. Siblings are taken in a loop, so that only a node below a node takes a further call's room on the stack.
+fn fill_children(
+    part: &[u8],
+    i: usize,
+    above: u8,
+    ports: usize,
+    sets: usize,
+    depth: usize,
+    width: usize,
+    over: usize,
+    masks: &[u64],
+    cells: &mut [u32],
+) -> usize
+    requires { ⌜ FillPlaced (now part) i above ports sets depth width over over (now masks) (now cells) ⌝ }
+    ensures { λ r. ⌜ Fills (now (part .entry)) i above ports sets depth over over (now (masks .entry)) (now (cells .entry)) (now (cells .exit)) r ⌝ }
+{
+    let mut place = 0;
+    let mut node = i;
+    let mut at = over;
+    let mut held = 0;
+    while place < part.len() {
+        let tree = &part[place..];
+        let end = end_of(tree);
+        let n = fill_tree(tree, node, ports, sets, depth, width, at, masks, cells);
+        held = join_child(above, ports, over, held, at, cells);
+        place += RECORD * (end - node);
+        node = end;
+        at += n;
+    }
+    join_held(above, over, held, cells);
+    at
 }
 
 // Fills the own cells of a plan whose table and masks are sound: what stands below the root, and so the root's cell.
@@ -121,5 +108,5 @@ pub fn fill(table: &[u8], ports: usize, sets: usize, nodes: usize, masks: &[u64]
 {
     let below = below_root(table, nodes);
     let own = own_masks(sets);
-    fill_forest(below, 1, 0, ports, sets, 0, 1, 1, 1, &masks[0..own], cells);
+    fill_children(below, 1, 0, ports, sets, 0, 1, 1, &masks[0..own], cells);
 }

@@ -1,2 +1,3 @@
 -- Laws.
 pub mod Prefix
+pub mod Held

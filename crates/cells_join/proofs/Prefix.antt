@@ -3,15 +3,14 @@ use mathlib.Core.Path.{_≡_, refl, sym, ap, ap₂, _∙_}
 use mathlib.Core.Bool.{Bool, true, false, cond, _&&_}
 use mathlib.Core.List.{List, [], _∷_, _++_}
 use Prim.Native.Nat.{ℕ, zero, suc, _+_, _*_, _%_, _≤_, _<_, min}
-use native.Mathlib.Nat.{mul-one, suc-mul, mul-le-mul-right}
+use native.Mathlib.Nat.{suc-mul, mul-le-mul-right}
 use native.Mathlib.Numerals.{add-one}
 use native.Mathlib.Omega.{arith}
 use lib.Dec.{eqb, leb}
 use lib.ListN.{length, getD, take, drop, set, length-drop}
 use lib.Seq.{drop-cons, take-suc, getD-drop}
 use Rattle.logic.specs.Cells.{tabulate}
-use Rattle.logic.proofs.Tables.{tabulate-cong}
-use Rattle.logic.proofs.Written.{Written, one-more-first, behind-first, next-first, take-tabulate}
+use Rattle.logic.proofs.Written.{Written, one-more-first, behind-first, from-first, next-first}
 use Rattle.cells_join.specs.inner.Joined.{meet, unitOf, joinAll, joinInto, merged, spreadOf}
 
 join-append : (join x : ℕ) (ys zs : List ℕ) → joinAll join x (ys ++ zs) ≡ joinAll join (joinAll join x ys) zs
@@ -60,13 +59,8 @@ from-unit join x from (suc s) l h k b =
     rw (drop-cons l from 0 (omega arith)) (ap (λ (y : ℕ). joinAll join y (take s (drop (suc from) l))) (unit-meet join (getD l from 0) b))
 
 -- one cell alone
-pub join-one : (join x i : ℕ) (l : List ℕ) → i < length l → meet join x (getD l i 0) ≡ joinInto join false x (take 1 (drop i l))
-unfolding joinAll joinInto
-join-one join x i l h = rw (drop-cons l i 0 h)
-
-first-one : (join x i : ℕ) (l : List ℕ) → i < length l → getD l i 0 ≡ joinInto join true x (take 1 (drop i l))
-unfolding joinAll joinInto
-first-one join x i l h = rw (drop-cons l i 0 h)
+pub one-at : (i : ℕ) (l : List ℕ) → i < length l → take 1 (drop i l) ≡ getD l i 0 ∷ []
+one-at i l h = rw (drop-cons l i 0 h)
 
 -- a cell stands above one at least
 pub spread-pos : (kind ports : ℕ) → 1 ≤ ports → 1 ≤ spreadOf kind ports
@@ -94,26 +88,3 @@ merge-more join first s at over from t v xs cells i l h k e q =
     (q ∙ ap₂ (λ (x : ℕ) (ys : List ℕ). joinInto join first x (take s ys))
     (ap (λ (ys : List ℕ). getD ys t 0) (i .is) ∙ next-first g t xs)
     (ap₂ (λ (m : ℕ) (ys : List ℕ). drop m ys) e (i .is) ∙ behind-first g t (at + t * s) xs (omega arith)))
-
--- a copied cell: not written yet where it is read
-pub copy-more : (at over t : ℕ) (xs cells : List ℕ) → Written (λ i. getD (drop at xs) i 0) 0 over xs cells t → t < over → over ≤ at → over ≤ length xs
-    → Written (λ i. getD (drop at xs) i 0) 0 over xs (set cells t (getD cells (at + t) 0)) (t + 1)
-copy-more at over t xs cells i l h k =
-    let g : ℕ → ℕ = λ i. getD (drop at xs) i 0 in
-    one-more-first g over xs cells t (getD cells (at + t) 0) i l k
-    (sym (getD-drop at cells t 0) ∙ ap (λ (ys : List ℕ). getD ys t 0) (ap (drop at) (i .is) ∙ behind-first g t at xs (omega arith)))
-
--- the cells of a copied row
-pub taken-row : (at over : ℕ) (l : List ℕ) → at + over ≤ length l
-    → tabulate over (λ i. getD (drop at l) i 0) ++ drop over l ≡ take over (drop at l) ++ drop over l
-taken-row at over l h = ap (λ (x : List ℕ). x ++ drop over l) (sym (take-tabulate over (drop at l) (rw (length-drop at l) (omega arith))))
-
--- a copied row is one that the first child's cells are merged into
-pub copied-row : (join over at : ℕ) (l : List ℕ) → at + over ≤ length l → take over (drop at l) ++ drop over l ≡ merged join true over 1 at l
-unfolding merged
-copied-row join over at l h =
-    sym (taken-row at over l h)
-    ∙ ap (λ (x : List ℕ). x ++ drop over l)
-    (tabulate-cong over _ _ (λ t q.
-    getD-drop at l t 0 ∙ first-one join (getD l t 0) (at + t) l (omega arith)
-    ∙ ap (λ (m : ℕ). joinInto join true (getD l t 0) (take 1 (drop (at + m) l))) (sym (mul-one t))))

@@ -3,11 +3,10 @@ use logic::lesser_cell;
 use std::num::wrapping_add_u32;
 ghost use mathlib.Core.Path.{_≡_};
 ghost use mathlib.Core.Bool.{true, false};
-ghost use mathlib.Core.List.{_++_};
+ghost use mathlib.Core.List.{[], _∷_};
 ghost use Prim.Native.Nat.{ℕ, _+_, _*_, _≤_};
-ghost use lib.Dec.{eqb};
 ghost use lib.ListN.{length, take, drop};
-ghost use Rattle.cells_join.specs.inner.Joined.{meet, unitOf, joinInto, merged, joinOf, spreadOf, ChildPlaced};
+ghost use Rattle.cells_join.specs.inner.Joined.{meet, unitOf, joinInto, merged, settled, joinOf, spreadOf, HeldPlaced, ChildPlaced, Joins};
 
 // Two numbers joined: 0 adds, any other takes the minimum. True penalties stay below 2^32, so no sum of them wraps.
 fn meet_of(join: u8, x: u32, y: u32) -> u32
@@ -57,27 +56,38 @@ fn gather_rows(join: u8, over: usize, s: usize, at: usize, cells: &mut [u32])
     }
 }
 
-// Copies to the first `over` cells those from place `at` on.
-fn copy_row(over: usize, at: usize, cells: &mut [u32])
-    requires { ⌜ (over ≤ at) × (at + over ≤ length (now cells)) ⌝ }
-    ensures { λ _. ⌜ now (cells .exit) ≡ take over (drop at (now (cells .entry))) ++ drop over (now (cells .entry)) ⌝ }
+// A number joined to another, or put in its place, if it is the first.
+fn step_of(join: u8, first: bool, x: u32, y: u32) -> u32
+    ensures { λ r. ⌜ r ≡ joinInto join first x (y ∷ []) ⌝ }
 {
-    let mut i = 0;
-    while i < over {
-        cells[i] = cells[at + i];
-        i += 1;
+    if first {
+        return y;
     }
+    meet_of(join, x, y)
 }
 
-// Joins to each of the first `over` cells the one below it, from place `at` on. With no loop for each cell the compiler makes
-// vector instructions of it.
-fn merge_row(join: u8, over: usize, at: usize, cells: &mut [u32])
+// Joins to each of the first `over` cells the one below it, from place `at` on, or copies it if it is the first. With no loop for
+// each cell the compiler makes vector instructions of it.
+fn merge_row(join: u8, first: bool, over: usize, at: usize, cells: &mut [u32])
     requires { ⌜ (over ≤ at) × (at + over ≤ length (now cells)) ⌝ }
-    ensures { λ _. ⌜ now (cells .exit) ≡ merged join false over 1 at (now (cells .entry)) ⌝ }
+    ensures { λ _. ⌜ now (cells .exit) ≡ merged join first over 1 at (now (cells .entry)) ⌝ }
 {
     let mut t = 0;
     while t < over {
-        cells[t] = meet_of(join, cells[t], cells[at + t]);
+        cells[t] = step_of(join, first, cells[t], cells[at + t]);
+        t += 1;
+    }
+}
+
+// The same of two rows, so that a cell is written once for both.
+fn merge_rows(join: u8, first: bool, over: usize, held: usize, at: usize, cells: &mut [u32])
+    requires { ⌜ (over ≤ held) × (held ≤ at) × (at + over ≤ length (now cells)) ⌝ }
+    ensures { λ _. ⌜ now (cells .exit) ≡ merged join false over 1 at (merged join first over 1 held (now (cells .entry))) ⌝ }
+{
+    let mut t = 0;
+    while t < over {
+        let x = step_of(join, first, cells[t], cells[held + t]);
+        cells[t] = meet_of(join, x, cells[at + t]);
         t += 1;
     }
 }
@@ -102,21 +112,39 @@ fn spread_of(kind: u8, ports: usize) -> usize
     1
 }
 
-// Joins a child's cells, from place `at` on, to those of the node above, the first `over`. The first child stands right behind
-// them and is written over them, whatever they hold: no cell is filled only to be joined to.
-pub fn join_child(above: u8, ports: usize, over: usize, at: usize, cells: &mut [u32])
-    requires { ⌜ ChildPlaced above ports over at (now cells) ⌝ }
-    ensures { λ _. ⌜ now (cells .exit) ≡ merged (joinOf above) (eqb at over) over (spreadOf above ports) at (now (cells .entry)) ⌝ }
+// Joins a child's cells, from place `at` on, to those of the node above, the first `over`: below a quantifier at once, else with
+// the next child's, since two rows are joined at the cost of little more than one. Says where a row stands that is not joined yet,
+// or 0. The first child stands right behind the node's own cells, and with the second is written over them, whatever they hold.
+pub fn join_child(
+    above: u8,
+    ports: usize,
+    over: usize,
+    held: usize,
+    at: usize,
+    cells: &mut [u32],
+) -> usize
+    requires { ⌜ ChildPlaced above ports over held at (now cells) ⌝ }
+    ensures { λ r. ⌜ Joins above ports over held at (now (cells .entry)) (now (cells .exit)) r ⌝ }
 {
     let join = join_of(above);
-    if at != over {
-        merge_row(join, over, at, cells);
-        return;
+    if held != 0 {
+        merge_rows(join, held == over, over, held, at, cells);
+        return 0;
     }
     let s = spread_of(above, ports);
     if s == 1 {
-        copy_row(over, at, cells);
-        return;
+        return at;
     }
     gather_rows(join, over, s, at, cells);
+    0
+}
+
+// Joins the row that is not joined yet, if there is one, when there is no further child.
+pub fn join_held(above: u8, over: usize, held: usize, cells: &mut [u32])
+    requires { ⌜ HeldPlaced over held (length (now cells)) ⌝ }
+    ensures { λ _. ⌜ now (cells .exit) ≡ settled (joinOf above) over held (now (cells .entry)) ⌝ }
+{
+    if held != 0 {
+        merge_row(join_of(above), held == over, over, held, cells);
+    }
 }

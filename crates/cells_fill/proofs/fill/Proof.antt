@@ -18,19 +18,19 @@ own-masks-requires c κs =
     let r = ready (c .before .before .before .before .args .table .now) (c .before .before .before .before .pre .plan) (c .before .before .before .before .args .nodes) (c .before .before .before .before .pre .decodes) (c .before .before .before .before .pre .nodes-are) in
     omega (arith, r .facts .sets16, c .before .before .before .before .pre .sets-are)
 
-sub-fill-forest : tie.Need-sub-fill-forest
-sub-fill-forest c = search needs
+sub-fill-children : tie.Need-sub-fill-children
+sub-fill-children c = search needs
 
-part-fill-forest-start : tie.Need-part-fill-forest-start
-part-fill-forest-start c = search needs
+part-fill-children-start : tie.Need-part-fill-children-start
+part-fill-children-start c = search needs
 
-part-fill-forest-end : tie.Need-part-fill-forest-end
-part-fill-forest-end c =
+part-fill-children-end : tie.Need-part-fill-children-end
+part-fill-children-end c =
     omega (arith, c .own-masks .ensures, c .before .before .before .before .before .pre .own-masks)
 
-fill-forest-requires : tie.Need-fill-forest-requires
+fill-children-requires : tie.Need-fill-children-requires
 unfolding ownMasks
-fill-forest-requires c κs =
+fill-children-requires c κs =
     let e0 = sub-zero (c .before .before .own-masks .result) ∙ c .before .before .own-masks .ensures ∙ ap maskCount (c .before .before .before .before .before .before .before .pre .sets-are) in
     rw (e0, c .before .before .before .below-root .ensures, c .before .before .before .before .before .before .before .pre .ports-are, c .before .before .before .before .before .before .before .pre .sets-are)
     (placed-plan (c .before .before .before .before .before .before .before .args .table .now) (c .before .before .before .before .before .before .before .pre .plan) (c .before .before .before .before .before .before .before .args .nodes) (c .before .before .before .before .before .before .before .args .masks .now) _
@@ -46,10 +46,10 @@ returns : tie.Need-returns
 unfolding ownMasks
 returns c =
     let e0 = sub-zero (c .before .before .before .before .before .own-masks .result) ∙ c .before .before .before .before .before .own-masks .ensures ∙ ap maskCount (c .before .before .before .before .before .before .before .before .before .before .pre .sets-are) in
-    plan-filled (c .before .before .before .before .before .before .before .before .before .before .args .table .now) (c .before .before .before .before .before .before .before .before .before .before .pre .plan) (c .before .before .before .before .before .before .before .before .before .before .args .nodes) (c .before .before .fill-forest .result) (c .before .before .before .before .before .before .before .before .before .before .args .masks .now) (c .before .before .before .before .before .before .before .before .before .before .args .cells .now) _ (c .before .before .before .before .before .before .before .before .before .before .pre .decodes)
+    plan-filled (c .before .before .before .before .before .before .before .before .before .before .args .table .now) (c .before .before .before .before .before .before .before .before .before .before .pre .plan) (c .before .before .before .before .before .before .before .before .before .before .args .nodes) (c .before .before .fill-children .result) (c .before .before .before .before .before .before .before .before .before .before .args .masks .now) (c .before .before .before .before .before .before .before .before .before .before .args .cells .now) _ (c .before .before .before .before .before .before .before .before .before .before .pre .decodes)
     (ready (c .before .before .before .before .before .before .before .before .before .before .args .table .now) (c .before .before .before .before .before .before .before .before .before .before .pre .plan) (c .before .before .before .before .before .before .before .before .before .before .args .nodes) (c .before .before .before .before .before .before .before .before .before .before .pre .decodes) (c .before .before .before .before .before .before .before .before .before .before .pre .nodes-are))
     (c .before .before .before .before .before .before .before .before .before .before .pre .own-cells)
-    (rw (e0, c .before .before .before .before .before .before .below-root .ensures, c .before .before .before .before .before .before .before .before .before .before .pre .ports-are, c .before .before .before .before .before .before .before .before .before .before .pre .sets-are) at (c .before .before .fill-forest .ensures))
+    (rw (e0, c .before .before .before .before .before .before .below-root .ensures, c .before .before .before .before .before .before .before .before .before .before .pre .ports-are, c .before .before .before .before .before .before .before .before .before .before .pre .sets-are) at (c .before .before .fill-children .ensures))
 
 pub fill-spec : {M : Type 1} → statement M
 fill-spec =
@@ -57,9 +57,9 @@ fill-spec =
     (tie.spec
     below-root-requires
     own-masks-requires
-    sub-fill-forest
-    part-fill-forest-start
-    part-fill-forest-end
-    fill-forest-requires
+    sub-fill-children
+    part-fill-children-start
+    part-fill-children-end
+    fill-children-requires
     same-length
     returns)

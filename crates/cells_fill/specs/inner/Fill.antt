@@ -6,25 +6,15 @@ use mathlib.Core.List.{List, [], _∷_, _++_}
 use Prim.Native.Nat.{ℕ, _+_, _-_, _*_, _^_, _≤_, min}
 use lib.Dec.{eqb}
 use lib.ListN.{length, getD, take}
-use Rattle.logic.specs.Formula.{Node, root, all, any, and, or, lit, Forest, none, tree, Plan, kindNumber, nodeCount, childDepth}
+use Rattle.logic.specs.Formula.{Node, Forest, none, tree, Plan, kindNumber, nodeCount, childDepth}
 use Rattle.logic.specs.Configuration.{Configuration, configured, inMasks, maskCount, ownMasks, spelled, allWithin}
 use Rattle.logic.specs.Truth.{Tuple}
-use Rattle.logic.specs.Penalty.{literalPenalty, below, penalty}
+use Rattle.logic.specs.Penalty.{below, penalty}
 use Rattle.logic.specs.Cells.{cellCount, tupleAt, tabulate, layout, ownCells, cells as planCells}
-use Rattle.table_format.specs.Bytes.{recordLength, nodeOf, records}
+use Rattle.table_format.specs.Bytes.{recordLength, records}
 use Rattle.table_format.specs.Rules.{treeCount, everyNode, nodeRule}
 use Rattle.table_format.specs.Decode.{sound, decode}
-use Rattle.table_format.specs.inner.Tests.{fieldRule}
 use Rattle.cells_join.specs.inner.Joined.{joinInto, joinOf, spreadOf}
-
--- A cell that holds x before anything below it is joined to it: a literal has its penalty, another node what was there.
-unfoldable pub startCell : Configuration → Node → Tuple → ℕ → ℕ
-startCell k root e x = x
-startCell k all e x = x
-startCell k any e x = x
-startCell k and e x = x
-startCell k or e x = x
-startCell k (lit l) e x = literalPenalty k l e
 
 -- The numbers directly below a cell, tree after tree.
 unfoldable pub treewise : ℕ → Configuration → Node → Forest → Tuple → List ℕ
@@ -38,31 +28,10 @@ config u n masks = configured u n (inMasks masks)
 unfoldable pub table : ℕ → Configuration → Forest → ℕ → List ℕ
 table u k f d = layout u (λ n c b i e. penalty u k n c e) f 0 d
 
--- A record's own cells, no more and no less, are begun.
-pub record StartPlaced (kind relation a b sets ports depth width : ℕ) (masks cells : List ℕ) : Type 0 where
-  pub fields : fieldRule sets depth kind relation a b ≡ true
-  pub ports1 : 1 ≤ ports
-  pub ports64 : ports ≤ 64
-  pub depth3 : depth ≤ 3
-  pub width-is : width ≡ ports ^ depth
-  pub own-cells : length cells ≡ width
-  pub sets-masks : maskCount sets ≤ length masks
-  pub within : allWithin ports masks ≡ true
-
-unfoldable pub started : ℕ → ℕ → ℕ → ℕ → ℕ → ℕ → ℕ → ℕ → List ℕ → List ℕ → List ℕ
-started kind relation a b sets ports depth width masks cells =
-    tabulate width (λ t. startCell (config ports sets masks) (nodeOf kind relation a b) (tupleAt ports depth t) (getD cells t 0))
-
--- Where the records of some trees stand below a node `parent`, and their cells from place `at` on; the first `over` cells are
--- the parent's. Below a quantifier stands one tree, right behind them.
-pub record FillPlaced (l : List ℕ) (i above ports sets depth width over at : ℕ) (masks cells : List ℕ) : Type 0 where
-  pub parent : Node
-  pub outer : ℕ
+-- Where the records of some trees stand, and their cells from place `at` on.
+pub record TreesPlaced (l : List ℕ) (i ports sets depth width at : ℕ) (masks cells : List ℕ) : Type 0 where
   pub forest : Forest
   pub up : ℕ
-  pub kind-is : kindNumber parent ≡ above
-  pub depth-is : depth ≡ childDepth parent outer
-  pub over-is : over ≡ ports ^ outer
   pub width-is : width ≡ ports ^ depth
   pub is : l ≡ records forest i up
   pub rules : everyNode (nodeRule sets) forest depth ≡ true
@@ -73,9 +42,28 @@ pub record FillPlaced (l : List ℕ) (i above ports sets depth width over at : �
   pub depth4 : depth ≤ 4
   pub sets-masks : maskCount sets ≤ length masks
   pub within : allWithin ports masks ≡ true
-  pub after : over ≤ at
-  pub alone : (spreadOf above ports ≡ 1) ⊎ (treeCount forest + min 1 (at - over) ≤ 1)
   pub room : at + cellCount ports forest depth ≤ length cells
+
+-- The same below a node `parent`, whose cells are the first `over`. Below a quantifier stands one tree, right behind them.
+pub record FillPlaced (l : List ℕ) (i above ports sets depth width over at : ℕ) (masks cells : List ℕ) : Type 0 where
+  pub trees : TreesPlaced l i ports sets depth width at masks cells
+  pub parent : Node
+  pub outer : ℕ
+  pub kind-is : kindNumber parent ≡ above
+  pub depth-is : depth ≡ childDepth parent outer
+  pub over-is : over ≡ ports ^ outer
+  pub after : over ≤ at
+  pub alone : (spreadOf above ports ≡ 1) ⊎ (treeCount (trees .forest) + min 1 (at - over) ≤ 1)
+
+-- One tree's cells afterwards, r of them: the node's own and those below it, each its penalty; the rest as it was.
+pub record TreeFilled (ports sets depth at : ℕ) (m : Node) (c : Forest) (masks before after : List ℕ) (r : ℕ) : Type 0 where
+  pub count : r ≡ ports ^ depth + cellCount ports c (childDepth m depth)
+  pub cells-are : (C X R : List ℕ) → before ≡ C ++ (X ++ R) → length C ≡ at → length X ≡ r
+      → after ≡ C ++ (tabulate (ports ^ depth) (λ t. penalty ports (config ports sets masks) m c (tupleAt ports depth t)) ++ (table ports (config ports sets masks) c (childDepth m depth) ++ R))
+
+unfoldable pub FillsTree : List ℕ → ℕ → ℕ → ℕ → ℕ → ℕ → List ℕ → List ℕ → List ℕ → ℕ → Type 0
+FillsTree l i ports sets depth at masks before after r =
+    (m : Node) (c s : Forest) (up : ℕ) → l ≡ records (tree m c s) i up → TreeFilled ports sets depth at m c masks before after r
 
 -- The cells afterwards: the parent's joined with those of the trees, or written from them where the first of them is its first
 -- child; what stood between as it was, the trees' own, and the rest as it was.

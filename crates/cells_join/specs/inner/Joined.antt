@@ -36,9 +36,25 @@ joinInto join true x (y ∷ ys) = joinAll join y ys
 unfoldable pub merged : ℕ → Bool → ℕ → ℕ → ℕ → List ℕ → List ℕ
 merged join first over s at l = tabulate over (λ t. joinInto join first (getD l t 0) (take s (drop (at + t * s) l))) ++ drop over l
 
--- A child's cells from place `at` on, below the first `over`. Only and/or have a later child, which does not begin right behind them.
-pub record ChildPlaced (above ports over at : ℕ) (cells : List ℕ) : Type 0 where
+-- The cells once the row at place `held`, of one cell below each of the first `over`, is joined to them; 0 stands for no row.
+unfoldable pub settled : ℕ → ℕ → ℕ → List ℕ → List ℕ
+settled join over held l = cond (eqb held 0) l (merged join (eqb held over) over 1 held l)
+
+-- A row that is not joined yet stands behind the node's own cells and before place `end`.
+unfoldable pub HeldPlaced : ℕ → ℕ → ℕ → Type 0
+HeldPlaced over held end = 1 ≤ held → (over ≤ held) × (held + over ≤ end)
+
+-- A child's cells from place `at` on, below the first `over`, and a row that is not joined yet. Only and/or have a later child,
+-- which does not begin right behind the node's own cells.
+pub record ChildPlaced (above ports over held at : ℕ) (cells : List ℕ) : Type 0 where
   pub ports1 : 1 ≤ ports
+  pub over1 : 1 ≤ over
   pub after : over ≤ at
   pub room : at + over * spreadOf above ports ≤ length cells
   pub later : over < at → spreadOf above ports ≡ 1
+  pub waits : HeldPlaced over held at
+
+-- A child is joined, or its row, which is then the one at r, is to be: either way the cells come to the same.
+pub record Joins (above ports over held at : ℕ) (before after : List ℕ) (r : ℕ) : Type 0 where
+  pub held-is : 1 ≤ r → (r ≡ at) × (spreadOf above ports ≡ 1)
+  pub joined : settled (joinOf above) over r after ≡ merged (joinOf above) (eqb at over) over (spreadOf above ports) at (settled (joinOf above) over held before)

@@ -1,0 +1,149 @@
+-- Two rows merged at once, and a row that is not joined yet. Assumes nothing.
+use mathlib.Core.Path.{_≡_, refl, sym, ap, ap₂, _∙_}
+use mathlib.Core.Bool.{Bool, true, false, cond}
+use mathlib.Core.List.{List, [], _∷_, _++_, append-assoc}
+use mathlib.Core.Logic.{_≢_}
+use Prim.Native.Nat.{ℕ, _+_, _-_, _*_, _≤_, _<_}
+use native.Mathlib.Decide.{decLe}
+use native.Mathlib.Nat.{mul-one, lt-of-not-le}
+use native.Mathlib.Omega.{arith}
+use lib.Dec.{eqb}
+use lib.ListN.{length, getD, take, drop, set, length-append, length-drop, List·getD-append}
+use lib.Seq.{getD-drop, drop-append-le}
+use borrow.Author.Tests.{eq-eqb, ne-eqb}
+use Rattle.logic.specs.Cells.{tabulate}
+use Rattle.logic.proofs.Tables.{length-tabulate, getD-tabulate, tabulate-cong}
+use Rattle.logic.proofs.Written.{Written, one-more-first, behind-first, from-first}
+use Rattle.cells_join.specs.inner.Joined.{meet, joinAll, joinInto, merged, settled, joinOf, spreadOf, HeldPlaced, ChildPlaced, Joins}
+use Rattle.cells_join.proofs.Prefix.{one-at, joinedAt}
+
+-- a cell that is not written yet
+kept : (f : ℕ → ℕ) (over t i : ℕ) (xs cells : List ℕ) → Written f 0 over xs cells t → t ≤ i → getD cells i 0 ≡ getD xs i 0
+kept f over t i xs cells w h =
+    let e : i ≡ t + (i - t) = omega arith in
+    ap (λ (m : ℕ). getD cells m 0) e ∙ sym (getD-drop t cells (i - t) 0)
+    ∙ ap (λ (l : List ℕ). getD l (i - t) 0) (ap (drop t) (w .is) ∙ behind-first f t t xs (omega arith))
+    ∙ getD-drop t xs (i - t) 0 ∙ ap (λ (m : ℕ). getD xs m 0) (sym e)
+
+-- what stands behind the merged cells is as it was
+pub merged-behind : (join : ℕ) (first : Bool) (over s at i : ℕ) (l : List ℕ) → over ≤ i → drop i (merged join first over s at l) ≡ drop i l
+unfolding merged
+merged-behind join first over s at i l h =
+    ap (drop i) (sym (from-first (joinedAt join first s at l) over l)) ∙ behind-first (joinedAt join first s at l) over i l h
+
+merged-at : (join : ℕ) (first : Bool) (over s at t : ℕ) (l : List ℕ) → t < over → getD (merged join first over s at l) t 0 ≡ joinedAt join first s at l t
+unfolding merged
+merged-at join first over s at t l h =
+    List·getD-append (tabulate over (joinedAt join first s at l)) (drop over l) 0 t (rw length-tabulate h) ∙ getD-tabulate over (joinedAt join first s at l) t h
+
+-- one more cell of two rows merged
+pub rows-more : (join : ℕ) (first : Bool) (over held at t x v : ℕ) (xs cells : List ℕ)
+    → Written (joinedAt join false 1 at (merged join first over 1 held xs)) 0 over xs cells t → t < over → over ≤ held → held ≤ at → at + over ≤ length xs
+    → x ≡ joinInto join first (getD cells t 0) (getD cells (held + t) 0 ∷ []) → v ≡ meet join x (getD cells (at + t) 0)
+    → Written (joinedAt join false 1 at (merged join first over 1 held xs)) 0 over xs (set cells t v) (t + 1)
+unfolding joinInto joinAll
+rows-more join first over held at t x v xs cells w l h k r e q =
+    let D = merged join first over 1 held xs in
+    let g : ℕ → ℕ = joinedAt join false 1 at D in
+    let same : (i : ℕ) → t ≤ i → getD cells i 0 ≡ getD xs i 0 = λ i. kept g over t i xs cells w in
+    let row : (i : ℕ) → i + t < length xs → getD cells (i + t) 0 ∷ [] ≡ take 1 (drop (i + t * 1) xs) = λ i b.
+    ap (λ (y : ℕ). y ∷ []) (same (i + t) (omega arith)) ∙ sym (one-at (i + t) xs b) ∙ ap (λ (m : ℕ). take 1 (drop (i + m) xs)) (sym (mul-one t)) in
+    let own : x ≡ getD D t 0 =
+    e ∙ ap₂ (joinInto join first) (same t (omega arith)) (row held (omega arith)) ∙ sym (merged-at join first over 1 held t xs l) in
+    let below : getD cells (at + t) 0 ∷ [] ≡ take 1 (drop (at + t * 1) D) =
+    row at (omega arith) ∙ ap (take 1) (sym (merged-behind join first over 1 held (at + t * 1) xs (omega arith))) in
+    one-more-first g over xs cells t v w l (omega arith) (q ∙ ap₂ (λ (y : ℕ) (ys : List ℕ). joinInto join false y ys) own below)
+
+pub rows-all : (join : ℕ) (first : Bool) (over held at : ℕ) (xs : List ℕ)
+    → tabulate over (joinedAt join false 1 at (merged join first over 1 held xs)) ++ drop over xs ≡ merged join false over 1 at (merged join first over 1 held xs)
+unfolding merged
+rows-all join first over held at xs =
+    ap (λ (l : List ℕ). tabulate over (joinedAt join false 1 at (merged join first over 1 held xs)) ++ l) (sym (merged-behind join first over 1 held over xs (omega arith)))
+
+-- no row, and a row
+pub settled-none : (join over held : ℕ) (l : List ℕ) → held ≡ 0 → settled join over held l ≡ l
+unfolding settled
+settled-none join over held l h = rw (eq-eqb held 0 h)
+
+pub settled-some : (join over held : ℕ) (l : List ℕ) → 1 ≤ held → settled join over held l ≡ merged join (eqb held over) over 1 held l
+unfolding settled
+settled-some join over held l h = rw (ne-eqb held 0 (λ q. absurd (omega arith)))
+
+-- What stands behind the node's cells is as it was.
+pub settled-behind : (join over held i : ℕ) (l : List ℕ) → over ≤ i → drop i (settled join over held l) ≡ drop i l
+unfolding settled
+settled-behind join over held i l h = go (eqb held 0)
+  where
+    go : (b : Bool) → drop i (cond b l (merged join (eqb held over) over 1 held l)) ≡ drop i l
+    go true = refl
+    go false = merged-behind join (eqb held over) over 1 held i l h
+
+pub length-settled : (join over held : ℕ) (l : List ℕ) → over ≤ length l → length (settled join over held l) ≡ length l
+unfolding settled merged
+length-settled join over held l h = go (eqb held 0)
+  where
+    go : (b : Bool) → length (cond b l (merged join (eqb held over) over 1 held l)) ≡ length l
+    go true = refl
+    go false = simp (length-append, length-tabulate, length-drop) (omega arith)
+
+-- What stands behind the row that is not joined yet has no part in it.
+merged-front : (join : ℕ) (first : Bool) (over at : ℕ) (C D : List ℕ) → over ≤ at → at + over ≤ length C
+    → merged join first over 1 at (C ++ D) ≡ merged join first over 1 at C ++ D
+unfolding merged
+merged-front join first over at C D h k =
+    ap₂ _++_
+    (tabulate-cong over (joinedAt join first 1 at (C ++ D)) (joinedAt join first 1 at C) (λ t q.
+    let b : at + t * 1 < length C = omega (arith, mul-one t) in
+    ap₂ (joinInto join first) (List·getD-append C D 0 t (omega arith))
+    (one-at (at + t * 1) (C ++ D) (omega (arith, length-append C D)) ∙ ap (λ (x : ℕ). x ∷ []) (List·getD-append C D 0 (at + t * 1) b) ∙ sym (one-at (at + t * 1) C b))))
+    (drop-append-le over C D (omega arith))
+    ∙ sym (append-assoc (tabulate over (joinedAt join first 1 at C)) (drop over C) D)
+
+pub settled-front : (join over held : ℕ) (C D : List ℕ) → HeldPlaced over held (length C) → settled join over held (C ++ D) ≡ settled join over held C ++ D
+unfolding HeldPlaced
+settled-front join over held C D h = go (decLe 1 held)
+  where
+    go : Dec (1 ≤ held) → settled join over held (C ++ D) ≡ settled join over held C ++ D
+    go (yes q) =
+        settled-some join over held (C ++ D) q ∙ merged-front join (eqb held over) over held C D (h q .0) (h q .1)
+        ∙ ap (λ (l : List ℕ). l ++ D) (sym (settled-some join over held C q))
+    go (no f) =
+        let z : held ≡ 0 = omega (arith, lt-of-not-le f) in
+        settled-none join over held (C ++ D) z ∙ ap (λ (l : List ℕ). l ++ D) (sym (settled-none join over held C z))
+
+-- The three ways in which a child's cells are met.
+pub joins-two : (above ports over held at : ℕ) (xs ys : List ℕ) → ChildPlaced above ports over held at xs → 1 ≤ held
+    → ys ≡ merged (joinOf above) false over 1 at (merged (joinOf above) (eqb held over) over 1 held xs) → Joins above ports over held at xs ys 0
+unfolding HeldPlaced
+joins-two above ports over held at xs ys p h e =
+    let w = p .waits h in
+    let later : over < at = omega (arith, p .over1) in
+    record {
+      held-is = λ q. absurd (omega arith);
+      joined = settled-none (joinOf above) over 0 ys refl ∙ e
+          ∙ (λ j. merged (joinOf above) (sym (ne-eqb at over (λ q. absurd (omega arith))) j) over (sym (p .later later) j) at (sym (settled-some (joinOf above) over held xs h) j));
+    }
+
+pub joins-later : (above ports over held at : ℕ) (xs : List ℕ) → ChildPlaced above ports over held at xs → held ≡ 0 → spreadOf above ports ≡ 1
+    → Joins above ports over held at xs xs at
+joins-later above ports over held at xs p h s = record {
+  held-is = λ q. (refl, s);
+  joined = settled-some (joinOf above) over at xs (omega (arith, p .over1, p .after))
+      ∙ (λ j. merged (joinOf above) (eqb at over) over (sym s j) at (sym (settled-none (joinOf above) over held xs h) j));
+}
+
+-- what is gathered is the first child
+first-child : (above ports over held at : ℕ) (xs : List ℕ) → ChildPlaced above ports over held at xs → spreadOf above ports ≢ 1 → at ≡ over
+first-child above ports over held at xs p s = go (decLe at over)
+  where
+    go : Dec (at ≤ over) → at ≡ over
+    go (yes h) = omega (arith, p .after)
+    go (no f) = absurd (s (p .later (lt-of-not-le f)))
+
+pub joins-ports : (above ports over held at : ℕ) (xs ys : List ℕ) → ChildPlaced above ports over held at xs → held ≡ 0 → spreadOf above ports ≢ 1
+    → ys ≡ merged (joinOf above) true over (spreadOf above ports) at xs → Joins above ports over held at xs ys 0
+joins-ports above ports over held at xs ys p h s q = record {
+  held-is = λ z. absurd (omega arith);
+  joined = settled-none (joinOf above) over 0 ys refl ∙ q
+      ∙ (λ j. merged (joinOf above) (sym (eq-eqb at over (first-child above ports over held at xs p s)) j) over (spreadOf above ports) at (sym (settled-none (joinOf above) over held xs h) j));
+}

@@ -1,0 +1,26 @@
+use mathlib.Core.Path.{sym, ap, _∙_}
+use mathlib.Core.Bool.{Bool}
+use mathlib.Core.List.{[], _∷_}
+use Rattle.cells_join.specs.inner.Joined.{joinAll, joinInto}
+use borrow.Author.Needs.{needs}
+use Rattle.cells_join.proofs.step_of.Statement.{statement}
+use Rattle.cells_join.proofs.step_of.Tie as tie
+use Rattle.cells_join.proofs.step_of.Reads as reads
+use Rattle.cells_join.proofs.step_of.Lts as lts
+use Rattle.cells_join.proofs.meet_of.Reads as meet-of-reads
+
+returns : tie.Need-returns
+unfolding joinInto joinAll
+returns c =
+    rw (c .if1 .taken)
+
+meet-of-requires : tie.Need-meet-of-requires
+meet-of-requires c κs = search needs
+
+returns-2 : tie.Need-returns-2
+unfolding joinInto joinAll
+returns-2 c =
+    rw (c .before .if1 .left) (c .meet-of .ensures)
+
+pub step-of-spec : {M : Type 1} → statement M
+step-of-spec = tie.close (tie.spec returns meet-of-requires returns-2)
