@@ -1,2 +1,3 @@
 -- Laws.
+pub mod Halves
 pub mod Penalties

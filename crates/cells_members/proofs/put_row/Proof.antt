@@ -1,80 +1,55 @@
-use mathlib.Core.Path.{ap, _∙_}
-use mathlib.Core.Bool.{cond}
-use Prim.Native.Nat.{ℕ, _-_}
 use native.Mathlib.Omega.{arith}
 use borrow.Author.Needs.{needs}
-use Rattle.logic.specs.Configuration.{inMask}
-use Rattle.cells_runs.specs.inner.Ports.{digitAt}
-use Rattle.logic.proofs.Written.{Written, start, one-more-first, from-first}
-use Rattle.cells_runs.proofs.Rounds.{row-port, round-row}
+use Rattle.cells_runs.proofs.Rounds.{round-row}
+use Rattle.cells_members.proofs.Halves.{halves-row}
+use borrow.Author.Needs.{needs}
 use Rattle.cells_members.proofs.put_row.Statement.{statement}
 use Rattle.cells_members.proofs.put_row.Tie as tie
+use Rattle.cells_members.proofs.put_row.Reads as reads
+use Rattle.cells_members.proofs.put_row.Lts as lts
+use Rattle.cells_members.proofs.put_half.Reads as put-half-reads
+use Rattle.logic.proofs.lesser.Reads as lesser-reads
 
-abbrev Inv-loop : tie.InvT-loop
-Inv-loop inside outside mask ports width cells₀ row t₀ cells t = Written (λ i. cond (inMask mask (digitAt ports 1 i)) inside outside) 0 row cells₀ cells t
+lesser-requires : tie.Need-lesser-requires
+lesser-requires c κs = search needs
 
-abbrev μ-loop : tie.MeasureT-loop
-μ-loop inside outside mask ports width cells₀ row t₀ cells t = row - t
+lesser-requires-2 : tie.Need-lesser-requires-2
+lesser-requires-2 c κs = search needs
 
-lesser-requires : tie.Need-lesser-requires Inv-loop μ-loop
-lesser-requires c κs =
-    search needs
+cast-put-half : tie.Need-cast-put-half
+cast-put-half c = search needs
 
-loop-holds : tie.Need-loop-holds Inv-loop μ-loop
-loop-holds c =
-    start _ _ _ _
+put-half-requires : tie.Need-put-half-requires
+put-half-requires c κs = search needs
 
-cast-member-penalty : tie.Need-cast-member-penalty Inv-loop μ-loop
-cast-member-penalty c =
-    omega (arith, c .before .before .before .before .pre .ports64, c .before .before .lesser .ensures)
+cast-put-half-2 : tie.Need-cast-put-half-2
+cast-put-half-2 c = search needs
 
-member-penalty-requires : tie.Need-member-penalty-requires Inv-loop μ-loop
-member-penalty-requires c κs =
-    omega (arith, c .before .before .before .before .pre .ports64, c .before .before .lesser .ensures)
+sub-put-half : tie.Need-sub-put-half
+sub-put-half c = search needs
 
-mul-cells : tie.Need-mul-cells Inv-loop μ-loop
-mul-cells c =
-    search needs
+put-half-requires-2 : tie.Need-put-half-requires-2
+put-half-requires-2 c κs = search needs
 
-slice-write-cells : tie.Need-slice-write-cells Inv-loop μ-loop
-slice-write-cells c =
-    omega (arith, c .before .before .before .before .before .pre .room, c .before .before .before .lesser .ensures, c .before .before .loop .inv .same-length)
+same-length : tie.Need-same-length
+same-length c = search needs
 
-add-t : tie.Need-add-t Inv-loop μ-loop
-add-t c =
-    omega (arith, c .before .before .before .before .before .pre .ports64, c .before .before .before .lesser .ensures)
-
-loop-less : tie.Need-loop-less Inv-loop μ-loop
-loop-less c =
-    search needs
-
-loop-again : tie.Need-loop-again Inv-loop μ-loop
-loop-again c =
-    one-more-first _ _ _ _ _ _ (c .before .before .loop .inv) (c .before .loop-test .taken) (omega (arith, c .before .before .before .before .before .pre .room, c .before .before .before .lesser .ensures))
-    (c .member-penalty .ensures ∙ ap (λ (x : ℕ). cond (inMask (c .before .before .before .before .before .args .mask) x) (c .before .before .before .before .before .args .inside) (c .before .before .before .before .before .args .outside)) (row-port (c .before .before .before .before .before .args .ports) (c .before .before .loop .t) (omega (arith, c .before .before .before .lesser .ensures))))
-
-same-length : tie.Need-same-length Inv-loop μ-loop
-same-length c =
-    search needs
-
-returns : tie.Need-returns Inv-loop μ-loop
-returns c =
-    (round-row (c .before .before .before .before .pre) (c .before .loop .t) (omega (arith, c .before .before .lesser .ensures, c .before .loop .inv .within)), c .before .loop .inv .is ∙ from-first _ _ _)
+returns : tie.Need-returns
+returns c = (
+  round-row (c .before .before .before .before .before .before .before .before .before .before .before .pre) (c .before .before .before .before .before .before .before .before .before .lesser .result) (omega (arith, c .before .before .before .before .before .before .before .before .before .lesser .ensures)),
+  halves-row (c .before .before .before .before .before .before .before .before .before .before .before .args .inside) (c .before .before .before .before .before .before .before .before .before .before .before .args .outside) (c .before .before .before .before .before .before .before .before .before .before .before .args .mask) (c .before .before .before .before .before .before .before .before .before .before .before .args .ports) (c .before .before .before .before .before .before .before .before .before .lesser .result) (c .before .before .before .before .before .before .before .before .lesser2 .result) (c .before .before .before .before .before .before .before .before .before .before .before .args .cells .now) (c .before .before .before .before .before .before .put-half .last .1 .1 .1 .1 .1 .0) (c .before .before .put-half2 .last .1 .1 .1 .1 .1 .0) (omega (arith, c .before .before .before .before .before .before .before .before .before .lesser .ensures)) (c .before .before .before .before .before .before .before .before .lesser2 .ensures) (c .before .before .before .before .before .before .put-half .ensures) (c .before .before .put-half2 .ensures),
+)
 
 pub put-row-spec : {M : Type 1} → statement M
 put-row-spec =
     tie.close
     (tie.spec
-    Inv-loop
-    μ-loop
     lesser-requires
-    loop-holds
-    cast-member-penalty
-    member-penalty-requires
-    mul-cells
-    slice-write-cells
-    add-t
-    loop-less
-    loop-again
+    lesser-requires-2
+    cast-put-half
+    put-half-requires
+    cast-put-half-2
+    sub-put-half
+    put-half-requires-2
     same-length
     returns)
