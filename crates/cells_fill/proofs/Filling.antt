@@ -1,14 +1,15 @@
 -- Filling siblings one after the other: what is left to fill says what the whole part comes to. Assumes nothing.
 use mathlib.Core.Path.{_≡_, refl, sym, ap, ap₂, _∙_, subst}
 use mathlib.Core.Bool.{Bool, true, false}
-use mathlib.Core.Logic.{⊎-elim, inl, inr}
+use mathlib.Core.Logic.{_≢_, ⊎-elim, inl, inr}
 use mathlib.Core.List.{List, [], _∷_, _++_, append-assoc}
 use Prim.Native.Nat.{ℕ, _+_, _-_, _*_, _^_, _≤_, _<_, min}
-use native.Mathlib.Nat.{add-zero, suc-add, mul-one, pow-suc, one-le-pow}
+use native.Mathlib.Decide.{decLe}
+use native.Mathlib.Nat.{add-zero, suc-add, mul-one, pow-suc, one-le-pow, lt-of-not-le}
 use native.Mathlib.Omega.{arith}
 use lib.Dec.{eqb}
 use lib.ListN.{length, getD, take, drop, length-append, length-drop, take-append-drop, List·getD-append}
-use lib.Seq.{take-all, take-at, drop-at, drop-drop, length-take-le, drop-append-add}
+use lib.Seq.{take-all, take-at, drop-at, drop-drop, length-take-le, getD-take, drop-append-add, getD-append-add}
 use borrow.Author.Tests.{ne-eqb}
 use Rattle.logic.specs.Formula.{Node, root, all, any, and, or, lit, Forest, none, tree, kindNumber, nodeCount, childDepth}
 use Rattle.logic.specs.Configuration.{Configuration}
@@ -22,12 +23,12 @@ use Rattle.table_format.proofs.Parts.{rest-all, length-rest-all, some-record, o
 use Rattle.table_format.proofs.Opened.{one-forest, not-none, PartOpened, part-opened, part-span}
 use Rattle.table_format.proofs.Bytes.{record-pos}
 use Rattle.table_format.proofs.Encoding.{length-records}
-use Rattle.cells_join.specs.inner.Joined.{joinInto, merged, settled, joinOf, spreadOf, HeldPlaced, ChildPlaced, Joins}
+use Rattle.cells_join.specs.inner.Joined.{joinInto, merged, settled, joinOf, spreadOf, Low, HeldPlaced, HeldLow, ChildPlaced, Joins}
 use Rattle.cells_join.proofs.Prefix.{into-none, into-append}
 use Rattle.cells_join.proofs.Held.{settled-none, settled-behind, length-settled, settled-front}
 use Rattle.cells_fill.specs.inner.Fill.{treewise, config, table, TreesPlaced, FillPlaced, TreeFilled, FillsTree, Filled, Fills}
 use Rattle.cells_fill.proofs.Values.{below-pos, literal-spread, cells-below, table-tree}
-use Rattle.cells_fill.proofs.Trees.{few-parts}
+use Rattle.cells_fill.proofs.Trees.{few-parts, tree-low}
 
 length-table : (u : ℕ) (k : Configuration) (f : Forest) (d : ℕ) → length (table u k f d) ≡ cellCount u f d
 unfolding table
@@ -84,6 +85,25 @@ module _ (ports : ℕ) (k : Configuration) (n m : Node) (c : Forest) (outer over
       ∙ ap (λ (a : ℕ). take (spreadOf a ports) (drop (t * spreadOf a ports) (row ++ T))) (sym kn)
       ∙ cells-below ports (penalty ports k m c) T n outer t (rw (← on) h))))
       (drop-at A (G ++ (row ++ T)) over lA)
+
+-- What a filled tree leaves as it was, and its own row.
+module _ (ports sets depth at nn : ℕ) (masks xs xs₂ : List ℕ) (m : Node) (c : Forest) (made : TreeFilled ports sets depth at m c masks xs xs₂ nn) (room : at + nn ≤ length xs) where
+  tree-split : xs₂ ≡ take at xs
+      ++ (tabulate (ports ^ depth) (λ t. penalty ports (config ports sets masks) m c (tupleAt ports depth t)) ++ (table ports (config ports sets masks) c (childDepth m depth) ++ drop nn (drop at xs)))
+  tree-split =
+      made .cells-are (take at xs) (take nn (drop at xs)) (drop nn (drop at xs))
+      (sym (take-append-drop at xs) ∙ ap (λ (x : List ℕ). take at xs ++ x) (sym (take-append-drop nn (drop at xs))))
+      (length-take-le at xs (omega arith)) (length-take-le nn (drop at xs) (omega (arith, length-drop at xs)))
+
+  tree-kept : (i : ℕ) → i < at → getD xs₂ i 0 ≡ getD xs i 0
+  tree-kept i h =
+      ap (λ (l : List ℕ). getD l i 0) tree-split ∙ List·getD-append (take at xs) _ 0 i (rw (length-take-le at xs (omega arith)) h) ∙ getD-take at xs i 0 h
+
+  tree-row : (t : ℕ) → t < ports ^ depth → getD xs₂ (at + t) 0 ≡ penalty ports (config ports sets masks) m c (tupleAt ports depth t)
+  tree-row t h =
+      let row = tabulate (ports ^ depth) (λ t. penalty ports (config ports sets masks) m c (tupleAt ports depth t)) in
+      ap₂ (λ (l : List ℕ) (n : ℕ). getD l (n + t) 0) tree-split (sym (length-take-le at xs (omega arith))) ∙ getD-append-add (take at xs) _ t 0
+      ∙ List·getD-append row _ 0 t (rw length-tabulate h) ∙ getD-tabulate (ports ^ depth) _ t h
 
 -- One tree, joined or held, and its later siblings.
 module _ (above ports sets depth over at outer held held₂ nn r : ℕ) (masks xs xs₂ xs₃ xs₄ : List ℕ) (n m : Node) (c s : Forest) (u1 : 1 ≤ ports)
@@ -207,11 +227,6 @@ spread-width and ports outer = omega arith
 spread-width or ports outer = omega arith
 spread-width (lit l) ports outer = rw (literal-spread (l .test) ports) (omega arith)
 
--- a row of one cell below each has as many
-held-width : (n : Node) (above ports outer : ℕ) → kindNumber n ≡ above → spreadOf above ports ≡ 1 → ports ^ outer ≡ ports ^ childDepth n outer
-held-width n above ports outer kn s =
-    let e = ap (λ (x : ℕ). ports ^ outer * spreadOf x ports) kn ∙ ap (λ (x : ℕ). ports ^ outer * x) s ∙ mul-one (ports ^ outer) in sym e ∙ spread-width n ports outer
-
 -- A part of which the trees before byte `place` are filled, and joined but for the row held: where the trees from there on stand,
 -- and that what filling them comes to, the whole part comes to.
 pub record Passed (l : List ℕ) (i above ports sets depth width over : ℕ) (masks xs : List ℕ) (place node at held : ℕ) (cells : List ℕ) : Type 0 where
@@ -219,6 +234,9 @@ pub record Passed (l : List ℕ) (i above ports sets depth width over : ℕ) (ma
   pub same-length : length cells ≡ length xs
   pub placed : FillPlaced (drop place l) node above ports sets depth width over at masks cells
   pub waits : HeldPlaced over held at
+  pub held-one : 1 ≤ held → spreadOf above ports ≡ 1
+  pub held-low : 1 ≤ held → Low (joinOf above) cells held over
+  pub own-low : spreadOf above ports ≡ 1 → over < at → held ≢ over → Low (joinOf above) cells 0 over
   pub comes-to : (ys : List ℕ) (r : ℕ) → Fills (drop place l) node above ports sets depth over at masks (settled (joinOf above) over held cells) ys r
       → Fills l i above ports sets depth over over masks xs ys r
 
@@ -230,6 +248,9 @@ passed-none l i above ports sets depth width over masks xs p = record {
   same-length = refl;
   placed = p;
   waits = λ h. absurd (omega arith);
+  held-one = λ h. absurd (omega arith);
+  held-low = λ h. absurd (omega arith);
+  own-low = λ _ h. absurd (omega arith);
   comes-to = λ ys r f. subst (λ (x : List ℕ). Fills l i above ports sets depth over over masks x ys r) (settled-none (joinOf above) over 0 xs refl) f;
 }
 
@@ -245,6 +266,15 @@ module _ (l : List ℕ) (i above ports sets depth width over : ℕ) (masks xs : 
   pub held-placed : (n : ℕ) → at ≤ n → HeldPlaced over held n
   unfolding HeldPlaced
   held-placed n h q = let w = p .waits q in (w .0, omega (arith, w .1))
+
+  pub held-lows : HeldLow (joinOf above) over held cells
+  unfolding HeldPlaced
+  held-lows = record {
+    row = p .held-low;
+    own = λ h.
+        let some : 1 ≤ held = omega arith in
+        p .own-low (p .held-one some) (omega (arith, p .waits some .1)) (λ q. absurd (omega arith));
+  }
 
   -- the part from there on, as the code lends it
   pub placed-on : TreesPlaced (take (length l - place) (drop place l)) node ports sets depth width at masks cells
@@ -298,79 +328,137 @@ module _ (l : List ℕ) (i above ports sets depth width over : ℕ) (masks xs : 
             omega (arith, sp .within, length-drop place l, p .within),
           )
 
-      -- where its cells are joined
-      pub join-placed : (ws : List ℕ) → length ws ≡ length cells → ChildPlaced above ports over held at ws
-      unfolding cellCount treeCount
-      join-placed ws lw =
-          let f = first-tree in
-          let g = opened (f .0) (f .1) (f .2) (p .placed .trees .up) (f .3) .1 in
-          let q = p .placed in
-          let w = ap₂ (λ (x y : ℕ). x * spreadOf y ports) (q .over-is) (sym (q .kind-is)) ∙ spread-width (q .parent) ports (q .outer) ∙ ap (λ (x : ℕ). ports ^ x) (sym (q .depth-is)) in
-          let room : at + cellCount ports (tree (f .0) (f .1) (f .2)) depth ≤ length cells = rw g at (q .trees .room) in
-          record {
-            ports1 = q .trees .ports1;
-            over1 = rw (q .over-is) (one-le-pow (q .outer) ports (q .trees .ports1));
-            after = q .after;
-            room = omega arith;
-            later = λ h. ⊎-elim (λ (x : spreadOf above ports ≡ 1). x) (λ (x : treeCount (tree (f .0) (f .1) (f .2)) + min 1 (at - over) ≤ 1). absurd (omega arith)) (rw g at (q .alone));
-            waits = p .waits;
-          }
+      module _ (nn : ℕ) (xs₂ : List ℕ) (made : FillsTree (take (length l - place) L) node ports sets depth at masks cells xs₂ nn) (l₂ : length xs₂ ≡ length cells) where
+        abbrev m : Node
+        m = first-tree .0
 
-      -- The tree is passed as well.
-      pub passed-tree : (nn held₂ : ℕ) (xs₂ xs₃ : List ℕ) → FillsTree (take (length l - place) L) node ports sets depth at masks cells xs₂ nn → Joins above ports over held at xs₂ xs₃ held₂
-          → length xs₃ ≡ length cells → (at + nn ≤ length xs) × Passed l i above ports sets depth width over masks xs (place + far) e (at + nn) held₂ xs₃
-      unfolding FillsTree Fills HeldPlaced cellCount treeCount
-      passed-tree nn held₂ xs₂ xs₃ made met lx =
-          let f = first-tree in
-          let m = f .0 in
-          let c = f .1 in
-          let s = f .2 in
-          let up = p .placed .trees .up in
-          let op = opened m c s up (f .3) in
-          let o = op .0 in
-          let g = op .1 in
-          let q = p .placed in
-          let sp = part-span L node up depth sets m c s e o (q .trees .nodes) in
-          let t = made m c s up (rest-all place l ∙ f .3) in
-          let room : at + cellCount ports (tree m c s) depth ≤ length cells = rw g at (q .trees .room) in
-          let few : cellCount ports (tree m c s) 0 ≤ 1048576 = rw g at (q .trees .few) in
-          let on-part : drop far L ≡ drop (place + far) l = drop-drop far place l in (
-            omega (arith, t .count, p .same-length),
-            record {
-              within = tree-ahead .3;
-              same-length = lx ∙ p .same-length;
-              placed = record {
-                trees = record {
-                  forest = s;
-                  up = up;
-                  width-is = q .trees .width-is;
-                  is = sym on-part ∙ o .rest;
-                  rules = o .rules-rest;
-                  few = few-parts ports m c s (q .trees .ports1) few .2;
-                  nodes = rw (sym on-part ∙ sym (rest-all far L)) (sp .rest-nodes);
-                  ports1 = q .trees .ports1;
-                  ports64 = q .trees .ports64;
-                  depth4 = q .trees .depth4;
-                  sets-masks = q .trees .sets-masks;
-                  within = q .trees .within;
-                  room = omega (arith, t .count);
+        abbrev c : Forest
+        c = first-tree .1
+
+        abbrev s : Forest
+        s = first-tree .2
+
+        abbrev up : ℕ
+        up = p .placed .trees .up
+
+        o : PartOpened L node up depth sets m c s e
+        o = opened m c s up (first-tree .3) .0
+
+        g : p .placed .trees .forest ≡ tree m c s
+        g = opened m c s up (first-tree .3) .1
+
+        room : at + cellCount ports (tree m c s) depth ≤ length cells
+        room = rw g at (p .placed .trees .room)
+
+        few : cellCount ports (tree m c s) 0 ≤ 1048576
+        few = rw g at (p .placed .trees .few)
+
+        t : TreeFilled ports sets depth at m c masks cells xs₂ nn
+        unfolding FillsTree
+        t = made m c s up (rest-all place l ∙ first-tree .3)
+
+        fits : at + nn ≤ length cells
+        unfolding cellCount
+        fits = omega (arith, room, t .count)
+
+        width-of : over * spreadOf above ports ≡ ports ^ depth
+        width-of =
+            ap₂ (λ (x y : ℕ). x * spreadOf y ports) (p .placed .over-is) (sym (p .placed .kind-is)) ∙ spread-width (p .placed .parent) ports (p .placed .outer)
+            ∙ ap (λ (x : ℕ). ports ^ x) (sym (p .placed .depth-is))
+
+        one-each : over < at → spreadOf above ports ≡ 1
+        unfolding treeCount
+        one-each h = ⊎-elim (λ (x : spreadOf above ports ≡ 1). x) (λ (x : treeCount (tree m c s) + min 1 (at - over) ≤ 1). absurd (omega arith)) (rw g at (p .placed .alone))
+
+        row-low : Low (joinOf above) xs₂ at (over * spreadOf above ports)
+        unfolding Low
+        row-low i h k =
+            rw (tree-row ports sets depth at nn masks cells xs₂ m c t fits i (omega (arith, width-of)))
+            (tree-low ports sets masks m c s depth (tupleAt ports depth i) (p .placed .trees .ports64) (ap (λ (x : Forest). everyNode (nodeRule sets) x depth) (sym g) ∙ p .placed .trees .rules) few)
+
+        -- low cells before the tree stay so
+        still-low : (from : ℕ) → from + over ≤ at → Low (joinOf above) cells from over → Low (joinOf above) xs₂ from over
+        unfolding Low
+        still-low from h low i q k = rw (tree-kept ports sets depth at nn masks cells xs₂ m c t fits (from + i) (omega arith)) (low i q k)
+
+        over-one : 1 ≤ over
+        over-one = rw (p .placed .over-is) (one-le-pow (p .placed .outer) ports (p .placed .trees .ports1))
+
+        -- where its cells are joined
+        pub join-placed : ChildPlaced above ports over held at xs₂
+        unfolding HeldPlaced
+        join-placed = record {
+          ports1 = p .placed .trees .ports1;
+          over1 = over-one;
+          after = p .placed .after;
+          room = omega (arith, fits, width-of, l₂, t .count);
+          later = one-each;
+          waits = p .waits;
+          low = row-low;
+          held-low = record {
+            row = λ h. still-low held (p .waits h .1) (p .held-low h);
+            own = λ h. still-low 0 (omega (arith, p .placed .after)) (held-lows .own h);
+          };
+        }
+
+        -- The tree is passed as well.
+        pub passed-tree : (held₂ : ℕ) (xs₃ : List ℕ) → Joins above ports over held at xs₂ xs₃ held₂ → length xs₃ ≡ length cells
+            → (at + nn ≤ length xs) × Passed l i above ports sets depth width over masks xs (place + far) e (at + nn) held₂ xs₃
+        unfolding Fills HeldPlaced cellCount treeCount
+        passed-tree held₂ xs₃ met lx =
+            let q = p .placed in
+            let sp = part-span L node up depth sets m c s e o (q .trees .nodes) in
+            let on-part : drop far L ≡ drop (place + far) l = drop-drop far place l in (
+              omega (arith, fits, p .same-length),
+              record {
+                within = tree-ahead .3;
+                same-length = lx ∙ p .same-length;
+                placed = record {
+                  trees = record {
+                    forest = s;
+                    up = up;
+                    width-is = q .trees .width-is;
+                    is = sym on-part ∙ o .rest;
+                    rules = o .rules-rest;
+                    few = few-parts ports m c s (q .trees .ports1) few .2;
+                    nodes = rw (sym on-part ∙ sym (rest-all far L)) (sp .rest-nodes);
+                    ports1 = q .trees .ports1;
+                    ports64 = q .trees .ports64;
+                    depth4 = q .trees .depth4;
+                    sets-masks = q .trees .sets-masks;
+                    within = q .trees .within;
+                    room = omega (arith, t .count, room);
+                  };
+                  parent = q .parent;
+                  outer = q .outer;
+                  kind-is = q .kind-is;
+                  depth-is = q .depth-is;
+                  over-is = q .over-is;
+                  after = omega (arith, q .after);
+                  alone = ⊎-elim (λ (h : spreadOf above ports ≡ 1). inl h) (λ (h : treeCount (tree m c s) + min 1 (at - over) ≤ 1). inr (omega arith)) (rw g at (q .alone));
                 };
-                parent = q .parent;
-                outer = q .outer;
-                kind-is = q .kind-is;
-                depth-is = q .depth-is;
-                over-is = q .over-is;
-                after = omega (arith, q .after);
-                alone = ⊎-elim (λ (h : spreadOf above ports ≡ 1). inl h) (λ (h : treeCount (tree m c s) + min 1 (at - over) ≤ 1). inr (omega arith)) (rw g at (q .alone));
-              };
-              waits = λ h.
-                  let k = met .held-is h in
-                  let w : over ≡ ports ^ depth = q .over-is ∙ held-width (q .parent) above ports (q .outer) (q .kind-is) (k .1) ∙ ap (λ (x : ℕ). ports ^ x) (sym (q .depth-is)) in
-                  (omega (arith, k .0, q .after), omega (arith, k .0, w, t .count));
-              comes-to = λ ys r rest. p .comes-to ys r (λ n outer f′ up′ kn dn on is.
-                  let g′ = one-forest L (tree m c s) f′ node up up′ (f .3) is in
-                  subst (λ (x : Forest). Filled above ports sets depth over at outer n x masks (settled (joinOf above) over held cells) ys r) g′
-                  (tree-filled above ports sets depth over at outer held held₂ nn r masks cells xs₂ xs₃ ys n m c s (q .trees .ports1) kn dn on (q .after) (omega arith) (p .waits) t met
-                  (rest n outer s up kn dn on (sym on-part ∙ o .rest))));
-            },
-          )
+                waits = λ h.
+                    let k = met .held-is h in
+                    let w : over * spreadOf above ports ≡ over = ap (λ (x : ℕ). over * x) (k .1) ∙ mul-one over in
+                    (omega (arith, k .0, q .after), omega (arith, k .0, w, width-of, t .count));
+                held-one = λ h. met .held-is h .1;
+                held-low = λ h.
+                    let k = met .held-is h in
+                    let w : over * spreadOf above ports ≡ over = ap (λ (x : ℕ). over * x) (k .1) ∙ mul-one over in
+                    rw (k .0, k .3) (rw w at row-low);
+                own-low = λ one _ ne. own-still one ne (decLe 1 held₂) met;
+                comes-to = λ ys r rest. p .comes-to ys r (λ n outer f′ up′ kn dn on is.
+                    let g′ = one-forest L (tree m c s) f′ node up up′ (first-tree .3) is in
+                    subst (λ (x : Forest). Filled above ports sets depth over at outer n x masks (settled (joinOf above) over held cells) ys r) g′
+                    (tree-filled above ports sets depth over at outer held held₂ nn r masks cells xs₂ xs₃ ys n m c s (q .trees .ports1) kn dn on (q .after) (omega (arith, room)) (p .waits) t met
+                    (rest n outer s up kn dn on (sym on-part ∙ o .rest))));
+              },
+            )
+          where
+            own-still : {h₂ : ℕ} {ws : List ℕ} → spreadOf above ports ≡ 1 → h₂ ≢ over → Dec (1 ≤ h₂) → Joins above ports over held at xs₂ ws h₂ → Low (joinOf above) ws 0 over
+            own-still one ne (yes h) j =
+                let k = j .held-is h in
+                let past : over < at = (let z : at ≢ over = (λ y. ne (k .0 ∙ y)) in omega (arith, z, p .placed .after)) in
+                let fresh : held ≢ over = λ y. absurd (omega (arith, y, k .2, over-one)) in
+                rw (k .3) (still-low 0 (omega arith) (p .own-low one past fresh))
+            own-still one ne (no f) j = j .own-low one (let z = lt-of-not-le f in omega arith)

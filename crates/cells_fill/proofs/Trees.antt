@@ -17,7 +17,7 @@ use Rattle.logic.specs.Truth.{Tuple}
 use Rattle.logic.specs.Penalty.{sum, below, combine, literalPenalty, penalties, penalty}
 use Rattle.logic.specs.Cells.{cellCount, tupleAt, tabulate, layout}
 use Rattle.logic.proofs.Tables.{tabulate-cong}
-use Rattle.logic.proofs.Bound.{spread, spread-pos, subtreeCells, subtree-count, below-penalties-le, literals-low, sizes-64}
+use Rattle.logic.proofs.Bound.{spread, spread-pos, subtreeCells, subtree-count, penalties-le, below-penalties-le, literals-low, sizes-64}
 use Rattle.logic.proofs.Lent.{lent, lentTo, back, backTo, lent-is, lent-length, back-is, back-to-is, nothing-behind}
 use Rattle.logic.proofs.Relations.{test-kind-range}
 use Rattle.logic.proofs.Within.{within-at}
@@ -55,6 +55,16 @@ low-below u sets masks m c s depth e u1 u64 rules few =
     let small : (S : ℕ) → k .size S ≤ 64 = sizes-64 u sets (inMasks masks) u64 in
     let b = below-penalties-le u 65 (omega arith) k m c (childDepth m depth) e (literals-low k small c (childDepth m depth) (constants-low sets c (childDepth m depth) rules)) in
     omega (arith, few-parts u m c s u1 few .0, mul-left-comm (spread u m) 65 (subtreeCells u c))
+
+-- No penalty of a plan's node reaches 2^31.
+pub tree-low : (u sets : ℕ) (masks : List ℕ) (m : Node) (c s : Forest) (depth : ℕ) (e : Tuple) → u ≤ 64 → everyNode (nodeRule sets) (tree m c s) depth ≡ true
+    → cellCount u (tree m c s) 0 ≤ 1048576 → penalty u (config u sets masks) m c e < 2147483648
+unfolding penalties penalty sum
+tree-low u sets masks m c s depth e u64 rules few =
+    let k = config u sets masks in
+    let small : (S : ℕ) → k .size S ≤ 64 = sizes-64 u sets (inMasks masks) u64 in
+    let b = penalties-le u 65 (omega arith) k (tree m c s) depth e (literals-low k small (tree m c s) depth (constants-low sets (tree m c s) depth rules)) in
+    omega (arith, b, subtree-count u (tree m c s))
 
 -- no kind is above 8
 kind-number-low : (n : Node) → kindNumber n ≤ 8

@@ -1,11 +1,11 @@
 -- Two rows merged at once, and a row that is not joined yet. Assumes nothing.
-use mathlib.Core.Path.{_≡_, refl, sym, ap, ap₂, _∙_}
+use mathlib.Core.Path.{_≡_, refl, sym, ap, ap₂, _∙_, subst}
 use mathlib.Core.Bool.{Bool, true, false, cond}
 use mathlib.Core.List.{List, [], _∷_, _++_, append-assoc}
 use mathlib.Core.Logic.{_≢_}
 use Prim.Native.Nat.{ℕ, _+_, _-_, _*_, _≤_, _<_}
 use native.Mathlib.Decide.{decLe}
-use native.Mathlib.Nat.{mul-one, lt-of-not-le}
+use native.Mathlib.Nat.{mul-one, zero-add, lt-of-not-le}
 use native.Mathlib.Omega.{arith}
 use lib.Dec.{eqb}
 use lib.ListN.{length, getD, take, drop, set, length-append, length-drop, List·getD-append}
@@ -14,11 +14,11 @@ use borrow.Author.Tests.{eq-eqb, ne-eqb}
 use Rattle.logic.specs.Cells.{tabulate}
 use Rattle.logic.proofs.Tables.{length-tabulate, getD-tabulate, tabulate-cong}
 use Rattle.logic.proofs.Written.{Written, one-more-first, behind-first, from-first}
-use Rattle.cells_join.specs.inner.Joined.{meet, joinAll, joinInto, merged, settled, joinOf, spreadOf, HeldPlaced, ChildPlaced, Joins}
-use Rattle.cells_join.proofs.Prefix.{one-at, joinedAt}
+use Rattle.cells_join.specs.inner.Joined.{meet, joinAll, joinInto, merged, settled, joinOf, spreadOf, Low, HeldPlaced, ChildPlaced, Joins}
+use Rattle.cells_join.proofs.Prefix.{step-low, one-at, joinedAt}
 
 -- a cell that is not written yet
-kept : (f : ℕ → ℕ) (over t i : ℕ) (xs cells : List ℕ) → Written f 0 over xs cells t → t ≤ i → getD cells i 0 ≡ getD xs i 0
+pub kept : (f : ℕ → ℕ) (over t i : ℕ) (xs cells : List ℕ) → Written f 0 over xs cells t → t ≤ i → getD cells i 0 ≡ getD xs i 0
 kept f over t i xs cells w h =
     let e : i ≡ t + (i - t) = omega arith in
     ap (λ (m : ℕ). getD cells m 0) e ∙ sym (getD-drop t cells (i - t) 0)
@@ -78,13 +78,17 @@ settled-behind join over held i l h = go (eqb held 0)
     go true = refl
     go false = merged-behind join (eqb held over) over 1 held i l h
 
+merged-length : (join : ℕ) (first : Bool) (over at : ℕ) (l : List ℕ) → over ≤ length l → length (merged join first over 1 at l) ≡ length l
+unfolding merged
+merged-length join first over at l h = simp (length-append, length-tabulate, length-drop) (omega arith)
+
 pub length-settled : (join over held : ℕ) (l : List ℕ) → over ≤ length l → length (settled join over held l) ≡ length l
-unfolding settled merged
+unfolding settled
 length-settled join over held l h = go (eqb held 0)
   where
     go : (b : Bool) → length (cond b l (merged join (eqb held over) over 1 held l)) ≡ length l
     go true = refl
-    go false = simp (length-append, length-tabulate, length-drop) (omega arith)
+    go false = merged-length join (eqb held over) over held l h
 
 -- What stands behind the row that is not joined yet has no part in it.
 merged-front : (join : ℕ) (first : Bool) (over at : ℕ) (C D : List ℕ) → over ≤ at → at + over ≤ length C
@@ -111,25 +115,55 @@ settled-front join over held C D h = go (decLe 1 held)
         let z : held ≡ 0 = omega (arith, lt-of-not-le f) in
         settled-none join over held (C ++ D) z ∙ ap (λ (l : List ℕ). l ++ D) (sym (settled-none join over held C z))
 
+-- What is low where it is not written yet
+pub low-kept : (f : ℕ → ℕ) (join over t i : ℕ) (xs cells : List ℕ) → Written f 0 over xs cells t → t ≤ i → (1 ≤ join → getD xs i 0 < 2147483648)
+    → 1 ≤ join → getD cells i 0 < 2147483648
+low-kept f join over t i xs cells w h l q = rw (kept f over t i xs cells w h) (l q)
+
+pub low-part : (f : ℕ → ℕ) (join over t at n from s : ℕ) (xs cells : List ℕ) → Written f 0 over xs cells t → t ≤ from → at ≤ from → from + s ≤ at + n → Low join xs at n → Low join cells from s
+unfolding Low
+low-part f join over t at n from s xs cells w a b c low q l =
+    let e : at + (from + q - at) ≡ from + q = omega arith in
+    low-kept f join over t (from + q) xs cells w (omega arith) (λ k. subst (λ (m : ℕ). getD xs m 0 < 2147483648) e (low (from + q - at) (omega arith) k))
+
+-- The cells that two rows are merged into are low.
+merged-low : (join : ℕ) (first : Bool) (over at : ℕ) (l : List ℕ) → at + over ≤ length l → Low join l at over → Low join (merged join first over 1 at l) 0 over
+unfolding Low
+merged-low join first over at l h low t q k =
+    rw (zero-add t, merged-at join first over 1 at t l q, mul-one t, one-at (at + t) l (omega arith)) (step-low join first (getD l t 0) (getD l (at + t) 0) k (low t q k))
+
+merged-else : (join : ℕ) (first : Bool) (over s at i : ℕ) (l : List ℕ) → over ≤ i → getD (merged join first over s at l) i 0 ≡ getD l i 0
+merged-else join first over s at i l h =
+    let e : i ≡ over + (i - over) = omega arith in
+    ap (λ (m : ℕ). getD (merged join first over s at l) m 0) e ∙ sym (getD-drop over (merged join first over s at l) (i - over) 0)
+    ∙ ap (λ (x : List ℕ). getD x (i - over) 0) (merged-behind join first over s at over l (omega arith)) ∙ getD-drop over l (i - over) 0 ∙ ap (λ (m : ℕ). getD l m 0) (sym e)
+
 -- The three ways in which a child's cells are met.
 pub joins-two : (above ports over held at : ℕ) (xs ys : List ℕ) → ChildPlaced above ports over held at xs → 1 ≤ held
     → ys ≡ merged (joinOf above) false over 1 at (merged (joinOf above) (eqb held over) over 1 held xs) → Joins above ports over held at xs ys 0
-unfolding HeldPlaced
+unfolding HeldPlaced Low
 joins-two above ports over held at xs ys p h e =
     let w = p .waits h in
     let later : over < at = omega (arith, p .over1) in
+    let one = p .later later in
+    let D = merged (joinOf above) (eqb held over) over 1 held xs in
+    let wide : over * spreadOf above ports ≡ over = ap (λ (s : ℕ). over * s) one ∙ mul-one over in
+    let below : Low (joinOf above) D at over = λ t q k. rw (merged-else (joinOf above) (eqb held over) over 1 held (at + t) xs (omega arith)) (p .low t (omega arith) k) in
+    let long : length D ≡ length xs = merged-length (joinOf above) (eqb held over) over held xs (omega (arith, p .room)) in
     record {
       held-is = λ q. absurd (omega arith);
       joined = settled-none (joinOf above) over 0 ys refl ∙ e
-          ∙ (λ j. merged (joinOf above) (sym (ne-eqb at over (λ q. absurd (omega arith))) j) over (sym (p .later later) j) at (sym (settled-some (joinOf above) over held xs h) j));
+          ∙ (λ j. merged (joinOf above) (sym (ne-eqb at over (λ q. absurd (omega arith))) j) over (sym one j) at (sym (settled-some (joinOf above) over held xs h) j));
+      own-low = λ _ _. subst (λ (l : List ℕ). Low (joinOf above) l 0 over) (sym e) (merged-low (joinOf above) false over at D (omega (arith, p .room)) below);
     }
 
 pub joins-later : (above ports over held at : ℕ) (xs : List ℕ) → ChildPlaced above ports over held at xs → held ≡ 0 → spreadOf above ports ≡ 1
     → Joins above ports over held at xs xs at
 joins-later above ports over held at xs p h s = record {
-  held-is = λ q. (refl, s);
+  held-is = λ q. (refl, s, h, refl);
   joined = settled-some (joinOf above) over at xs (omega (arith, p .over1, p .after))
       ∙ (λ j. merged (joinOf above) (eqb at over) over (sym s j) at (sym (settled-none (joinOf above) over held xs h) j));
+  own-low = λ _ z. absurd (omega (arith, p .over1, p .after));
 }
 
 -- what is gathered is the first child
@@ -146,4 +180,5 @@ joins-ports above ports over held at xs ys p h s q = record {
   held-is = λ z. absurd (omega arith);
   joined = settled-none (joinOf above) over 0 ys refl ∙ q
       ∙ (λ j. merged (joinOf above) (sym (eq-eqb at over (first-child above ports over held at xs p s)) j) over (spreadOf above ports) at (sym (settled-none (joinOf above) over held xs h) j));
+  own-low = λ z _. absurd (s z);
 }

@@ -3,12 +3,14 @@ use mathlib.Core.Path.{_≡_, refl, sym, ap, ap₂, _∙_}
 use mathlib.Core.Bool.{Bool, true, false, cond, _&&_}
 use mathlib.Core.List.{List, [], _∷_, _++_}
 use Prim.Native.Nat.{ℕ, zero, suc, _+_, _*_, _%_, _≤_, _<_, min}
-use native.Mathlib.Nat.{suc-mul, mul-le-mul-right}
+use native.Mathlib.Nat.{suc-mul, mul-le-mul-right, lt-of-not-le}
+use native.Mathlib.Decide.{decLe}
 use native.Mathlib.Numerals.{add-one}
 use native.Mathlib.Omega.{arith}
 use lib.Dec.{eqb, leb}
 use lib.ListN.{length, getD, take, drop, set, length-drop}
 use lib.Seq.{drop-cons, take-suc, getD-drop}
+use borrow.Author.Tests.{eq-eqb, ne-eqb}
 use Rattle.logic.specs.Cells.{tabulate}
 use Rattle.logic.proofs.Written.{Written, one-more-first, behind-first, from-first, next-first}
 use Rattle.cells_join.specs.inner.Joined.{meet, unitOf, joinAll, joinInto, merged, spreadOf}
@@ -41,22 +43,36 @@ gather-next join x from p r v l h e q =
     ∙ ap (joinAll join x) (sym (take-suc (drop from l) p 0 (rw (length-drop from l) (omega arith))))
     ∙ ap (λ (m : ℕ). joinAll join x (take m (drop from l))) (sym (add-one p))
 
--- a number of 32 bits joined to the join of nothing is itself
-unit-meet : (join y : ℕ) → y < 4294967296 → meet join (unitOf join) y ≡ y
+-- a number of 32 bits, low for a minimum, joined to the join of nothing is itself
+unit-meet : (join y : ℕ) → y < 4294967296 → (1 ≤ join → y < 2147483648) → meet join (unitOf join) y ≡ y
 unfolding meet unitOf
-unit-meet join y h = go (eqb join 0)
+unit-meet join y h k = go (decLe 1 join)
   where
-    go : (b : Bool) → cond b ((cond b 0 4294967295 + y) % 4294967296) (min (cond b 0 4294967295) y) ≡ y
-    go true = omega arith
-    go false = omega arith
+    go : Dec (1 ≤ join) → cond (eqb join 0) ((cond (eqb join 0) 0 2147483647 + y) % 4294967296) (min (cond (eqb join 0) 0 2147483647) y) ≡ y
+    go (yes q) = let l = k q in rw (ne-eqb join 0 (λ z. absurd (omega arith))) (omega arith)
+    go (no f) = let l = lt-of-not-le f in rw (eq-eqb join 0 (omega arith)) (omega arith)
+
+-- a join with a low number is low, where it is a minimum
+pub meet-low : (join x y : ℕ) → 1 ≤ join → y < 2147483648 → meet join x y < 2147483648
+unfolding meet
+meet-low join x y h l = rw (ne-eqb join 0 (λ z. absurd (omega arith))) (omega arith)
+
+pub step-low : (join : ℕ) (first : Bool) (x y : ℕ) → 1 ≤ join → y < 2147483648 → joinInto join first x (y ∷ []) < 2147483648
+unfolding joinInto joinAll
+step-low join true x y h l = l
+step-low join false x y h l = meet-low join x y h l
+
+pub unit-low : (join : ℕ) → 1 ≤ join → unitOf join < 2147483648
+unfolding unitOf
+unit-low join h = rw (ne-eqb join 0 (λ z. absurd (omega arith))) (omega arith)
 
 -- so that a join may begin at the join of nothing
-pub from-unit : (join x from s : ℕ) (l : List ℕ) → 1 ≤ s → from + s ≤ length l → getD l from 0 < 4294967296
+pub from-unit : (join x from s : ℕ) (l : List ℕ) → 1 ≤ s → from + s ≤ length l → getD l from 0 < 4294967296 → (1 ≤ join → getD l from 0 < 2147483648)
     → joinAll join (unitOf join) (take s (drop from l)) ≡ joinInto join true x (take s (drop from l))
 unfolding joinAll joinInto
-from-unit join x from zero l h k b = absurd (omega arith)
-from-unit join x from (suc s) l h k b =
-    rw (drop-cons l from 0 (omega arith)) (ap (λ (y : ℕ). joinAll join y (take s (drop (suc from) l))) (unit-meet join (getD l from 0) b))
+from-unit join x from zero l h k b w = absurd (omega arith)
+from-unit join x from (suc s) l h k b w =
+    rw (drop-cons l from 0 (omega arith)) (ap (λ (y : ℕ). joinAll join y (take s (drop (suc from) l))) (unit-meet join (getD l from 0) b w))
 
 -- one cell alone
 pub one-at : (i : ℕ) (l : List ℕ) → i < length l → take 1 (drop i l) ≡ getD l i 0 ∷ []

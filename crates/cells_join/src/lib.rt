@@ -1,36 +1,47 @@
 // Cells of a child joined to the cells of the node above it: sums and minima. Paper 01, section Penalty.
-use logic::lesser_cell;
 use std::num::wrapping_add_u32;
 ghost use mathlib.Core.Path.{_≡_};
 ghost use mathlib.Core.Bool.{true, false};
 ghost use mathlib.Core.List.{[], _∷_};
-ghost use Prim.Native.Nat.{ℕ, _+_, _*_, _≤_};
+ghost use Prim.Native.Nat.{ℕ, _+_, _*_, _≤_, _<_, min};
 ghost use lib.ListN.{length, take, drop};
-ghost use Rattle.cells_join.specs.inner.Joined.{meet, unitOf, joinInto, merged, settled, joinOf, spreadOf, HeldPlaced, ChildPlaced, Joins};
+ghost use Rattle.cells_join.specs.inner.Joined.{meet, unitOf, LowTwo, joinInto, merged, settled, joinOf, spreadOf, Low, HeldPlaced, HeldLow, ChildPlaced, Joins};
+
+// The lesser of two numbers below 2^31, as all true penalties are: compared as signed ones, which vectors do sooner.
+fn lesser_low(x: u32, y: u32) -> u32
+    requires { ⌜ (x < 2147483648) × (y < 2147483648) ⌝ }
+    ensures { λ r. ⌜ r ≡ min x y ⌝ }
+{
+    if (x as i32) < (y as i32) {
+        return x;
+    }
+    y
+}
 
 // Two numbers joined: 0 adds, any other takes the minimum. True penalties stay below 2^32, so no sum of them wraps.
 fn meet_of(join: u8, x: u32, y: u32) -> u32
+    requires { ⌜ LowTwo join false x y ⌝ }
     ensures { λ r. ⌜ r ≡ meet join x y ⌝ }
 {
     if join == 0 {
         return wrapping_add_u32(x, y);
     }
-    lesser_cell(x, y)
+    lesser_low(x, y)
 }
 
-// The join of no cells: 0, or the largest number, above every true penalty.
+// The join of no cells: 0, or the largest number below 2^31, above every true penalty.
 fn unit_of(join: u8) -> u32
     ensures { λ r. ⌜ r ≡ unitOf join ⌝ }
 {
     if join == 0 {
         return 0;
     }
-    4294967295
+    2147483647
 }
 
 // The join of s cells from place `from` on. Begun at the join of nothing it goes over all s alike, so that 64 are whole vectors.
 fn gather(join: u8, from: usize, s: usize, cells: &[u32]) -> u32
-    requires { ⌜ (1 ≤ s) × (from + s ≤ length (now cells)) ⌝ }
+    requires { ⌜ (1 ≤ s) × (from + s ≤ length (now cells)) × Low join (now cells) from s ⌝ }
     ensures { λ r. ⌜ ((x : ℕ) → r ≡ joinInto join true x (take s (drop from (now (cells .entry))))) ⌝ }
 {
     let mut r = unit_of(join);
@@ -44,7 +55,7 @@ fn gather(join: u8, from: usize, s: usize, cells: &[u32]) -> u32
 
 // Writes to each of the first `over` cells the join of the s cells below it, which stand from place `at` on.
 fn gather_rows(join: u8, over: usize, s: usize, at: usize, cells: &mut [u32])
-    requires { ⌜ (1 ≤ s) × (over ≤ at) × (at + over * s ≤ length (now cells)) ⌝ }
+    requires { ⌜ (1 ≤ s) × (over ≤ at) × (at + over * s ≤ length (now cells)) × Low join (now cells) at (over * s) ⌝ }
     ensures { λ _. ⌜ now (cells .exit) ≡ merged join true over s at (now (cells .entry)) ⌝ }
 {
     let mut t = 0;
@@ -58,6 +69,7 @@ fn gather_rows(join: u8, over: usize, s: usize, at: usize, cells: &mut [u32])
 
 // A number joined to another, or put in its place, if it is the first.
 fn step_of(join: u8, first: bool, x: u32, y: u32) -> u32
+    requires { ⌜ LowTwo join first x y ⌝ }
     ensures { λ r. ⌜ r ≡ joinInto join first x (y ∷ []) ⌝ }
 {
     if first {
@@ -69,7 +81,7 @@ fn step_of(join: u8, first: bool, x: u32, y: u32) -> u32
 // Joins to each of the first `over` cells the one below it, from place `at` on, or copies it if it is the first. With no loop for
 // each cell the compiler makes vector instructions of it.
 fn merge_row(join: u8, first: bool, over: usize, at: usize, cells: &mut [u32])
-    requires { ⌜ (over ≤ at) × (at + over ≤ length (now cells)) ⌝ }
+    requires { ⌜ (over ≤ at) × (at + over ≤ length (now cells)) × Low join (now cells) at over × (first ≡ false → Low join (now cells) 0 over) ⌝ }
     ensures { λ _. ⌜ now (cells .exit) ≡ merged join first over 1 at (now (cells .entry)) ⌝ }
 {
     let mut t = 0;
@@ -81,7 +93,7 @@ fn merge_row(join: u8, first: bool, over: usize, at: usize, cells: &mut [u32])
 
 // The same of two rows, so that a cell is written once for both.
 fn merge_rows(join: u8, first: bool, over: usize, held: usize, at: usize, cells: &mut [u32])
-    requires { ⌜ (over ≤ held) × (held ≤ at) × (at + over ≤ length (now cells)) ⌝ }
+    requires { ⌜ (over ≤ held) × (held ≤ at) × (at + over ≤ length (now cells)) × Low join (now cells) held over × Low join (now cells) at over × (first ≡ false → Low join (now cells) 0 over) ⌝ }
     ensures { λ _. ⌜ now (cells .exit) ≡ merged join false over 1 at (merged join first over 1 held (now (cells .entry))) ⌝ }
 {
     let mut t = 0;
@@ -141,7 +153,7 @@ pub fn join_child(
 
 // Joins the row that is not joined yet, if there is one, when there is no further child.
 pub fn join_held(above: u8, over: usize, held: usize, cells: &mut [u32])
-    requires { ⌜ HeldPlaced over held (length (now cells)) ⌝ }
+    requires { ⌜ HeldPlaced over held (length (now cells)) × HeldLow (joinOf above) over held (now cells) ⌝ }
     ensures { λ _. ⌜ now (cells .exit) ≡ settled (joinOf above) over held (now (cells .entry)) ⌝ }
 {
     if held != 0 {

@@ -9,7 +9,7 @@ use Rattle.logic.proofs.Lent.{back-length, back-to-length}
 use Rattle.table_format.specs.Bytes.{recordLength, kindField, relationField, aField, bField, endField}
 use Rattle.table_format.proofs.Parts.{length-rest-all}
 use Rattle.cells_fill.proofs.Trees.{tree-facts, fill-literal, fill-inner}
-use Rattle.cells_fill.proofs.Filling.{Passed, passed-none, passed-all, passed-tree, placed-on, tree-long, tree-ahead, join-placed, held-placed}
+use Rattle.cells_fill.proofs.Filling.{Passed, passed-none, passed-all, passed-tree, placed-on, tree-long, tree-ahead, join-placed, held-placed, held-lows}
 use Prim.Native.Nat.{ℕ, _<_}
 use borrow.Fn.Kinds.{In}
 use borrow.Fn.PlainCycle.{Measures, is, falls, and}
@@ -99,7 +99,7 @@ fill-children-fill-tree-requires t c κs =
 
 fill-children-join-child-requires : (t : ℕ) → fill-children-lts.Need-join-child-requires (fill-children-claims t) (fill-children-at t) fill-children.Post fill-children-Inv-loop fill-children-μ-loop
 fill-children-join-child-requires t c κs =
-    join-placed (c .before .before .before .before .before .before .before .before .before .before .before .before .args .part .now) (c .before .before .before .before .before .before .before .before .before .before .before .before .args .i) (c .before .before .before .before .before .before .before .before .before .before .before .before .args .above) (c .before .before .before .before .before .before .before .before .before .before .before .before .args .ports) (c .before .before .before .before .before .before .before .before .before .before .before .before .args .sets) (c .before .before .before .before .before .before .before .before .before .before .before .before .args .depth) (c .before .before .before .before .before .before .before .before .before .before .before .before .args .width) (c .before .before .before .before .before .before .before .before .before .before .before .before .args .over) (c .before .before .before .before .before .before .before .before .before .before .before .before .args .masks .now) (c .before .before .before .before .before .before .before .before .before .before .before .before .args .cells .now) (c .before .before .before .before .before .before .before .before .loop .place) (c .before .before .before .before .before .before .before .before .loop .node) (c .before .before .before .before .before .before .before .before .loop .at) (c .before .before .before .before .before .before .before .before .loop .held) (c .before .before .before .before .before .before .before .before .loop .cells) (c .before .before .before .before .before .before .before .before .loop .inv) (c .before .before .before .before .before .before .before .loop-test .taken) (c .before .before .before .before .before .end-of .result) (c .before .before .before .before .before .end-of .ensures .is) (c .before .before .before .fill-tree .last .1 .1 .1 .1 .1 .1 .1 .1 .0) (omega (arith, c .before .before .before .fill-tree .kept .1 .1 .1 .1 .1 .1 .1 .1 .0))
+    join-placed (c .before .before .before .before .before .before .before .before .before .before .before .before .args .part .now) (c .before .before .before .before .before .before .before .before .before .before .before .before .args .i) (c .before .before .before .before .before .before .before .before .before .before .before .before .args .above) (c .before .before .before .before .before .before .before .before .before .before .before .before .args .ports) (c .before .before .before .before .before .before .before .before .before .before .before .before .args .sets) (c .before .before .before .before .before .before .before .before .before .before .before .before .args .depth) (c .before .before .before .before .before .before .before .before .before .before .before .before .args .width) (c .before .before .before .before .before .before .before .before .before .before .before .before .args .over) (c .before .before .before .before .before .before .before .before .before .before .before .before .args .masks .now) (c .before .before .before .before .before .before .before .before .before .before .before .before .args .cells .now) (c .before .before .before .before .before .before .before .before .loop .place) (c .before .before .before .before .before .before .before .before .loop .node) (c .before .before .before .before .before .before .before .before .loop .at) (c .before .before .before .before .before .before .before .before .loop .held) (c .before .before .before .before .before .before .before .before .loop .cells) (c .before .before .before .before .before .before .before .before .loop .inv) (c .before .before .before .before .before .before .before .loop-test .taken) (c .before .before .before .before .before .end-of .result) (c .before .before .before .before .before .end-of .ensures .is) (c .before .before .before .fill-tree .result) (c .before .before .before .fill-tree .last .1 .1 .1 .1 .1 .1 .1 .1 .0) (c .before .before .before .fill-tree .ensures) (omega (arith, c .before .before .before .fill-tree .kept .1 .1 .1 .1 .1 .1 .1 .1 .0))
 
 fill-children-sub-place : (t : ℕ) → fill-children-lts.Need-sub-place (fill-children-claims t) (fill-children-at t) fill-children.Post fill-children-Inv-loop fill-children-μ-loop
 unfolding recordLength
@@ -119,7 +119,7 @@ fill-children-add-place t c =
 fill-children-add-at : (t : ℕ) → fill-children-lts.Need-add-at (fill-children-claims t) (fill-children-at t) fill-children.Post fill-children-Inv-loop fill-children-μ-loop
 unfolding recordLength
 fill-children-add-at t c =
-    let h = passed-tree (c .before .before .before .before .before .before .before .before .before .before .before .before .before .before .before .args .part .now) (c .before .before .before .before .before .before .before .before .before .before .before .before .before .before .before .args .i) (c .before .before .before .before .before .before .before .before .before .before .before .before .before .before .before .args .above) (c .before .before .before .before .before .before .before .before .before .before .before .before .before .before .before .args .ports) (c .before .before .before .before .before .before .before .before .before .before .before .before .before .before .before .args .sets) (c .before .before .before .before .before .before .before .before .before .before .before .before .before .before .before .args .depth) (c .before .before .before .before .before .before .before .before .before .before .before .before .before .before .before .args .width) (c .before .before .before .before .before .before .before .before .before .before .before .before .before .before .before .args .over) (c .before .before .before .before .before .before .before .before .before .before .before .before .before .before .before .args .masks .now) (c .before .before .before .before .before .before .before .before .before .before .before .before .before .before .before .args .cells .now) (c .before .before .before .before .before .before .before .before .before .before .before .loop .place) (c .before .before .before .before .before .before .before .before .before .before .before .loop .node) (c .before .before .before .before .before .before .before .before .before .before .before .loop .at) (c .before .before .before .before .before .before .before .before .before .before .before .loop .held) (c .before .before .before .before .before .before .before .before .before .before .before .loop .cells) (c .before .before .before .before .before .before .before .before .before .before .before .loop .inv) (c .before .before .before .before .before .before .before .before .before .before .loop-test .taken) (c .before .before .before .before .before .before .before .before .end-of .result) (c .before .before .before .before .before .before .before .before .end-of .ensures .is) (c .before .before .before .before .before .before .fill-tree .result) (c .before .before .join-child .result) (c .before .before .before .before .before .before .fill-tree .last .1 .1 .1 .1 .1 .1 .1 .1 .0) (c .before .before .join-child .last .1 .1 .1 .1 .1 .0) (c .before .before .before .before .before .before .fill-tree .ensures) (c .before .before .join-child .ensures) (omega (arith, c .before .before .join-child .kept .1 .1 .1 .1 .1 .0, c .before .before .before .before .before .before .fill-tree .kept .1 .1 .1 .1 .1 .1 .1 .1 .0)) in omega (arith, c .before .before .before .before .before .before .before .before .before .before .before .before .before .before .before .good, c .before .before .before .before .before .before .before .before .before .before .before .before .before .before .before .fits, h .0)
+    let h = passed-tree (c .before .before .before .before .before .before .before .before .before .before .before .before .before .before .before .args .part .now) (c .before .before .before .before .before .before .before .before .before .before .before .before .before .before .before .args .i) (c .before .before .before .before .before .before .before .before .before .before .before .before .before .before .before .args .above) (c .before .before .before .before .before .before .before .before .before .before .before .before .before .before .before .args .ports) (c .before .before .before .before .before .before .before .before .before .before .before .before .before .before .before .args .sets) (c .before .before .before .before .before .before .before .before .before .before .before .before .before .before .before .args .depth) (c .before .before .before .before .before .before .before .before .before .before .before .before .before .before .before .args .width) (c .before .before .before .before .before .before .before .before .before .before .before .before .before .before .before .args .over) (c .before .before .before .before .before .before .before .before .before .before .before .before .before .before .before .args .masks .now) (c .before .before .before .before .before .before .before .before .before .before .before .before .before .before .before .args .cells .now) (c .before .before .before .before .before .before .before .before .before .before .before .loop .place) (c .before .before .before .before .before .before .before .before .before .before .before .loop .node) (c .before .before .before .before .before .before .before .before .before .before .before .loop .at) (c .before .before .before .before .before .before .before .before .before .before .before .loop .held) (c .before .before .before .before .before .before .before .before .before .before .before .loop .cells) (c .before .before .before .before .before .before .before .before .before .before .before .loop .inv) (c .before .before .before .before .before .before .before .before .before .before .loop-test .taken) (c .before .before .before .before .before .before .before .before .end-of .result) (c .before .before .before .before .before .before .before .before .end-of .ensures .is) (c .before .before .before .before .before .before .fill-tree .result) (c .before .before .before .before .before .before .fill-tree .last .1 .1 .1 .1 .1 .1 .1 .1 .0) (c .before .before .before .before .before .before .fill-tree .ensures) (omega (arith, c .before .before .before .before .before .before .fill-tree .kept .1 .1 .1 .1 .1 .1 .1 .1 .0)) (c .before .before .join-child .result) (c .before .before .join-child .last .1 .1 .1 .1 .1 .0) (c .before .before .join-child .ensures) (omega (arith, c .before .before .join-child .kept .1 .1 .1 .1 .1 .0, c .before .before .before .before .before .before .fill-tree .kept .1 .1 .1 .1 .1 .1 .1 .1 .0)) in omega (arith, c .before .before .before .before .before .before .before .before .before .before .before .before .before .before .before .good, c .before .before .before .before .before .before .before .before .before .before .before .before .before .before .before .fits, h .0)
 
 fill-children-loop-less : (t : ℕ) → fill-children-lts.Need-loop-less (fill-children-claims t) (fill-children-at t) fill-children.Post fill-children-Inv-loop fill-children-μ-loop
 unfolding recordLength
@@ -129,11 +129,11 @@ fill-children-loop-less t c =
 fill-children-loop-again : (t : ℕ) → fill-children-lts.Need-loop-again (fill-children-claims t) (fill-children-at t) fill-children.Post fill-children-Inv-loop fill-children-μ-loop
 unfolding recordLength
 fill-children-loop-again t c =
-    passed-tree (c .before .before .before .before .before .before .before .before .before .before .before .before .before .before .before .args .part .now) (c .before .before .before .before .before .before .before .before .before .before .before .before .before .before .before .args .i) (c .before .before .before .before .before .before .before .before .before .before .before .before .before .before .before .args .above) (c .before .before .before .before .before .before .before .before .before .before .before .before .before .before .before .args .ports) (c .before .before .before .before .before .before .before .before .before .before .before .before .before .before .before .args .sets) (c .before .before .before .before .before .before .before .before .before .before .before .before .before .before .before .args .depth) (c .before .before .before .before .before .before .before .before .before .before .before .before .before .before .before .args .width) (c .before .before .before .before .before .before .before .before .before .before .before .before .before .before .before .args .over) (c .before .before .before .before .before .before .before .before .before .before .before .before .before .before .before .args .masks .now) (c .before .before .before .before .before .before .before .before .before .before .before .before .before .before .before .args .cells .now) (c .before .before .before .before .before .before .before .before .before .before .before .loop .place) (c .before .before .before .before .before .before .before .before .before .before .before .loop .node) (c .before .before .before .before .before .before .before .before .before .before .before .loop .at) (c .before .before .before .before .before .before .before .before .before .before .before .loop .held) (c .before .before .before .before .before .before .before .before .before .before .before .loop .cells) (c .before .before .before .before .before .before .before .before .before .before .before .loop .inv) (c .before .before .before .before .before .before .before .before .before .before .loop-test .taken) (c .before .before .before .before .before .before .before .before .end-of .result) (c .before .before .before .before .before .before .before .before .end-of .ensures .is) (c .before .before .before .before .before .before .fill-tree .result) (c .before .before .join-child .result) (c .before .before .before .before .before .before .fill-tree .last .1 .1 .1 .1 .1 .1 .1 .1 .0) (c .before .before .join-child .last .1 .1 .1 .1 .1 .0) (c .before .before .before .before .before .before .fill-tree .ensures) (c .before .before .join-child .ensures) (omega (arith, c .before .before .join-child .kept .1 .1 .1 .1 .1 .0, c .before .before .before .before .before .before .fill-tree .kept .1 .1 .1 .1 .1 .1 .1 .1 .0)) .1
+    passed-tree (c .before .before .before .before .before .before .before .before .before .before .before .before .before .before .before .args .part .now) (c .before .before .before .before .before .before .before .before .before .before .before .before .before .before .before .args .i) (c .before .before .before .before .before .before .before .before .before .before .before .before .before .before .before .args .above) (c .before .before .before .before .before .before .before .before .before .before .before .before .before .before .before .args .ports) (c .before .before .before .before .before .before .before .before .before .before .before .before .before .before .before .args .sets) (c .before .before .before .before .before .before .before .before .before .before .before .before .before .before .before .args .depth) (c .before .before .before .before .before .before .before .before .before .before .before .before .before .before .before .args .width) (c .before .before .before .before .before .before .before .before .before .before .before .before .before .before .before .args .over) (c .before .before .before .before .before .before .before .before .before .before .before .before .before .before .before .args .masks .now) (c .before .before .before .before .before .before .before .before .before .before .before .before .before .before .before .args .cells .now) (c .before .before .before .before .before .before .before .before .before .before .before .loop .place) (c .before .before .before .before .before .before .before .before .before .before .before .loop .node) (c .before .before .before .before .before .before .before .before .before .before .before .loop .at) (c .before .before .before .before .before .before .before .before .before .before .before .loop .held) (c .before .before .before .before .before .before .before .before .before .before .before .loop .cells) (c .before .before .before .before .before .before .before .before .before .before .before .loop .inv) (c .before .before .before .before .before .before .before .before .before .before .loop-test .taken) (c .before .before .before .before .before .before .before .before .end-of .result) (c .before .before .before .before .before .before .before .before .end-of .ensures .is) (c .before .before .before .before .before .before .fill-tree .result) (c .before .before .before .before .before .before .fill-tree .last .1 .1 .1 .1 .1 .1 .1 .1 .0) (c .before .before .before .before .before .before .fill-tree .ensures) (omega (arith, c .before .before .before .before .before .before .fill-tree .kept .1 .1 .1 .1 .1 .1 .1 .1 .0)) (c .before .before .join-child .result) (c .before .before .join-child .last .1 .1 .1 .1 .1 .0) (c .before .before .join-child .ensures) (omega (arith, c .before .before .join-child .kept .1 .1 .1 .1 .1 .0, c .before .before .before .before .before .before .fill-tree .kept .1 .1 .1 .1 .1 .1 .1 .1 .0)) .1
 
 fill-children-join-held-requires : (t : ℕ) → fill-children-lts.Need-join-held-requires (fill-children-claims t) (fill-children-at t) fill-children.Post fill-children-Inv-loop fill-children-μ-loop
 fill-children-join-held-requires t c κs =
-    held-placed (c .before .before .before .before .before .before .args .part .now) (c .before .before .before .before .before .before .args .i) (c .before .before .before .before .before .before .args .above) (c .before .before .before .before .before .before .args .ports) (c .before .before .before .before .before .before .args .sets) (c .before .before .before .before .before .before .args .depth) (c .before .before .before .before .before .before .args .width) (c .before .before .before .before .before .before .args .over) (c .before .before .before .before .before .before .args .masks .now) (c .before .before .before .before .before .before .args .cells .now) (c .before .before .loop .place) (c .before .before .loop .node) (c .before .before .loop .at) (c .before .before .loop .held) (c .before .before .loop .cells) (c .before .before .loop .inv) (length (c .before .before .loop .cells)) (omega (arith, c .before .before .loop .inv .placed .trees .room))
+    (held-placed (c .before .before .before .before .before .before .args .part .now) (c .before .before .before .before .before .before .args .i) (c .before .before .before .before .before .before .args .above) (c .before .before .before .before .before .before .args .ports) (c .before .before .before .before .before .before .args .sets) (c .before .before .before .before .before .before .args .depth) (c .before .before .before .before .before .before .args .width) (c .before .before .before .before .before .before .args .over) (c .before .before .before .before .before .before .args .masks .now) (c .before .before .before .before .before .before .args .cells .now) (c .before .before .loop .place) (c .before .before .loop .node) (c .before .before .loop .at) (c .before .before .loop .held) (c .before .before .loop .cells) (c .before .before .loop .inv) (length (c .before .before .loop .cells)) (omega (arith, c .before .before .loop .inv .placed .trees .room)), held-lows (c .before .before .before .before .before .before .args .part .now) (c .before .before .before .before .before .before .args .i) (c .before .before .before .before .before .before .args .above) (c .before .before .before .before .before .before .args .ports) (c .before .before .before .before .before .before .args .sets) (c .before .before .before .before .before .before .args .depth) (c .before .before .before .before .before .before .args .width) (c .before .before .before .before .before .before .args .over) (c .before .before .before .before .before .before .args .masks .now) (c .before .before .before .before .before .before .args .cells .now) (c .before .before .loop .place) (c .before .before .loop .node) (c .before .before .loop .at) (c .before .before .loop .held) (c .before .before .loop .cells) (c .before .before .loop .inv))
 
 fill-children-same-length : (t : ℕ) → fill-children-lts.Need-same-length (fill-children-claims t) (fill-children-at t) fill-children.Post fill-children-Inv-loop fill-children-μ-loop
 fill-children-same-length t c =

@@ -7,8 +7,12 @@ use borrow.Author.Needs.{needs}
 use Rattle.logic.proofs.Written.{Written, start, all-first}
 use Rattle.cells_join.specs.inner.Joined.{merged}
 use Rattle.cells_join.proofs.Prefix.{row-within, joinedAt, merge-more}
+use Rattle.cells_join.proofs.Held.{low-part}
 use Rattle.cells_join.proofs.gather_rows.Statement.{statement}
 use Rattle.cells_join.proofs.gather_rows.Tie as tie
+use Rattle.cells_join.proofs.gather_rows.Reads as reads
+use Rattle.cells_join.proofs.gather_rows.Lts as lts
+use Rattle.cells_join.proofs.gather.Reads as gather-reads
 
 abbrev Inv-loop : tie.InvT-loop
 Inv-loop join over s at cells₀ t₀ from₀ cells t from = Written (joinedAt join true s at cells₀) 0 over cells₀ cells t × (from ≡ at + t * s)
@@ -22,7 +26,8 @@ loop-holds c =
 
 gather-requires : tie.Need-gather-requires Inv-loop μ-loop
 gather-requires c κs =
-    (c .before .before .before .before .pre .0, omega (arith, c .before .before .before .before .pre .2, c .before .before .loop .inv .1, row-within (c .before .before .loop .t) (c .before .before .before .before .args .over) (c .before .before .before .before .args .s) (omega arith)))
+    let r = row-within (c .before .before .loop .t) (c .before .before .before .before .args .over) (c .before .before .before .before .args .s) (omega arith) in
+    (c .before .before .before .before .pre .0, omega (arith, c .before .before .before .before .pre .2, c .before .before .loop .inv .1, r), low-part _ (c .before .before .before .before .args .join) (c .before .before .before .before .args .over) (c .before .before .loop .t) (c .before .before .before .before .args .at) (c .before .before .before .before .args .over * c .before .before .before .before .args .s) (c .before .before .loop .from) (c .before .before .before .before .args .s) (c .before .before .before .before .args .cells .now) (c .before .before .loop .cells) (c .before .before .loop .inv .0) (omega (arith, c .before .before .before .before .pre .1, c .before .before .loop .inv .1)) (omega (arith, c .before .before .loop .inv .1)) (omega (arith, c .before .before .loop .inv .1, r)) (c .before .before .before .before .pre .3))
 
 mul-cells : tie.Need-mul-cells Inv-loop μ-loop
 mul-cells c =
@@ -30,7 +35,7 @@ mul-cells c =
 
 slice-write-cells : tie.Need-slice-write-cells Inv-loop μ-loop
 slice-write-cells c =
-    omega (arith, c .before .before .before .before .before .pre)
+    omega (arith, c .before .before .before .before .before .pre .1, c .before .before .before .before .before .pre .2)
 
 add-from : tie.Need-add-from Inv-loop μ-loop
 add-from c =
@@ -45,10 +50,8 @@ loop-less c =
     search needs
 
 loop-again : tie.Need-loop-again Inv-loop μ-loop
-loop-again c = (
-  merge-more _ true _ _ _ _ (c .before .before .before .loop .t) _ _ (c .before .before .before .loop .cells) (c .before .before .before .loop .inv .0) (omega arith) (c .before .before .before .before .before .pre .1) (omega (arith, c .before .before .before .before .before .pre)) (c .before .before .before .loop .inv .1) (c .gather .ensures (getD (c .before .before .before .loop .cells) (c .before .before .before .loop .t) 0)),
-  omega (arith, c .before .before .before .loop .inv .1),
-)
+loop-again c =
+    (merge-more _ true _ _ _ _ (c .before .before .before .loop .t) _ _ (c .before .before .before .loop .cells) (c .before .before .before .loop .inv .0) (omega arith) (c .before .before .before .before .before .pre .1) (omega (arith, c .before .before .before .before .before .pre .1, c .before .before .before .before .before .pre .2)) (c .before .before .before .loop .inv .1) (c .gather .ensures (getD (c .before .before .before .loop .cells) (c .before .before .before .loop .t) 0)), omega (arith, c .before .before .before .loop .inv .1))
 
 same-length : tie.Need-same-length Inv-loop μ-loop
 same-length c =

@@ -5,6 +5,7 @@ use native.Mathlib.Nat.{mul-one}
 use native.Mathlib.Omega.{arith}
 use lib.Dec.{eqb}
 use borrow.Author.Needs.{needs}
+use borrow.Author.Tests.{eqb-false}
 use Rattle.cells_join.specs.inner.Joined.{merged, HeldPlaced}
 use Rattle.cells_join.proofs.Prefix.{spread-pos}
 use Rattle.cells_join.proofs.Held.{joins-two, joins-later, joins-ports}
@@ -26,7 +27,7 @@ unfolding HeldPlaced
 merge-rows-requires c κs =
     let w = c .before .before .before .before .pre .waits (omega arith) in
     let e = ap (λ (s : ℕ). c .before .before .before .before .args .over * s) (c .before .before .before .before .pre .later (omega (arith, c .before .before .before .before .pre .over1, w))) ∙ mul-one (c .before .before .before .before .args .over) in
-    (w .0, omega (arith, w), omega (arith, c .before .before .before .before .pre .room))
+    (w .0, omega (arith, w), omega (arith, c .before .before .before .before .pre .room), rw (c .before .before .join-of .ensures) (c .before .before .before .before .pre .held-low .row (omega arith)), rw (c .before .before .join-of .ensures) (rw e at (c .before .before .before .before .pre .low)), λ z. let ne = eqb-false (c .before .before .before .before .args .held) (c .before .before .before .before .args .over) z in rw (c .before .before .join-of .ensures) (c .before .before .before .before .pre .held-low .own (omega (arith, w .0, ne))))
 
 same-length : tie.Need-same-length
 same-length c = search needs
@@ -44,7 +45,7 @@ returns-2 c =
 
 gather-rows-requires : tie.Need-gather-rows-requires
 gather-rows-requires c κs =
-    (rw (c .before .before .spread-of .ensures) (spread-pos (c .before .before .before .before .before .before .args .above) (c .before .before .before .before .before .before .args .ports) (c .before .before .before .before .before .before .pre .ports1)), c .before .before .before .before .before .before .pre .after, rw (c .before .before .spread-of .ensures) (c .before .before .before .before .before .before .pre .room))
+    (rw (c .before .before .spread-of .ensures) (spread-pos (c .before .before .before .before .before .before .args .above) (c .before .before .before .before .before .before .args .ports) (c .before .before .before .before .before .before .pre .ports1)), c .before .before .before .before .before .before .pre .after, rw (c .before .before .spread-of .ensures) (c .before .before .before .before .before .before .pre .room), rw (c .before .before .before .before .join-of .ensures, c .before .before .spread-of .ensures) (c .before .before .before .before .before .before .pre .low))
 
 same-length-2 : tie.Need-same-length-2
 same-length-2 c = search needs

@@ -2,6 +2,7 @@ use mathlib.Core.Path.{sym, ap, _∙_}
 use native.Mathlib.Omega.{arith}
 use lib.Dec.{eqb}
 use borrow.Author.Needs.{needs}
+use borrow.Author.Tests.{eqb-false}
 use Rattle.cells_join.specs.inner.Joined.{merged, HeldPlaced}
 use Rattle.cells_join.proofs.Held.{settled-none, settled-some}
 use borrow.Author.Needs.{needs}
@@ -18,7 +19,8 @@ join-of-requires c κs = search needs
 merge-row-requires : tie.Need-merge-row-requires
 unfolding HeldPlaced
 merge-row-requires c κs =
-    c .before .before .before .before .pre (omega arith)
+    let w = c .before .before .before .before .pre .0 (omega arith) in
+    (w .0, w .1, rw (c .before .join-of .ensures) (c .before .before .before .before .pre .1 .row (omega arith)), λ z. let ne = eqb-false (c .before .before .before .before .args .held) (c .before .before .before .before .args .over) z in rw (c .before .join-of .ensures) (c .before .before .before .before .pre .1 .own (omega (arith, w .0, ne))))
 
 same-length : tie.Need-same-length
 same-length c = search needs

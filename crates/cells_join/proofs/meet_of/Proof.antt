@@ -1,8 +1,15 @@
+use native.Mathlib.Omega.{arith}
+use mathlib.Core.Path.{refl}
 use borrow.Author.Tests.{eq-eqb, ne-eqb}
 use borrow.Author.Needs.{needs}
-use Rattle.cells_join.specs.inner.Joined.{meet}
+use Rattle.cells_join.specs.inner.Joined.{meet, LowTwo}
+use borrow.Author.Needs.{needs}
 use Rattle.cells_join.proofs.meet_of.Statement.{statement}
 use Rattle.cells_join.proofs.meet_of.Tie as tie
+use Rattle.cells_join.proofs.meet_of.Reads as reads
+use Rattle.cells_join.proofs.meet_of.Lts as lts
+use Rattle.cells_join.proofs.lesser_low.Reads as lesser-low-reads
+use Rattle.std.proofs.num.wrapping_add_u32.Reads as wrapping-add-u32-reads
 
 wrapping-add-u32-requires : tie.Need-wrapping-add-u32-requires
 wrapping-add-u32-requires c κs = search needs
@@ -12,13 +19,15 @@ unfolding meet
 returns c =
     rw (eq-eqb _ _ (c .before .if1 .taken)) (c .wrapping-add-u32 .ensures)
 
-lesser-cell-requires : tie.Need-lesser-cell-requires
-lesser-cell-requires c κs = search needs
+lesser-low-requires : tie.Need-lesser-low-requires
+unfolding LowTwo
+lesser-low-requires c κs =
+    let p = c .before .pre (omega arith) in (p .0 refl, p .1)
 
 returns-2 : tie.Need-returns-2
 unfolding meet
 returns-2 c =
-    rw (ne-eqb _ _ (c .before .if1 .left)) (c .lesser-cell .ensures)
+    rw (ne-eqb _ _ (c .before .if1 .left)) (c .lesser-low .ensures)
 
 pub meet-of-spec : {M : Type 1} → statement M
-meet-of-spec = tie.close (tie.spec wrapping-add-u32-requires returns lesser-cell-requires returns-2)
+meet-of-spec = tie.close (tie.spec wrapping-add-u32-requires returns lesser-low-requires returns-2)

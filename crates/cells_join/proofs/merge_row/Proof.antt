@@ -1,11 +1,13 @@
 use borrow.Author.Needs.{needs}
 use mathlib.Core.Path.{sym, ap, _∙_}
 use Prim.Native.Nat.{_+_, _≤_, _-_}
+use native.Mathlib.Nat.{zero-add}
 use native.Mathlib.Omega.{arith}
 use lib.ListN.{length, getD}
 use Rattle.logic.proofs.Written.{Written, start, all-first}
-use Rattle.cells_join.specs.inner.Joined.{joinInto, merged}
+use Rattle.cells_join.specs.inner.Joined.{joinInto, merged, LowTwo, Low}
 use Rattle.cells_join.proofs.Prefix.{one-at, joinedAt, merge-more}
+use Rattle.cells_join.proofs.Held.{low-kept}
 use Rattle.cells_join.proofs.merge_row.Statement.{statement}
 use Rattle.cells_join.proofs.merge_row.Tie as tie
 use Rattle.cells_join.proofs.merge_row.Reads as reads
@@ -43,8 +45,9 @@ slice-read-step-of-2 c =
     search needs
 
 step-of-requires : tie.Need-step-of-requires Inv-loop μ-loop
+unfolding LowTwo Low
 step-of-requires c κs =
-    search needs
+    λ h. (λ z. low-kept _ (c .before .before .before .before .before .args .join) (c .before .before .before .before .before .args .over) (c .before .before .before .loop .t) (c .before .before .before .loop .t) (c .before .before .before .before .before .args .cells .now) (c .before .before .before .loop .cells) (c .before .before .before .loop .inv .0) (omega arith) (λ k. rw zero-add at (c .before .before .before .before .before .pre .3 z (c .before .before .before .loop .t) (omega arith) k)) h, low-kept _ (c .before .before .before .before .before .args .join) (c .before .before .before .before .before .args .over) (c .before .before .before .loop .t) (c .before .before .before .before .before .args .at + c .before .before .before .loop .t) (c .before .before .before .before .before .args .cells .now) (c .before .before .before .loop .cells) (c .before .before .before .loop .inv .0) (omega arith) (λ k. c .before .before .before .before .before .pre .2 (c .before .before .before .loop .t) (omega arith) k) h)
 
 mul-cells : tie.Need-mul-cells Inv-loop μ-loop
 mul-cells c =

@@ -2,12 +2,13 @@ use borrow.Author.Needs.{needs}
 use mathlib.Core.Path.{_∙_}
 use mathlib.Core.Bool.{false}
 use Prim.Native.Nat.{_+_, _≤_, _-_}
+use native.Mathlib.Nat.{zero-add}
 use native.Mathlib.Omega.{arith}
-use lib.ListN.{length}
+use lib.ListN.{length, getD}
 use Rattle.logic.proofs.Written.{Written, start, all-first}
-use Rattle.cells_join.specs.inner.Joined.{merged}
-use Rattle.cells_join.proofs.Prefix.{joinedAt}
-use Rattle.cells_join.proofs.Held.{rows-more, rows-all}
+use Rattle.cells_join.specs.inner.Joined.{merged, LowTwo, Low}
+use Rattle.cells_join.proofs.Prefix.{step-low, joinedAt}
+use Rattle.cells_join.proofs.Held.{low-kept, rows-more, rows-all}
 use Rattle.cells_join.proofs.merge_rows.Statement.{statement}
 use Rattle.cells_join.proofs.merge_rows.Tie as tie
 use Rattle.cells_join.proofs.merge_rows.Reads as reads
@@ -46,8 +47,9 @@ slice-read-step-of-2 c =
     search needs
 
 step-of-requires : tie.Need-step-of-requires Inv-loop μ-loop
+unfolding LowTwo Low
 step-of-requires c κs =
-    search needs
+    λ h. (λ z. low-kept _ (c .before .before .before .before .before .args .join) (c .before .before .before .before .before .args .over) (c .before .before .before .loop .t) (c .before .before .before .loop .t) (c .before .before .before .before .before .args .cells .now) (c .before .before .before .loop .cells) (c .before .before .before .loop .inv .0) (omega arith) (λ k. rw zero-add at (c .before .before .before .before .before .pre .5 z (c .before .before .before .loop .t) (omega arith) k)) h, low-kept _ (c .before .before .before .before .before .args .join) (c .before .before .before .before .before .args .over) (c .before .before .before .loop .t) (c .before .before .before .before .before .args .held + c .before .before .before .loop .t) (c .before .before .before .before .before .args .cells .now) (c .before .before .before .loop .cells) (c .before .before .before .loop .inv .0) (omega arith) (λ k. c .before .before .before .before .before .pre .3 (c .before .before .before .loop .t) (omega arith) k) h)
 
 add-meet-of : tie.Need-add-meet-of Inv-loop μ-loop
 add-meet-of c =
@@ -62,8 +64,9 @@ slice-read-meet-of c =
     search needs
 
 meet-of-requires : tie.Need-meet-of-requires Inv-loop μ-loop
+unfolding LowTwo Low
 meet-of-requires c κs =
-    search needs
+    λ h. (λ _. rw (c .before .step-of .ensures) (step-low (c .before .before .before .before .before .before .before .args .join) (c .before .before .before .before .before .before .before .args .first) (getD (c .before .before .before .before .before .loop .cells) (c .before .before .before .before .before .loop .t) 0) (getD (c .before .before .before .before .before .loop .cells) (c .before .before .before .before .before .before .before .args .held + c .before .before .before .before .before .loop .t) 0) h (low-kept _ (c .before .before .before .before .before .before .before .args .join) (c .before .before .before .before .before .before .before .args .over) (c .before .before .before .before .before .loop .t) (c .before .before .before .before .before .before .before .args .held + c .before .before .before .before .before .loop .t) (c .before .before .before .before .before .before .before .args .cells .now) (c .before .before .before .before .before .loop .cells) (c .before .before .before .before .before .loop .inv .0) (omega arith) (λ k. c .before .before .before .before .before .before .before .pre .3 (c .before .before .before .before .before .loop .t) (omega arith) k) h)), low-kept _ (c .before .before .before .before .before .before .before .args .join) (c .before .before .before .before .before .before .before .args .over) (c .before .before .before .before .before .loop .t) (c .before .before .before .before .before .before .before .args .at + c .before .before .before .before .before .loop .t) (c .before .before .before .before .before .before .before .args .cells .now) (c .before .before .before .before .before .loop .cells) (c .before .before .before .before .before .loop .inv .0) (omega arith) (λ k. c .before .before .before .before .before .before .before .pre .4 (c .before .before .before .before .before .loop .t) (omega arith) k) h)
 
 mul-cells : tie.Need-mul-cells Inv-loop μ-loop
 mul-cells c =

@@ -1,8 +1,5 @@
-use mathlib.Core.Path.{sym, ap, _∙_}
-use mathlib.Core.Bool.{Bool}
-use mathlib.Core.List.{[], _∷_}
-use Rattle.cells_join.specs.inner.Joined.{joinAll, joinInto}
 use borrow.Author.Needs.{needs}
+use Rattle.cells_join.specs.inner.Joined.{joinAll, joinInto, LowTwo}
 use Rattle.cells_join.proofs.step_of.Statement.{statement}
 use Rattle.cells_join.proofs.step_of.Tie as tie
 use Rattle.cells_join.proofs.step_of.Reads as reads
@@ -15,7 +12,9 @@ returns c =
     rw (c .if1 .taken)
 
 meet-of-requires : tie.Need-meet-of-requires
-meet-of-requires c κs = search needs
+unfolding LowTwo
+meet-of-requires c κs =
+    λ h. let p = c .before .pre h in (λ _. p .0 (c .if1 .left), p .1)
 
 returns-2 : tie.Need-returns-2
 unfolding joinInto joinAll

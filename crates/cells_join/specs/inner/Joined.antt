@@ -19,7 +19,11 @@ unfoldable pub meet : ℕ → ℕ → ℕ → ℕ
 meet join x y = cond (eqb join 0) ((x + y) % 4294967296) (min x y)
 
 unfoldable pub unitOf : ℕ → ℕ
-unitOf join = cond (eqb join 0) 0 4294967295
+unitOf join = cond (eqb join 0) 0 2147483647
+
+-- What a minimum asks of its two numbers; of the first only if it counts.
+unfoldable pub LowTwo : ℕ → Bool → ℕ → ℕ → Type 0
+LowTwo join first x y = 1 ≤ join → (first ≡ false → x < 2147483648) × (y < 2147483648)
 
 -- A number joined with those of a list.
 unfoldable pub joinAll : ℕ → ℕ → List ℕ → ℕ
@@ -40,9 +44,18 @@ merged join first over s at l = tabulate over (λ t. joinInto join first (getD l
 unfoldable pub settled : ℕ → ℕ → ℕ → List ℕ → List ℕ
 settled join over held l = cond (eqb held 0) l (merged join (eqb held over) over 1 held l)
 
+-- Numbers below 2^31, from place `from` on. Minima ask for them, to compare them as signed numbers; sums do not.
+unfoldable pub Low : ℕ → List ℕ → ℕ → ℕ → Type 0
+Low join l from n = (t : ℕ) → t < n → 1 ≤ join → getD l (from + t) 0 < 2147483648
+
 -- A row that is not joined yet stands behind the node's own cells and before place `end`.
 unfoldable pub HeldPlaced : ℕ → ℕ → ℕ → Type 0
 HeldPlaced over held end = 1 ≤ held → (over ≤ held) × (held + over ≤ end)
+
+-- The numbers of that row, and the node's own cells, once something is joined to them.
+pub record HeldLow (join over held : ℕ) (cells : List ℕ) : Type 0 where
+  pub row : 1 ≤ held → Low join cells held over
+  pub own : over < held → Low join cells 0 over
 
 -- A child's cells from place `at` on, below the first `over`, and a row that is not joined yet. Only and/or have a later child,
 -- which does not begin right behind the node's own cells.
@@ -53,8 +66,11 @@ pub record ChildPlaced (above ports over held at : ℕ) (cells : List ℕ) : Typ
   pub room : at + over * spreadOf above ports ≤ length cells
   pub later : over < at → spreadOf above ports ≡ 1
   pub waits : HeldPlaced over held at
+  pub low : Low (joinOf above) cells at (over * spreadOf above ports)
+  pub held-low : HeldLow (joinOf above) over held cells
 
 -- A child is joined, or its row, which is then the one at r, is to be: either way the cells come to the same.
 pub record Joins (above ports over held at : ℕ) (before after : List ℕ) (r : ℕ) : Type 0 where
-  pub held-is : 1 ≤ r → (r ≡ at) × (spreadOf above ports ≡ 1)
+  pub held-is : 1 ≤ r → (r ≡ at) × (spreadOf above ports ≡ 1) × (held ≡ 0) × (after ≡ before)
   pub joined : settled (joinOf above) over r after ≡ merged (joinOf above) (eqb at over) over (spreadOf above ports) at (settled (joinOf above) over held before)
+  pub own-low : spreadOf above ports ≡ 1 → r ≡ 0 → Low (joinOf above) after 0 over
