@@ -1,6 +1,6 @@
 -- Filling siblings one after the other: what is left to fill says what the whole part comes to. Assumes nothing.
 use mathlib.Core.Path.{_≡_, refl, sym, ap, ap₂, _∙_, subst}
-use mathlib.Core.Bool.{Bool, true, false}
+use mathlib.Core.Bool.{Bool, false}
 use mathlib.Core.Logic.{_≢_, ⊎-elim, inl, inr}
 use mathlib.Core.List.{List, [], _∷_, _++_, append-assoc}
 use Prim.Native.Nat.{ℕ, _+_, _-_, _*_, _^_, _≤_, _<_, min}
@@ -19,7 +19,7 @@ use Rattle.logic.proofs.Tables.{length-tabulate, getD-tabulate, tabulate-cong, 
 use Rattle.logic.proofs.Written.{take-tabulate}
 use Rattle.table_format.specs.Bytes.{recordLength, endField, records}
 use Rattle.table_format.specs.Rules.{treeCount, everyNode, nodeRule}
-use Rattle.table_format.proofs.Parts.{rest-all, length-rest-all, some-record, one-fits}
+use Rattle.table_format.proofs.Parts.{rest-all, some-record, one-fits}
 use Rattle.table_format.proofs.Opened.{one-forest, not-none, PartOpened, part-opened, part-span}
 use Rattle.table_format.proofs.Bytes.{record-pos}
 use Rattle.table_format.proofs.Encoding.{length-records}

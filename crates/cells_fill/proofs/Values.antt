@@ -3,7 +3,7 @@ use mathlib.Core.Path.{_≡_, refl, sym, ap, ap₂, _∙_}
 use mathlib.Core.Bool.{Bool, true, false, cond, _&&_}
 use mathlib.Core.Logic.{_⊎_, inl, inr}
 use mathlib.Core.List.{List, [], _∷_, _++_, append-nil}
-use Prim.Native.Nat.{ℕ, zero, suc, _+_, _-_, _*_, _%_, _^_, _≤_, _<_, min}
+use Prim.Native.Nat.{ℕ, zero, suc, _+_, _-_, _*_, _^_, _≤_, _<_, min}
 use native.Mathlib.Nat.{mod-eq-of-lt, pow-suc, mul-one, add-zero}
 use native.Mathlib.Omega.{arith}
 use lib.Dec.{eqb, leb}
@@ -14,13 +14,12 @@ use borrow.Author.Tests.{eqb-true, leb-true, lt-leb}
 use Rattle.logic.specs.Formula.{Test, Node, root, all, any, and, or, lit, Forest, none, tree, testKind, kindNumber, childDepth}
 use Rattle.logic.specs.Configuration.{Configuration}
 use Rattle.logic.specs.Truth.{Tuple}
-use Rattle.logic.specs.Penalty.{sum, least, copy, combine, literalPenalty, eachPort, below, penalties, penalty}
+use Rattle.logic.specs.Penalty.{sum, least, copy, combine, eachPort, below, penalties, penalty}
 use Rattle.logic.specs.Cells.{tupleAt, tabulate, siblingFirst, layout}
 use Rattle.logic.proofs.Lists.{and-false}
 use Rattle.logic.proofs.Relations.{test-kind-range}
 use Rattle.logic.proofs.Tables.{length-tabulate, getD-tabulate}
 use Rattle.table_format.specs.Rules.{treeCount, arityRule}
-use Rattle.table_format.proofs.FieldRules.{literal-children}
 use Rattle.cells_join.specs.inner.Joined.{meet, joinAll, joinInto, joinOf, spreadOf}
 use Rattle.cells_fill.specs.inner.Fill.{treewise, table}
 

@@ -11,8 +11,7 @@ use lib.Dec.{eqb, leb}
 use lib.ListN.{length, getD, take, drop, set, length-drop}
 use lib.Seq.{drop-cons, take-suc, getD-drop}
 use borrow.Author.Tests.{eq-eqb, ne-eqb}
-use Rattle.logic.specs.Cells.{tabulate}
-use Rattle.logic.proofs.Written.{Written, one-more-first, behind-first, from-first, next-first}
+use Rattle.logic.proofs.Written.{Written, one-more-first, behind-first, next-first}
 use Rattle.cells_join.specs.inner.Joined.{meet, unitOf, joinAll, joinInto, merged, spreadOf}
 
 join-append : (join x : ℕ) (ys zs : List ℕ) → joinAll join x (ys ++ zs) ≡ joinAll join (joinAll join x ys) zs

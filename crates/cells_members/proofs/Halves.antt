@@ -1,5 +1,5 @@
 -- The two halves of a mask hold its ports below 32 and from 32 on. Assumes nothing.
-use mathlib.Core.Path.{_≡_, refl, sym, ap, ap₂, _∙_}
+use mathlib.Core.Path.{_≡_, sym, ap, ap₂, _∙_}
 use mathlib.Core.Bool.{Bool, cond}
 use mathlib.Core.List.{List, _++_, append-assoc}
 use Prim.Native.Nat.{ℕ, _+_, _-_, _*_, _/_, _%_, _^_, _≤_, _<_, min}
@@ -7,7 +7,7 @@ use native.Mathlib.Nat.{mod-lt, div-div-eq-div-mul, one-le-pow}
 use native.Mathlib.Omega.{arith}
 use lib.Arith.{digits-div, mod-mul}
 use lib.Dec.{eqb}
-use lib.ListN.{length, take, drop}
+use lib.ListN.{take, drop}
 use lib.Pow.{pow-add, mod-mod-pow}
 use lib.Seq.{take-at}
 use Rattle.logic.specs.Configuration.{inMask}

@@ -8,10 +8,6 @@ use Rattle.cells_join.specs.inner.Joined.{unitOf, joinAll, LowTwo, Low}
 use Rattle.cells_join.proofs.Prefix.{gather-next, from-unit, unit-low, meet-low}
 use Rattle.cells_join.proofs.gather.Statement.{statement}
 use Rattle.cells_join.proofs.gather.Tie as tie
-use Rattle.cells_join.proofs.gather.Reads as reads
-use Rattle.cells_join.proofs.gather.Lts as lts
-use Rattle.cells_join.proofs.meet_of.Reads as meet-of-reads
-use Rattle.cells_join.proofs.unit_of.Reads as unit-of-reads
 
 abbrev Inv-loop : tie.InvT-loop
 Inv-loop join from s cells r₀ p₀ r p = (p ≤ s) × (r ≡ joinAll join (unitOf join) (take p (drop from cells))) × (1 ≤ join → r < 2147483648)

@@ -10,9 +10,6 @@ use Rattle.cells_join.proofs.Prefix.{row-within, joinedAt, merge-more}
 use Rattle.cells_join.proofs.Held.{low-part}
 use Rattle.cells_join.proofs.gather_rows.Statement.{statement}
 use Rattle.cells_join.proofs.gather_rows.Tie as tie
-use Rattle.cells_join.proofs.gather_rows.Reads as reads
-use Rattle.cells_join.proofs.gather_rows.Lts as lts
-use Rattle.cells_join.proofs.gather.Reads as gather-reads
 
 abbrev Inv-loop : tie.InvT-loop
 Inv-loop join over s at cells₀ t₀ from₀ cells t from = Written (joinedAt join true s at cells₀) 0 over cells₀ cells t × (from ≡ at + t * s)

@@ -12,12 +12,6 @@ use Rattle.cells_join.proofs.Held.{joins-two, joins-later, joins-ports}
 use borrow.Author.Needs.{needs}
 use Rattle.cells_join.proofs.join_child.Statement.{statement}
 use Rattle.cells_join.proofs.join_child.Tie as tie
-use Rattle.cells_join.proofs.join_child.Reads as reads
-use Rattle.cells_join.proofs.join_child.Lts as lts
-use Rattle.cells_join.proofs.gather_rows.Reads as gather-rows-reads
-use Rattle.cells_join.proofs.join_of.Reads as join-of-reads
-use Rattle.cells_join.proofs.merge_rows.Reads as merge-rows-reads
-use Rattle.cells_join.proofs.spread_of.Reads as spread-of-reads
 
 join-of-requires : tie.Need-join-of-requires
 join-of-requires c κs = search needs

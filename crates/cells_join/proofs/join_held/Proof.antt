@@ -1,4 +1,4 @@
-use mathlib.Core.Path.{sym, ap, _∙_}
+use mathlib.Core.Path.{sym, _∙_}
 use native.Mathlib.Omega.{arith}
 use lib.Dec.{eqb}
 use borrow.Author.Needs.{needs}
@@ -8,10 +8,6 @@ use Rattle.cells_join.proofs.Held.{settled-none, settled-some}
 use borrow.Author.Needs.{needs}
 use Rattle.cells_join.proofs.join_held.Statement.{statement}
 use Rattle.cells_join.proofs.join_held.Tie as tie
-use Rattle.cells_join.proofs.join_held.Reads as reads
-use Rattle.cells_join.proofs.join_held.Lts as lts
-use Rattle.cells_join.proofs.join_of.Reads as join-of-reads
-use Rattle.cells_join.proofs.merge_row.Reads as merge-row-reads
 
 join-of-requires : tie.Need-join-of-requires
 join-of-requires c κs = search needs

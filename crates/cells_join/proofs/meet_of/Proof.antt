@@ -6,10 +6,6 @@ use Rattle.cells_join.specs.inner.Joined.{meet, LowTwo}
 use borrow.Author.Needs.{needs}
 use Rattle.cells_join.proofs.meet_of.Statement.{statement}
 use Rattle.cells_join.proofs.meet_of.Tie as tie
-use Rattle.cells_join.proofs.meet_of.Reads as reads
-use Rattle.cells_join.proofs.meet_of.Lts as lts
-use Rattle.cells_join.proofs.lesser_low.Reads as lesser-low-reads
-use Rattle.std.proofs.num.wrapping_add_u32.Reads as wrapping-add-u32-reads
 
 wrapping-add-u32-requires : tie.Need-wrapping-add-u32-requires
 wrapping-add-u32-requires c κs = search needs

@@ -10,9 +10,6 @@ use Rattle.cells_join.proofs.Prefix.{one-at, joinedAt, merge-more}
 use Rattle.cells_join.proofs.Held.{low-kept}
 use Rattle.cells_join.proofs.merge_row.Statement.{statement}
 use Rattle.cells_join.proofs.merge_row.Tie as tie
-use Rattle.cells_join.proofs.merge_row.Reads as reads
-use Rattle.cells_join.proofs.merge_row.Lts as lts
-use Rattle.cells_join.proofs.step_of.Reads as step-of-reads
 
 abbrev Inv-loop : tie.InvT-loop
 Inv-loop join first over at cells₀ t₀ cells t = Written (joinedAt join first 1 at cells₀) 0 over cells₀ cells t × (over ≤ at) × (at + over ≤ length cells₀)

@@ -11,10 +11,6 @@ use Rattle.cells_join.proofs.Prefix.{step-low, joinedAt}
 use Rattle.cells_join.proofs.Held.{low-kept, rows-more, rows-all}
 use Rattle.cells_join.proofs.merge_rows.Statement.{statement}
 use Rattle.cells_join.proofs.merge_rows.Tie as tie
-use Rattle.cells_join.proofs.merge_rows.Reads as reads
-use Rattle.cells_join.proofs.merge_rows.Lts as lts
-use Rattle.cells_join.proofs.meet_of.Reads as meet-of-reads
-use Rattle.cells_join.proofs.step_of.Reads as step-of-reads
 
 abbrev Inv-loop : tie.InvT-loop
 Inv-loop join first over held at cells₀ t₀ cells t = Written (joinedAt join false 1 at (merged join first over 1 held cells₀)) 0 over cells₀ cells t × (over ≤ held) × (held ≤ at) × (at + over ≤ length cells₀)

@@ -1,10 +1,6 @@
-use borrow.Author.Needs.{needs}
 use Rattle.cells_join.specs.inner.Joined.{joinAll, joinInto, LowTwo}
 use Rattle.cells_join.proofs.step_of.Statement.{statement}
 use Rattle.cells_join.proofs.step_of.Tie as tie
-use Rattle.cells_join.proofs.step_of.Reads as reads
-use Rattle.cells_join.proofs.step_of.Lts as lts
-use Rattle.cells_join.proofs.meet_of.Reads as meet-of-reads
 
 returns : tie.Need-returns
 unfolding joinInto joinAll

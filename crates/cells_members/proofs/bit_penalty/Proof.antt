@@ -1,12 +1,8 @@
-use mathlib.Core.Path.{sym, ap, _∙_}
-use mathlib.Core.Bool.{Bool, cond}
 use borrow.Author.Tests.{eq-eqb, ne-eqb}
 use Rattle.logic.specs.Configuration.{inMask}
 use borrow.Author.Needs.{needs}
 use Rattle.cells_members.proofs.bit_penalty.Statement.{statement}
 use Rattle.cells_members.proofs.bit_penalty.Tie as tie
-use Rattle.cells_members.proofs.bit_penalty.Reads as reads
-use Rattle.cells_members.proofs.bit_penalty.Lts as lts
 
 shr-if1 : tie.Need-shr-if1
 shr-if1 c = search needs

@@ -1,15 +1,11 @@
-use mathlib.Core.Path.{_∙_}
 use mathlib.Core.Bool.{cond}
-use Prim.Native.Nat.{ℕ, _-_}
+use Prim.Native.Nat.{_-_}
 use native.Mathlib.Omega.{arith}
 use borrow.Author.Needs.{needs}
 use Rattle.logic.specs.Configuration.{inMask}
 use Rattle.logic.proofs.Written.{Written, start, one-more, done}
 use Rattle.cells_members.proofs.put_half.Statement.{statement}
 use Rattle.cells_members.proofs.put_half.Tie as tie
-use Rattle.cells_members.proofs.put_half.Reads as reads
-use Rattle.cells_members.proofs.put_half.Lts as lts
-use Rattle.cells_members.proofs.bit_penalty.Reads as bit-penalty-reads
 
 abbrev Inv-loop : tie.InvT-loop
 Inv-loop inside outside half from len cells₀ t₀ cells t = Written (λ i. cond (inMask half i) inside outside) from len cells₀ cells t

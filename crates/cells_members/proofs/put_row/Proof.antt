@@ -5,10 +5,6 @@ use Rattle.cells_members.proofs.Halves.{halves-row}
 use borrow.Author.Needs.{needs}
 use Rattle.cells_members.proofs.put_row.Statement.{statement}
 use Rattle.cells_members.proofs.put_row.Tie as tie
-use Rattle.cells_members.proofs.put_row.Reads as reads
-use Rattle.cells_members.proofs.put_row.Lts as lts
-use Rattle.cells_members.proofs.put_half.Reads as put-half-reads
-use Rattle.logic.proofs.lesser.Reads as lesser-reads
 
 lesser-requires : tie.Need-lesser-requires
 lesser-requires c κs = search needs
