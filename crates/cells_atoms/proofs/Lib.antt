@@ -1,0 +1,3 @@
+-- Laws.
+pub mod Atoms
+pub mod Over
