@@ -19,8 +19,8 @@ use Rattle.cells_sum.proofs.Sums.{sum-port}
 use Rattle.cells_walk.proofs.Count.{single}
 use Rattle.cells_walk.proofs.Frame.{directly-untouched}
 use Rattle.cells_walk.proofs.Gather.{AllFit, renewals-fit}
-use Rattle.cells_atoms.specs.inner.Atoms.{isAtom, overAtoms, EachAtom, difference, Regular, AllRegular}
-use Rattle.cells_atoms.proofs.Over.{below-zero, over-zero, sum-mod}
+use Rattle.cells_atoms.specs.inner.Atoms.{isAtom, overAtoms, difference, Regular, AllRegular}
+use Rattle.cells_atoms.proofs.Over.{below-zero, each-by, over-zero, sum-mod}
 
 differences-append : (xs ys : List Renewal) → differences (xs ++ ys) ≡ differences xs + differences ys
 unfolding differences
@@ -66,19 +66,16 @@ module _ (u : ℕ) (k : Configuration) (ch : Change) (t : OldCells) where
   unfolding difference
   difference-none n c b d e h = ap (λ (a : Bool). cond a (newCell u k ch t n c b d e + (modulus - t b e)) 0) h
 
-  -- atoms of a forest that is not touched
-  each-none : (f : Forest) (b d : ℕ) (e : Tuple) → forestHit ch f e ≡ false → EachAtom u (λ n c b d e. difference u k ch t n c b d e ≡ 0) f b d e
-  unfolding EachAtom forestHit touched
-  each-none none b d e h = tt
-  each-none (tree n c s) b d e h =
-      let a = or-left (nodeHit ch n e || forestHit ch c e) _ h in (
-        (λ i. difference-none n c b d e a),
-        (λ i x w. each-none c (b + u ^ d) (childDepth n d) x (directly-untouched u ch n c e x (or-right (nodeHit ch n e) _ a) w)),
-        each-none s (siblingFirst u n c b d) d e (or-right (nodeHit ch n e || forestHit ch c e) _ h),
-      )
-
+  -- the atoms of a forest that is not touched
   pub over-untouched : (f : Forest) (b d : ℕ) (e : Tuple) → forestHit ch f e ≡ false → overAtoms u (difference u k ch t) f b d e ≡ 0
-  over-untouched f b d e h = over-zero u (difference u k ch t) f b d e (each-none f b d e h)
+  unfolding forestHit touched
+  over-untouched f b d e h =
+      over-zero u (difference u k ch t) f b d e
+      (each-by u (λ n c b d e. difference u k ch t n c b d e ≡ 0) (λ f b d e. forestHit ch f e ≡ false)
+      (λ n c s b d e x z i w. directly-untouched u ch n c e x (or-right (nodeHit ch n e) _ (or-left (nodeHit ch n e || forestHit ch c e) _ z)) w)
+      (λ n c s b d e z. or-right (nodeHit ch n e || forestHit ch c e) _ z)
+      (λ n c s b d e z i. difference-none n c b d e (or-left (nodeHit ch n e || forestHit ch c e) _ z))
+      f b d e h)
 
   module _ (low : (b : ℕ) (e : Tuple) → t b e < modulus) where
     abbrev after : Node → Forest → ℕ → ℕ → Tuple → List Renewal

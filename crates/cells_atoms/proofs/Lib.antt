@@ -1,3 +1,4 @@
 -- Laws.
+pub mod Alike
 pub mod Atoms
 pub mod Over

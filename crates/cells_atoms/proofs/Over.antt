@@ -5,16 +5,13 @@ use mathlib.Core.List.{[], _∷_}
 use Prim.Native.Nat.{ℕ, zero, suc, _+_, _^_, _%_, _<_}
 use native.Mathlib.Omega.{arith}
 use Rattle.logic.specs.Formula.{Node, root, all, any, and, or, lit, Forest, none, tree, childDepth}
-use Rattle.logic.specs.inner.Literals.{Every}
 use Rattle.logic.specs.Truth.{Tuple}
 use Rattle.logic.specs.Penalty.{sum, eachPort, below}
 use Rattle.logic.specs.Cells.{CellRule, siblingFirst}
 use Rattle.logic.specs.Change.{modulus}
-use Rattle.logic.proofs.Lists.{TupleOf}
 use Rattle.cells_sum.proofs.Sums.{sum-port}
 use Rattle.cells_walk.specs.inner.Below.{Directly, at-root, at-all, at-any, at-and, at-or, at-lit}
 use Rattle.cells_walk.proofs.Count.{single}
-use Rattle.cells_walk.proofs.Frame.{directly-tuple}
 use Rattle.cells_atoms.specs.inner.Atoms.{isAtom, overAtoms, EachAtom}
 
 -- A relation of three numbers that sums keep: of three sums over the same cells it holds if it holds of each cell's numbers.
@@ -52,25 +49,18 @@ module _ (Q : ℕ → ℕ → ℕ → Type 0) (start : Q 0 0 0)
       (λ i. below-kept u n e _ _ _ (λ x w. over-kept u f g h c (b + u ^ d) (childDepth n d) x (H .1 i x w))))
       (over-kept u f g h s (siblingFirst u n c b d) d e (H .2))
 
--- A rule at each atom's cells: from one of every cell; from one of every node and tuple; and from another.
-module _ (u : ℕ) (R : Node → Forest → ℕ → ℕ → Tuple → Type 0) where
-  pub each-all : ((n : Node) (c : Forest) (b d : ℕ) (e : Tuple) → R n c b d e) → (f : Forest) (b d : ℕ) (e : Tuple) → EachAtom u R f b d e
+-- A rule holds at each atom's cells if it follows from a condition of forests that goes down to children and siblings.
+module _ (u : ℕ) (R : Node → Forest → ℕ → ℕ → Tuple → Type 0) (G : Forest → ℕ → ℕ → Tuple → Type 0)
+    (children : (n : Node) (c s : Forest) (b d : ℕ) (e x : Tuple) → G (tree n c s) b d e → isAtom n ≡ false → Directly u n e x → G c (b + u ^ d) (childDepth n d) x)
+    (siblings : (n : Node) (c s : Forest) (b d : ℕ) (e : Tuple) → G (tree n c s) b d e → G s (siblingFirst u n c b d) d e)
+    (own : (n : Node) (c s : Forest) (b d : ℕ) (e : Tuple) → G (tree n c s) b d e → isAtom n ≡ true → R n c b d e) where
+  pub each-by : (f : Forest) (b d : ℕ) (e : Tuple) → G f b d e → EachAtom u R f b d e
   unfolding EachAtom
-  each-all H none b d e = tt
-  each-all H (tree n c s) b d e = (
-    (λ i. H n c b d e),
-    (λ i x w. each-all H c (b + u ^ d) (childDepth n d) x),
-    each-all H s (siblingFirst u n c b d) d e,
-  )
-
-  pub each-every : (G : Node → Forest → ℕ → Type 0) → ((n : Node) (c : Forest) (b d : ℕ) (e : Tuple) → G n c d → Every G c (childDepth n d) → TupleOf u d e → isAtom n ≡ true → R n c b d e)
-      → (f : Forest) (b d : ℕ) (e : Tuple) → Every G f d → TupleOf u d e → EachAtom u R f b d e
-  unfolding EachAtom Every
-  each-every G H none b d e g te = tt
-  each-every G H (tree n c s) b d e g te = (
-    (λ i. H n c b d e (g .0) (g .1) te i),
-    (λ i x w. each-every G H c (b + u ^ d) (childDepth n d) x (g .1) (directly-tuple w te)),
-    each-every G H s (siblingFirst u n c b d) d e (g .2) te,
+  each-by none b d e g = tt
+  each-by (tree n c s) b d e g = (
+    (λ i. own n c s b d e g i),
+    (λ i x w. each-by c (b + u ^ d) (childDepth n d) x (children n c s b d e x g i w)),
+    each-by s (siblingFirst u n c b d) d e (siblings n c s b d e g),
   )
 
 -- sums of numbers that are equal modulo 2^32
@@ -88,7 +78,7 @@ module _ (u : ℕ) (g h : CellRule) (f : Forest) (b d : ℕ) (e : Tuple) where
 
   pub over-two : overAtoms u (λ n c b d e. g n c b d e + h n c b d e) f b d e ≡ overAtoms u g f b d e + overAtoms u h f b d e
   over-two = over-kept (λ x y z. x ≡ y + z) refl (λ a b c x y z i j. omega arith) u (λ n c b d e. g n c b d e + h n c b d e) g h f b d e
-      (each-all u (λ n c b d e. g n c b d e + h n c b d e ≡ g n c b d e + h n c b d e) (λ n c b d e. refl) f b d e)
+      (each-by u (λ n c b d e. g n c b d e + h n c b d e ≡ g n c b d e + h n c b d e) (λ f b d e. Unit {0}) (λ n c s b d e x g i w. tt) (λ n c s b d e g. tt) (λ n c s b d e g i. refl) f b d e tt)
 
 pub below-zero : (u : ℕ) (n : Node) (e : Tuple) (g : Tuple → ℕ) → ((x : Tuple) → Directly u n e x → g x ≡ 0) → sum (below u n e (λ x. g x ∷ [])) ≡ 0
 below-zero u n e g H = below-kept (λ x y z. x ≡ 0) refl (λ a b c x y z i j. omega arith) u n e g g g H
