@@ -17,14 +17,14 @@ use Rattle.cells_atoms.specs.inner.Alike.{AlikeAt, Alike}
 use Rattle.cells_atoms.specs.inner.Atoms.{isAtom, overAtoms, EachAtom, difference, Regular, AllRegular}
 use Rattle.cells_atoms.proofs.Over.{each-by, over-same}
 
+pub or-none : (b : Bool) → (b || false) ≡ b
+or-none true = refl
+or-none false = refl
+
 -- a literal without a child is touched where its test is hit
 leaf-hit : (ch : Change) (l : Literal) (c : Forest) (e : Tuple) → c ≡ none → touched ch (lit l) c e ≡ hit ch (l .test) e
 unfolding touched nodeHit forestHit
-leaf-hit ch l c e r = ap (λ (f : Forest). hit ch (l .test) e || forestHit ch f e) r ∙ or-nothing (hit ch (l .test) e)
-  where
-    or-nothing : (b : Bool) → (b || false) ≡ b
-    or-nothing true = refl
-    or-nothing false = refl
+leaf-hit ch l c e r = ap (λ (f : Forest). hit ch (l .test) e || forestHit ch f e) r ∙ or-none (hit ch (l .test) e)
 
 -- two cells that are renewed alike if they are touched
 same-cell : (a a′ : Bool) (x x′ y : ℕ) → a ≡ a′ → (a ≡ true → x ≡ x′) → cond a x y ≡ cond a′ x′ y

@@ -15,6 +15,7 @@ use Rattle.logic.specs.Cells.{siblingFirst}
 use Rattle.logic.specs.Change.{Change, nodeHit, forestHit, touched, modulus, Renewal, differences, newNumbers, renew, OldCells, renewals, newCell}
 use Rattle.logic.proofs.Lists.{or-left, or-right}
 use Rattle.logic.proofs.Bound.{LiteralsAtMost}
+use Rattle.logic.proofs.Changed.{untouched-kept}
 use Rattle.cells_sum.proofs.Sums.{sum-port}
 use Rattle.cells_walk.proofs.Count.{single}
 use Rattle.cells_walk.proofs.Frame.{directly-untouched}
@@ -54,6 +55,12 @@ unfolding modulus
 sum-difference true old below over l h z = omega arith
 sum-difference false old below over l h z = omega (arith, z refl)
 
+whole-difference : (hit : Bool) (old new : ℕ) → old < modulus → (hit ≡ false → new ≡ old)
+    → cond hit (new + (modulus - old)) 0 % modulus ≡ (new + (modulus - old)) % modulus
+unfolding modulus
+whole-difference true old new l h = refl
+whole-difference false old new l h = omega (arith, h refl)
+
 -- a cell's new number from its old one and its difference
 from-difference : (hit : Bool) (old new over : ℕ) → old < modulus → new < modulus → (hit ≡ false → new ≡ old)
     → (cond hit (new + (modulus - old)) 0 + 0) % modulus ≡ over % modulus → new ≡ (old + over) % modulus
@@ -65,6 +72,12 @@ module _ (u : ℕ) (k : Configuration) (ch : Change) (t : OldCells) where
   difference-none : (n : Node) (c : Forest) (b d : ℕ) (e : Tuple) → touched ch n c e ≡ false → difference u k ch t n c b d e ≡ 0
   unfolding difference
   difference-none n c b d e h = ap (λ (a : Bool). cond a (newCell u k ch t n c b d e + (modulus - t b e)) 0) h
+
+  -- modulo 2^32 a cell's difference is its new number less its old one, touched or not
+  pub difference-is : (n : Node) (c : Forest) (b d : ℕ) (e : Tuple) → t b e < modulus
+      → difference u k ch t n c b d e % modulus ≡ (newCell u k ch t n c b d e + (modulus - t b e)) % modulus
+  unfolding difference
+  difference-is n c b d e l = whole-difference (touched ch n c e) _ _ l (untouched-kept u k ch t n c b d e)
 
   -- the atoms of a forest that is not touched
   pub over-untouched : (f : Forest) (b d : ℕ) (e : Tuple) → forestHit ch f e ≡ false → overAtoms u (difference u k ch t) f b d e ≡ 0
@@ -118,12 +131,15 @@ module _ (u : ℕ) (k : Configuration) (ch : Change) (t : OldCells) where
 
     -- The new number of a cell, from its old one and its atoms' differences; of the root, from those of the node below it.
     module _ (B : ℕ) (small : B < modulus) where
+      pub new-cell-fits : (n : Node) (c : Forest) (b d : ℕ) (e : Tuple) → LiteralsAtMost B k (tree n c none) d → newCell u k ch t n c b d e < modulus
+      unfolding AllFit renewals newCell
+      new-cell-fits n c b d e h = renewals-fit u k ch t low B small (tree n c none) b d e h .0 .new-fits
+
       pub cell-atoms : (n : Node) (c : Forest) (b d : ℕ) (e : Tuple) → AllRegular (tree n c none) d → LiteralsAtMost B k (tree n c none) d
           → newCell u k ch t n c b d e ≡ (t b e + overAtoms u (difference u k ch t) (tree n c none) b d e) % modulus
-      unfolding AllFit renewals differences newCell
+      unfolding renewals differences newCell
       cell-atoms n c b d e r h =
-          let fit = renewals-fit u k ch t low B small (tree n c none) b d e h .0 in
-          from-difference (touched ch n c e) _ _ _ (low b e) (fit .new-fits) (fit .kept) (atoms-differ (tree n c none) b d e r)
+          from-difference (touched ch n c e) _ _ _ (low b e) (new-cell-fits n c b d e h) (untouched-kept u k ch t n c b d e) (atoms-differ (tree n c none) b d e r)
 
       pub root-atoms : (n : Node) (c : Forest) → AllRegular (tree n c none) 0 → LiteralsAtMost B k (tree n c none) 0
           → newCell u k ch t root (tree n c none) 0 0 []

@@ -2,3 +2,5 @@
 pub mod Alike
 pub mod Atoms
 pub mod Over
+pub mod Parts
+pub mod Ports

@@ -1,0 +1,24 @@
+-- A change in parts: what one part adds to another at the cells that it touches.
+use mathlib.Core.Path.{_≡_}
+use mathlib.Core.Bool.{cond, _&&_, _||_}
+use Prim.Native.Nat.{ℕ, _+_, _-_}
+use Rattle.logic.specs.Formula.{Test}
+use Rattle.logic.specs.Configuration.{Configuration}
+use Rattle.logic.specs.Truth.{Tuple}
+use Rattle.logic.specs.Cells.{CellRule}
+use Rattle.logic.specs.Change.{Change, hit, touched, modulus}
+
+-- A change is put together from two: it hits the tests that one of them hits.
+pub record Together (base part ch : Change) : Type 0 where
+  pub hits : (t : Test) (e : Tuple) → hit ch t e ≡ (hit base t e || hit part t e)
+
+-- The new number under one rule minus that under another, at the cells that a part touches.
+unfoldable pub partial : Change → CellRule → CellRule → CellRule
+partial part new base n c b d e = cond (touched part n c e) (new n c b d e + (modulus - base n c b d e)) 0
+
+-- What two parts add together beside what each adds alone, at the cells that both touch.
+unfoldable pub crossed : Change → Change → CellRule → CellRule → CellRule → CellRule → CellRule
+crossed part part′ both one other base n c b d e =
+    cond (touched part n c e && touched part′ n c e)
+    (both n c b d e + (modulus - one n c b d e) + (modulus - other n c b d e) + base n c b d e)
+    0

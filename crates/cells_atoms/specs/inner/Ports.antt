@@ -1,0 +1,49 @@
+-- The same sets flipped at one port, and at every port but some: what both come to in one row.
+use mathlib.Core.Path.{_≡_}
+use mathlib.Core.Bool.{Bool, true, cond, not, _&&_}
+use mathlib.Core.List.{_∷_}
+use Prim.Native.Nat.{ℕ, _<_, _≤_}
+use lib.Dec.{eqb, ltb}
+use lib.ListN.{length}
+use Rattle.logic.specs.Formula.{Test, isin, notin, port, size, Forest}
+use Rattle.logic.specs.inner.Agreement.{listed}
+use Rattle.logic.specs.inner.Literals.{Every, OfTest}
+use Rattle.logic.specs.Configuration.{Sets, Configuration}
+use Rattle.logic.specs.Truth.{Tuple, portOf}
+use Rattle.logic.specs.Change.{Change}
+
+-- A change has these pairs and resizes these sets.
+pub record Lists (pairs : Sets) (resized : ℕ → Bool) (ch : Change) : Type 0 where
+  pub listed-are : (S p : ℕ) → listed (ch .pairs) S p ≡ pairs S p
+  pub resized-are : (S : ℕ) → ch .resized S ≡ resized S
+
+-- A configuration is these sets with these pairs flipped, and has these sizes.
+pub record Flips (pairs m : Sets) (sizes : ℕ → ℕ) (k : Configuration) : Type 0 where
+  pub members-are : (S p : ℕ) → k .member S p ≡ cond (pairs S p) (not (m S p)) (m S p)
+  pub sizes-are : (S : ℕ) → k .size S ≡ sizes S
+
+-- Some sets at one port, and at every port below u but some.
+unfoldable pub atOne : (ℕ → Bool) → ℕ → Sets
+atOne sets x S p = sets S && eqb p x
+
+unfoldable pub atOthers : ℕ → (ℕ → Bool) → (ℕ → Bool) → Sets
+atOthers u sets but S p = sets S && (ltb p u && not (but p))
+
+-- In the row of the tuple e, a membership literal on one of the sets tests the row's own variable, or one further out whose
+-- port is among those left out.
+unfoldable pub InRow : (ℕ → Bool) → Tuple → ℕ → Type 0
+InRow but e v = (v ≤ length e) × (v < length e → but (portOf e v) ≡ true)
+
+unfoldable pub TestInRow : (ℕ → Bool) → (ℕ → Bool) → Tuple → Test → Type 0
+TestInRow sets but e (port r v w) = Unit {0}
+TestInRow sets but e (size r S c) = Unit {0}
+TestInRow sets but e (isin v S) = sets S ≡ true → InRow but e v
+TestInRow sets but e (notin v S) = sets S ≡ true → InRow but e v
+
+unfoldable pub AllInRow : (ℕ → Bool) → (ℕ → Bool) → Tuple → Forest → ℕ → Type 0
+AllInRow sets but e f d = Every (λ n c i. OfTest (TestInRow sets but e) n) f d
+
+-- A tuple is another one, or that with more ports inside.
+pub data Extends (e : Tuple) : Tuple → Type 0 where
+  itself : Extends e e
+  inside : {p : ℕ} {x : Tuple} → Extends e x → Extends e (p ∷ x)
