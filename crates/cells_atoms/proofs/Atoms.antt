@@ -11,7 +11,7 @@ use Rattle.logic.specs.inner.Literals.{Every}
 use Rattle.logic.specs.Configuration.{Configuration}
 use Rattle.logic.specs.Truth.{Tuple}
 use Rattle.logic.specs.Penalty.{sum, copy, combine, eachPort, below}
-use Rattle.logic.specs.Cells.{siblingFirst}
+use Rattle.logic.specs.Cells.{CellRule, siblingFirst}
 use Rattle.logic.specs.Change.{Change, nodeHit, forestHit, touched, modulus, Renewal, differences, newNumbers, renew, OldCells, renewals, newCell}
 use Rattle.logic.proofs.Lists.{or-left, or-right}
 use Rattle.logic.proofs.Bound.{LiteralsAtMost}
@@ -68,6 +68,17 @@ unfolding modulus
 from-difference true old new over l i h e = omega arith
 from-difference false old new over l i h e = omega (arith, h refl)
 
+-- A rule that is 0 at the cells that a change does not touch: its sum over the atoms of a forest that is not touched.
+pub over-untouched : (u : ℕ) (ch : Change) (g : CellRule) → ((n : Node) (c : Forest) (b d : ℕ) (e : Tuple) → touched ch n c e ≡ false → g n c b d e ≡ 0)
+    → (f : Forest) (b d : ℕ) (e : Tuple) → forestHit ch f e ≡ false → overAtoms u g f b d e ≡ 0
+unfolding forestHit touched
+over-untouched u ch g H f b d e h =
+    over-zero u g f b d e
+    (each-by u (λ n c b d e. g n c b d e ≡ 0) (λ f b d e. forestHit ch f e ≡ false)
+    (λ n c s b d e x z i w. directly-untouched u ch n c e x (or-right (nodeHit ch n e) _ (or-left (nodeHit ch n e || forestHit ch c e) _ z)) w)
+    (λ n c s b d e z. or-right (nodeHit ch n e || forestHit ch c e) _ z)
+    (λ n c s b d e z i. H n c b d e (or-left (nodeHit ch n e || forestHit ch c e) _ z)) f b d e h)
+
 module _ (u : ℕ) (k : Configuration) (ch : Change) (t : OldCells) where
   difference-none : (n : Node) (c : Forest) (b d : ℕ) (e : Tuple) → touched ch n c e ≡ false → difference u k ch t n c b d e ≡ 0
   unfolding difference
@@ -78,17 +89,6 @@ module _ (u : ℕ) (k : Configuration) (ch : Change) (t : OldCells) where
       → difference u k ch t n c b d e % modulus ≡ (newCell u k ch t n c b d e + (modulus - t b e)) % modulus
   unfolding difference
   difference-is n c b d e l = whole-difference (touched ch n c e) _ _ l (untouched-kept u k ch t n c b d e)
-
-  -- the atoms of a forest that is not touched
-  pub over-untouched : (f : Forest) (b d : ℕ) (e : Tuple) → forestHit ch f e ≡ false → overAtoms u (difference u k ch t) f b d e ≡ 0
-  unfolding forestHit touched
-  over-untouched f b d e h =
-      over-zero u (difference u k ch t) f b d e
-      (each-by u (λ n c b d e. difference u k ch t n c b d e ≡ 0) (λ f b d e. forestHit ch f e ≡ false)
-      (λ n c s b d e x z i w. directly-untouched u ch n c e x (or-right (nodeHit ch n e) _ (or-left (nodeHit ch n e || forestHit ch c e) _ z)) w)
-      (λ n c s b d e z. or-right (nodeHit ch n e || forestHit ch c e) _ z)
-      (λ n c s b d e z i. difference-none n c b d e (or-left (nodeHit ch n e || forestHit ch c e) _ z))
-      f b d e h)
 
   module _ (low : (b : ℕ) (e : Tuple) → t b e < modulus) where
     abbrev after : Node → Forest → ℕ → ℕ → Tuple → List Renewal
@@ -107,7 +107,7 @@ module _ (u : ℕ) (k : Configuration) (ch : Change) (t : OldCells) where
         ap (λ (a : ℕ). cond (touched ch n c e) (cond (touched ch n c e) a (t b e) + (modulus - t b e)) 0 % modulus) r
         ∙ sum-difference (touched ch n c e) (t b e) _ _ (low b e) (below-differ u n e _ _ H)
         (λ h. below-zero u n e (over n c b d)
-        (λ x w. over-untouched c (b + u ^ d) (childDepth n d) x (directly-untouched u ch n c e x (or-right (nodeHit ch n e) _ h) w)))
+        (λ x w. over-untouched u ch (difference u k ch t) difference-none c (b + u ^ d) (childDepth n d) x (directly-untouched u ch n c e x (or-right (nodeHit ch n e) _ h) w)))
 
     node-differ : (n : Node) (c : Forest) (b d : ℕ) (e : Tuple) → Regular n c
         → ((x : Tuple) → differences (after n c b d x) % modulus ≡ over n c b d x % modulus)

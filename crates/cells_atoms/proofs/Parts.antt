@@ -1,7 +1,7 @@
 -- A part of a change counts only at the cells that it touches. Assumes nothing.
 use mathlib.Core.Path.{_≡_, refl, sym, ap, ap₂, _∙_}
 use mathlib.Core.Bool.{Bool, true, false, cond, _&&_, _||_}
-use mathlib.Core.List.{List, _++_}
+use mathlib.Core.List.{List, [], _∷_, _++_}
 use Prim.Native.Nat.{ℕ, _+_, _-_, _^_, _%_, _≤_, _<_}
 use native.Mathlib.Omega.{arith}
 use Rattle.logic.specs.Formula.{Test, isin, notin, port, size, Node, root, all, any, and, or, lit, Forest, none, tree, childDepth}
@@ -9,6 +9,7 @@ use Rattle.logic.specs.inner.Agreement.{AgreeAt, AgreeOn}
 use Rattle.logic.specs.inner.Literals.{Every, OfLiteral, OfTest}
 use Rattle.logic.specs.Configuration.{Configuration}
 use Rattle.logic.specs.Truth.{Tuple}
+use Rattle.logic.specs.Cells.{CellRule}
 use Rattle.logic.specs.Moves.{Pair}
 use Rattle.logic.specs.Change.{someOf, Change, memberHit, hit, nodeHit, forestHit, touched, modulus, OldCells, newCell}
 use Rattle.logic.proofs.Lists.{or-left, or-right, or-false, some-append}
@@ -23,11 +24,16 @@ use Rattle.cells_atoms.proofs.Alike.{or-none, new-cell-alike}
 use Rattle.cells_atoms.proofs.Atoms.{new-cell-fits, difference-is}
 use Rattle.cells_atoms.proofs.Over.{each-by, sum-mod, over-mod, over-two}
 
+below-append : (u : ℕ) (qs rs : List Pair) → PortsBelow u qs → PortsBelow u rs → PortsBelow u (qs ++ rs)
+unfolding PortsBelow
+below-append u [] rs h i = i
+below-append u (q ∷ qs) rs h i = (h .0, below-append u qs rs (h .1) i)
+
 -- pairs put behind pairs, with the same sets resized
-pub pairs-together : (qs rs : List Pair) (resized : ℕ → Bool)
-    → Together record { pairs = qs; resized = resized } record { pairs = rs; resized = λ S. false } record { pairs = qs ++ rs; resized = resized }
+pub pairs-together : (u : ℕ) (qs rs : List Pair) (resized : ℕ → Bool) → PortsBelow u qs → PortsBelow u rs
+    → Together u record { pairs = qs; resized = resized } record { pairs = rs; resized = λ S. false } record { pairs = qs ++ rs; resized = resized }
 unfolding hit
-pairs-together qs rs resized = record { hits = λ t e. go t e }
+pairs-together u qs rs resized h i = record { hits = go; below = below-append u qs rs h i; base-below = h }
   where
     go : (t : Test) (e : Tuple) → hit record { pairs = qs ++ rs; resized = resized } t e ≡ (hit record { pairs = qs; resized = resized } t e || hit record { pairs = rs; resized = λ S. false } t e)
     go (port r v w) e = refl
@@ -42,7 +48,7 @@ unfolding modulus
 part-number true old new base l h = omega arith
 part-number false old new base l h = omega (arith, h refl)
 
-module _ (base part ch : Change) (whole : Together base part ch) (k₀ k : Configuration) where
+module _ (u : ℕ) (base part ch : Change) (whole : Together u base part ch) (k₀ k : Configuration) where
   -- a test that the part does not hit
   test-alike : (t : Test) (e : Tuple) → AgreeAt part k₀ k t → hit part t e ≡ false → AlikeAt k ch k₀ base t e
   unfolding AgreeAt
@@ -59,22 +65,22 @@ module _ (base part ch : Change) (whole : Together base part ch) (k₀ k : Confi
   node-alike (lit l) e g h = test-alike (l .test) e g h
 
   -- Where the part touches nothing, the change with it and the change without it are alike.
-  pub part-alike : (u : ℕ) (f : Forest) (d : ℕ) (e : Tuple) → AgreeOn part k₀ k f d → forestHit part f e ≡ false → Alike u k ch k₀ base f e
+  pub part-alike : (f : Forest) (d : ℕ) (e : Tuple) → AgreeOn part k₀ k f d → forestHit part f e ≡ false → Alike u k ch k₀ base f e
   unfolding AgreeOn Every forestHit Alike
-  part-alike u none d e g h = tt
-  part-alike u (tree n c s) d e g h =
+  part-alike none d e g h = tt
+  part-alike (tree n c s) d e g h =
       let a = or-left (nodeHit part n e || forestHit part c e) _ h in (
         node-alike n e (g .0) (or-left (nodeHit part n e) _ a),
-        (λ x w. part-alike u c (childDepth n d) x (g .1) (directly-untouched u part n c e x (or-right (nodeHit part n e) _ a) w)),
-        part-alike u s d e (g .2) (or-right (nodeHit part n e || forestHit part c e) _ h),
+        (λ x w. part-alike c (childDepth n d) x (g .1) (directly-untouched u part n c e x (or-right (nodeHit part n e) _ a) w)),
+        part-alike s d e (g .2) (or-right (nodeHit part n e || forestHit part c e) _ h),
       )
 
-  module _ (u : ℕ) (u1 : 1 ≤ u) (ports : PortsBelow u (ch .pairs)) (ports₀ : PortsBelow u (base .pairs)) (t : OldCells) where
+  module _ (u1 : 1 ≤ u) (t : OldCells) where
     part-missed : (n : Node) (c : Forest) (b d : ℕ) (e : Tuple) → AllRegular (tree n c none) d → AgreeOn part k₀ k (tree n c none) d → touched part n c e ≡ false
         → newCell u k ch t n c b d e ≡ newCell u k₀ base t n c b d e
     unfolding touched forestHit
     part-missed n c b d e r g h =
-        new-cell-alike u u1 k ch k₀ base ports ports₀ t n c b d e r (part-alike u (tree n c none) d e g (or-false (nodeHit part n e || forestHit part c e) _ h refl))
+        new-cell-alike u u1 k ch k₀ base (whole .below) (whole .base-below) t n c b d e r (part-alike (tree n c none) d e g (or-false (nodeHit part n e || forestHit part c e) _ h refl))
 
     module _ (low : (b : ℕ) (e : Tuple) → t b e < modulus) (B : ℕ) (small : B < modulus) where
       -- of a cell: its difference without the part, and what the part adds
@@ -99,3 +105,58 @@ module _ (base part ch : Change) (whole : Together base part ch) (k₀ k : Confi
           (λ n c s b d e g i. part-differ n c b d e (g .0 .0, g .0 .1, tt) (g .1 .0, g .1 .1, tt) (g .2 .0, g .2 .1, tt))
           f b d e (r, g, h))
           ∙ ap (λ (x : ℕ). x % modulus) (over-two u (difference u k₀ base t) (partial part (newCell u k ch t) (newCell u k₀ base t)) f b d e)
+
+-- what a part adds beside another part, by what it adds alone
+crossed-number : (hit hit′ : Bool) (new new′ both base : ℕ) → new < modulus → new′ < modulus → base < modulus → (hit′ ≡ false → (both ≡ new) × (new′ ≡ base))
+    → cond hit (both + (modulus - new′)) 0 % modulus
+    ≡ (cond hit (new + (modulus - base)) 0 + cond (hit && hit′) (both + (modulus - new) + (modulus - new′) + base) 0) % modulus
+unfolding modulus
+crossed-number true true new new′ both base l l′ l₀ h = omega arith
+crossed-number true false new new′ both base l l′ l₀ h = omega (arith, h refl .0, h refl .1)
+crossed-number false hit′ new new′ both base l l′ l₀ h = refl
+
+-- Two parts: both add what each adds alone, but for the cells that both touch.
+module _ (u : ℕ) (u1 : 1 ≤ u) (base part part′ ch ch′ both : Change) (k₀ k k′ k″ : Configuration)
+    (other : Together u base part′ ch′) (other-more : Together u ch part′ both) (one-more : Together u ch′ part both)
+    (t : OldCells) (low : (b : ℕ) (e : Tuple) → t b e < modulus) (B : ℕ) (small : B < modulus) where
+  abbrev after : CellRule
+  after = newCell u k ch t
+
+  abbrev after′ : CellRule
+  after′ = newCell u k′ ch′ t
+
+  abbrev after-both : CellRule
+  after-both = newCell u k″ both t
+
+  abbrev after-base : CellRule
+  after-base = newCell u k₀ base t
+
+  -- of a cell: what the part adds beside the other part
+  crossed-differ : (n : Node) (c : Forest) (b d : ℕ) (e : Tuple) → AllRegular (tree n c none) d
+      → AgreeOn part′ k₀ k′ (tree n c none) d × AgreeOn part′ k k″ (tree n c none) d
+      → LiteralsAtMost B k₀ (tree n c none) d × LiteralsAtMost B k (tree n c none) d × LiteralsAtMost B k′ (tree n c none) d
+      → partial part after-both after′ n c b d e % modulus
+      ≡ (partial part after after-base n c b d e + crossed part part′ after-both after after′ after-base n c b d e) % modulus
+  unfolding partial crossed
+  crossed-differ n c b d e r g i =
+      crossed-number (touched part n c e) (touched part′ n c e) _ _ _ _
+      (new-cell-fits u k ch t low B small n c b d e (i .1)) (new-cell-fits u k′ ch′ t low B small n c b d e (i .2)) (new-cell-fits u k₀ base t low B small n c b d e (i .0))
+      (λ h. (part-missed u ch part′ both other-more k k″ u1 t n c b d e r (g .1) h, part-missed u base part′ ch′ other k₀ k′ u1 t n c b d e r (g .0) h))
+
+  pub over-two-parts : (f : Forest) (b d : ℕ) (e : Tuple) → AllRegular f d → AgreeOn part k′ k″ f d → AgreeOn part′ k₀ k′ f d × AgreeOn part′ k k″ f d
+      → LiteralsAtMost B k₀ f d × LiteralsAtMost B k f d × LiteralsAtMost B k′ f d
+      → overAtoms u (difference u k″ both t) f b d e % modulus
+      ≡ (overAtoms u (difference u k₀ base t) f b d e + overAtoms u (partial part′ after′ after-base) f b d e
+      + (overAtoms u (partial part after after-base) f b d e + overAtoms u (crossed part part′ after-both after after′ after-base) f b d e)) % modulus
+  unfolding AllRegular AgreeOn LiteralsAtMost Every
+  over-two-parts f b d e r a g i =
+      over-part u ch′ part both one-more k′ k″ u1 t low B small f b d e r a (i .2)
+      ∙ sum-mod _ _ _ _ (over-part u base part′ ch′ other k₀ k′ u1 t low B small f b d e r (g .0) (i .0))
+      (over-mod u (partial part after-both after′) (λ n c b d e. partial part after after-base n c b d e + crossed part part′ after-both after after′ after-base n c b d e) f b d e
+      (each-by u _ (λ f b d e. AllRegular f d × (AgreeOn part′ k₀ k′ f d × AgreeOn part′ k k″ f d) × (LiteralsAtMost B k₀ f d × LiteralsAtMost B k f d × LiteralsAtMost B k′ f d))
+      (λ n c s b d e x y z w. (y .0 .1, (y .1 .0 .1, y .1 .1 .1), (y .2 .0 .1, y .2 .1 .1, y .2 .2 .1)))
+      (λ n c s b d e y. (y .0 .2, (y .1 .0 .2, y .1 .1 .2), (y .2 .0 .2, y .2 .1 .2, y .2 .2 .2)))
+      (λ n c s b d e y z. crossed-differ n c b d e (y .0 .0, y .0 .1, tt) ((y .1 .0 .0, y .1 .0 .1, tt), (y .1 .1 .0, y .1 .1 .1, tt))
+      ((y .2 .0 .0, y .2 .0 .1, tt), (y .2 .1 .0, y .2 .1 .1, tt), (y .2 .2 .0, y .2 .2 .1, tt)))
+      f b d e (r, g, i))
+      ∙ ap (λ (x : ℕ). x % modulus) (over-two u (partial part after after-base) (crossed part part′ after-both after after′ after-base) f b d e))

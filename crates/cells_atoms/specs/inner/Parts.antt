@@ -7,10 +7,13 @@ use Rattle.logic.specs.Configuration.{Configuration}
 use Rattle.logic.specs.Truth.{Tuple}
 use Rattle.logic.specs.Cells.{CellRule}
 use Rattle.logic.specs.Change.{Change, hit, touched, modulus}
+use Rattle.logic.proofs.Touched.{PortsBelow}
 
--- A change is put together from two: it hits the tests that one of them hits.
-pub record Together (base part ch : Change) : Type 0 where
+-- A change is put together from two: it hits the tests that one of them hits. Its pairs have ports below u.
+pub record Together (u : ℕ) (base part ch : Change) : Type 0 where
   pub hits : (t : Test) (e : Tuple) → hit ch t e ≡ (hit base t e || hit part t e)
+  pub below : PortsBelow u (ch .pairs)
+  pub base-below : PortsBelow u (base .pairs)
 
 -- The new number under one rule minus that under another, at the cells that a part touches.
 unfoldable pub partial : Change → CellRule → CellRule → CellRule
