@@ -55,7 +55,8 @@ unfolding modulus
 sum-difference true old below over l h z = omega arith
 sum-difference false old below over l h z = omega (arith, z refl)
 
-whole-difference : (hit : Bool) (old new : ℕ) → old < modulus → (hit ≡ false → new ≡ old)
+-- a number that is counted where it differs is the same modulo 2^32 as counted everywhere
+pub whole-difference : (hit : Bool) (old new : ℕ) → old < modulus → (hit ≡ false → new ≡ old)
     → cond hit (new + (modulus - old)) 0 % modulus ≡ (new + (modulus - old)) % modulus
 unfolding modulus
 whole-difference true old new l h = refl

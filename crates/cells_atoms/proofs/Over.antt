@@ -80,6 +80,9 @@ module _ (u : ℕ) (g h : CellRule) (f : Forest) (b d : ℕ) (e : Tuple) where
   over-two = over-kept (λ x y z. x ≡ y + z) refl (λ a b c x y z i j. omega arith) u (λ n c b d e. g n c b d e + h n c b d e) g h f b d e
       (each-by u (λ n c b d e. g n c b d e + h n c b d e ≡ g n c b d e + h n c b d e) (λ f b d e. Unit {0}) (λ n c s b d e x g i w. tt) (λ n c s b d e g. tt) (λ n c s b d e g i. refl) f b d e tt)
 
+pub ports-zero : (u : ℕ) (g : ℕ → ℕ) → ((p : ℕ) → p < u → g p ≡ 0) → sum (eachPort u (λ p. g p ∷ [])) ≡ 0
+ports-zero u g H = ports-kept (λ x y z. x ≡ 0) refl (λ a b c x y z i j. omega arith) u g g g H
+
 pub below-zero : (u : ℕ) (n : Node) (e : Tuple) (g : Tuple → ℕ) → ((x : Tuple) → Directly u n e x → g x ≡ 0) → sum (below u n e (λ x. g x ∷ [])) ≡ 0
 below-zero u n e g H = below-kept (λ x y z. x ≡ 0) refl (λ a b c x y z i j. omega arith) u n e g g g H
 

@@ -21,10 +21,10 @@ use Rattle.cells_atoms.specs.inner.Alike.{AlikeAt, Alike}
 use Rattle.cells_atoms.specs.inner.Atoms.{overAtoms, EachAtom, difference, AllRegular}
 use Rattle.cells_atoms.specs.inner.Parts.{Together, partial, crossed}
 use Rattle.cells_atoms.proofs.Alike.{or-none, new-cell-alike}
-use Rattle.cells_atoms.proofs.Atoms.{new-cell-fits, difference-is}
+use Rattle.cells_atoms.proofs.Atoms.{whole-difference, new-cell-fits, difference-is}
 use Rattle.cells_atoms.proofs.Over.{each-by, sum-mod, over-mod, over-two}
 
-below-append : (u : ℕ) (qs rs : List Pair) → PortsBelow u qs → PortsBelow u rs → PortsBelow u (qs ++ rs)
+pub below-append : (u : ℕ) (qs rs : List Pair) → PortsBelow u qs → PortsBelow u rs → PortsBelow u (qs ++ rs)
 unfolding PortsBelow
 below-append u [] rs h i = i
 below-append u (q ∷ qs) rs h i = (h .0, below-append u qs rs (h .1) i)
@@ -41,12 +41,15 @@ pairs-together u qs rs resized h i = record { hits = go; below = below-append u 
     go (isin v S) e = some-append (memberHit v S e) qs rs
     go (notin v S) e = some-append (memberHit v S e) qs rs
 
--- a new number less the old one, by way of another
-part-number : (hit : Bool) (old new base : ℕ) → base < modulus → (hit ≡ false → new ≡ base)
-    → (new + (modulus - old)) % modulus ≡ (base + (modulus - old) + cond hit (new + (modulus - base)) 0) % modulus
+-- a number less another, by way of a third
+by-way-of : (new base old : ℕ) → base < modulus → (new + (modulus - old)) % modulus ≡ (base + (modulus - old) + (new + (modulus - base))) % modulus
 unfolding modulus
-part-number true old new base l h = omega arith
-part-number false old new base l h = omega (arith, h refl)
+by-way-of new base old h = omega arith
+
+-- off the cells that it touches a part adds nothing
+pub partial-none : (part : Change) (new base : CellRule) (n : Node) (c : Forest) (b d : ℕ) (e : Tuple) → touched part n c e ≡ false → partial part new base n c b d e ≡ 0
+unfolding partial
+partial-none part new base n c b d e h = ap (λ (a : Bool). cond a (new n c b d e + (modulus - base n c b d e)) 0) h
 
 module _ (u : ℕ) (base part ch : Change) (whole : Together u base part ch) (k₀ k : Configuration) where
   -- a test that the part does not hit
@@ -83,14 +86,19 @@ module _ (u : ℕ) (base part ch : Change) (whole : Together u base part ch) (k�
         new-cell-alike u u1 k ch k₀ base (whole .below) (whole .base-below) t n c b d e r (part-alike (tree n c none) d e g (or-false (nodeHit part n e || forestHit part c e) _ h refl))
 
     module _ (low : (b : ℕ) (e : Tuple) → t b e < modulus) (B : ℕ) (small : B < modulus) where
+      -- modulo 2^32 what a part adds is the new number less that without it, touched or not
+      pub partial-is : (n : Node) (c : Forest) (b d : ℕ) (e : Tuple) → AllRegular (tree n c none) d → AgreeOn part k₀ k (tree n c none) d → LiteralsAtMost B k₀ (tree n c none) d
+          → partial part (newCell u k ch t) (newCell u k₀ base t) n c b d e % modulus ≡ (newCell u k ch t n c b d e + (modulus - newCell u k₀ base t n c b d e)) % modulus
+      unfolding partial
+      partial-is n c b d e r g h = whole-difference (touched part n c e) _ _ (new-cell-fits u k₀ base t low B small n c b d e h) (part-missed n c b d e r g)
+
       -- of a cell: its difference without the part, and what the part adds
       part-differ : (n : Node) (c : Forest) (b d : ℕ) (e : Tuple) → AllRegular (tree n c none) d → AgreeOn part k₀ k (tree n c none) d → LiteralsAtMost B k₀ (tree n c none) d
           → difference u k ch t n c b d e % modulus ≡ (difference u k₀ base t n c b d e + partial part (newCell u k ch t) (newCell u k₀ base t) n c b d e) % modulus
-      unfolding partial
       part-differ n c b d e r g h =
           difference-is u k ch t n c b d e (low b e)
-          ∙ part-number (touched part n c e) (t b e) _ _ (new-cell-fits u k₀ base t low B small n c b d e h) (part-missed n c b d e r g)
-          ∙ sum-mod _ _ _ _ (sym (difference-is u k₀ base t n c b d e (low b e))) refl
+          ∙ by-way-of (newCell u k ch t n c b d e) (newCell u k₀ base t n c b d e) (t b e) (new-cell-fits u k₀ base t low B small n c b d e h)
+          ∙ sum-mod _ _ _ _ (sym (difference-is u k₀ base t n c b d e (low b e))) (sym (partial-is n c b d e r g h))
 
       -- The differences of a change over the atoms are those without the part and what the part adds.
       pub over-part : (f : Forest) (b d : ℕ) (e : Tuple) → AllRegular f d → AgreeOn part k₀ k f d → LiteralsAtMost B k₀ f d

@@ -10,7 +10,7 @@ use lib.Dec.{eqb, leb, ltb}
 use lib.ListN.{length}
 use borrow.Author.Tests.{eqb-true, lt-ltb, lt-leb, eq-eqb, ne-eqb}
 use Rattle.logic.specs.Formula.{Test, isin, notin, port, size, Node, root, all, any, and, or, lit, Forest, none, tree, childDepth}
-use Rattle.logic.specs.inner.Agreement.{listed}
+use Rattle.logic.specs.inner.Agreement.{listed, AgreeOff}
 use Rattle.logic.specs.inner.Literals.{Every, OfLiteral, OfTest}
 use Rattle.logic.specs.Configuration.{Sets, Configuration, indicator}
 use Rattle.logic.specs.Truth.{Tuple, portOf}
@@ -65,15 +65,22 @@ same-hit pairs pairs′ resized ch ch′ l l′ v S e (inl h) =
 same-hit pairs pairs′ resized ch ch′ l l′ v S e (inr h) =
     unlisted-hit (ch .pairs) v S e (λ p. l .listed-are S p ∙ h p .0) ∙ sym (unlisted-hit (ch′ .pairs) v S e (λ p. l′ .listed-are S p ∙ h p .1))
 
-same-member : (pairs pairs′ m : Sets) (sizes : ℕ → ℕ) (k k′ : Configuration) → Flips pairs m sizes k → Flips pairs′ m sizes k′ → (v S : ℕ) (e : Tuple) → SamePair pairs pairs′ v S e
+same-member : (pairs pairs′ : Sets) (k₀ k k′ : Configuration) → Flips pairs k₀ k → Flips pairs′ k₀ k′ → (v S : ℕ) (e : Tuple) → SamePair pairs pairs′ v S e
     → k .member S (portOf e v) ≡ k′ .member S (portOf e v)
-same-member pairs pairs′ m sizes k k′ g g′ v S e h =
+same-member pairs pairs′ k₀ k k′ g g′ v S e h =
     let p = portOf e v in
-    g .members-are S p ∙ ap (λ (a : Bool). cond a (not (m S p)) (m S p)) (same-pair h) ∙ sym (g′ .members-are S p)
+    g .members-are S p ∙ ap (λ (a : Bool). cond a (not (k₀ .member S p)) (k₀ .member S p)) (same-pair h) ∙ sym (g′ .members-are S p)
   where
     same-pair : SamePair pairs pairs′ v S e → pairs S (portOf e v) ≡ pairs′ S (portOf e v)
     same-pair (inl i) = i .1
     same-pair (inr i) = i (portOf e v) .0 ∙ sym (i (portOf e v) .1)
+
+-- configurations of which one has a change's pairs flipped agree off the change
+pub flips-agree : (n : ℕ) (pairs : Sets) (resized : ℕ → Bool) (ch : Change) (k₀ k : Configuration) → Lists pairs resized ch → Flips pairs k₀ k → AgreeOff n ch k₀ k
+flips-agree n pairs resized ch k₀ k l g = record {
+  members = λ S p i h. g .members-are S p ∙ ap (λ (a : Bool). cond a (not (k₀ .member S p)) (k₀ .member S p)) (sym (l .listed-are S p) ∙ h);
+  sizes = λ S i h. g .sizes-are S;
+}
 
 -- the port of the innermost variable
 port-last : (x : ℕ) (e : Tuple) → portOf (x ∷ e) (length e) ≡ x
@@ -115,9 +122,9 @@ module _ (sets but : ℕ → Bool) (x : ℕ) (e : Tuple) (free : but x ≡ false
         go false i = inr (λ p. (ap (λ (a : Bool). a && eqb p x) i, ap (λ (a : Bool). a && (ltb p u && not (but p))) i))
 
     -- All ports at once: at a tuple that extends x ∷ e the flip at x alone and the flip at every port but some are alike.
-    module _ (m : Sets) (resized : ℕ → Bool) (sizes : ℕ → ℕ) (k : Configuration) (ch : Change) (k′ : Configuration) (ch′ : Change)
+    module _ (resized : ℕ → Bool) (k₀ k : Configuration) (ch : Change) (k′ : Configuration) (ch′ : Change)
         (l : Lists (atOne sets x) resized ch) (l′ : Lists (atOthers u sets but) resized ch′)
-        (g : Flips (atOne sets x) m sizes k) (g′ : Flips (atOthers u sets but) m sizes k′) where
+        (g : Flips (atOne sets x) k₀ k) (g′ : Flips (atOthers u sets but) k₀ k′) where
       test-alike : (t : Test) (y : Tuple) → TestInRow sets but e t → Extends (x ∷ e) y → AlikeAt k ch k′ ch′ t y
       unfolding TestInRow hit testPenalty
       test-alike (port r v w) y h z = record { same-hit = refl; same-penalty = λ i. refl }
@@ -127,11 +134,11 @@ module _ (sets but : ℕ → Bool) (x : ℕ) (e : Tuple) (free : but x ≡ false
       }
       test-alike (isin v S) y h z = record {
         same-hit = same-hit _ _ resized ch ch′ l l′ v S y (row-same v S y h z);
-        same-penalty = λ i. ap (λ (b : Bool). indicator (not b)) (same-member _ _ m sizes k k′ g g′ v S y (row-same v S y h z));
+        same-penalty = λ i. ap (λ (b : Bool). indicator (not b)) (same-member _ _ k₀ k k′ g g′ v S y (row-same v S y h z));
       }
       test-alike (notin v S) y h z = record {
         same-hit = same-hit _ _ resized ch ch′ l l′ v S y (row-same v S y h z);
-        same-penalty = λ i. ap indicator (same-member _ _ m sizes k k′ g g′ v S y (row-same v S y h z));
+        same-penalty = λ i. ap indicator (same-member _ _ k₀ k k′ g g′ v S y (row-same v S y h z));
       }
 
       node-alike : (n : Node) (y : Tuple) → OfTest (TestInRow sets but e) n → Extends (x ∷ e) y → OfTest (λ t. AlikeAt k ch k′ ch′ t y) n

@@ -1,0 +1,76 @@
+-- What a flip of some sets at one port adds in a row, from the row with the flip at every port but some. Assumes nothing.
+use mathlib.Core.Path.{_≡_, sym, ap, _∙_}
+use mathlib.Core.Logic.{_≢_}
+use mathlib.Core.Bool.{Bool, false}
+use mathlib.Core.List.{List, [], _∷_}
+use Prim.Native.Nat.{ℕ, zero, suc, _+_, _-_, _%_, _≤_, _<_}
+use native.Mathlib.Decide.{ℕ-discrete}
+use native.Mathlib.Omega.{arith}
+use lib.Dec.{eqb}
+use Rattle.logic.specs.Formula.{Node, Forest, none, tree}
+use Rattle.logic.specs.inner.Literals.{SetsBelow}
+use Rattle.logic.specs.Configuration.{Configuration}
+use Rattle.logic.specs.Truth.{Tuple}
+use Rattle.logic.specs.Penalty.{sum, eachPort}
+use Rattle.logic.specs.Change.{someOf, Change, forestHit, touched, modulus, OldCells, newCell}
+use Rattle.logic.proofs.Lists.{or-left}
+use Rattle.logic.proofs.Untouched.{agree-on}
+use Rattle.logic.proofs.Touched.{PortsBelow}
+use Rattle.logic.proofs.Bound.{LiteralsAtMost}
+use Rattle.cells_sum.proofs.Sums.{sum-port}
+use Rattle.cells_atoms.specs.inner.Atoms.{AllRegular}
+use Rattle.cells_atoms.specs.inner.Parts.{Together, partial}
+use Rattle.cells_atoms.specs.inner.Ports.{Flips, atOne, atOthers, pairsAt, pairsBut, AllInRow, itself}
+use Rattle.cells_atoms.proofs.Alike.{new-cell-alike}
+use Rattle.cells_atoms.proofs.Listing.{lists-at, lists-but, at-below, but-below}
+use Rattle.cells_atoms.proofs.Over.{ports-zero}
+use Rattle.cells_atoms.proofs.Parts.{pairs-together, partial-none, partial-is}
+use Rattle.cells_atoms.proofs.Ports.{flips-agree, others-alike, one-missed}
+
+-- the flip of some sets at one port, with no set resized
+abbrev flipAt : List ℕ → ℕ → Change
+flipAt ss x = record { pairs = pairsAt ss x; resized = λ S. false }
+
+-- a sum over the ports of which only one counts
+one-port : (u : ℕ) (f : ℕ → ℕ) (x : ℕ) → x < u → ((z : ℕ) → z ≢ x → f z ≡ 0) → sum (eachPort u (λ z. f z ∷ [])) ≡ f x
+one-port zero f x l H = absurd (omega arith)
+one-port (suc u) f x l H = sum-port u f ∙ go (ℕ-discrete x u) (λ i. one-port u f x i H)
+  where
+    go : Dec (x ≡ u) → (x < u → sum (eachPort u (λ z. f z ∷ [])) ≡ f x) → sum (eachPort u (λ z. f z ∷ [])) + f u ≡ f x
+    go (yes i) h = rw i (omega (arith, ports-zero u f (λ p j. H p (λ e. omega arith))))
+    go (no i) h = omega (arith, h (omega arith), H u (λ e. i (sym e)))
+
+-- Some sets are resized; with that the sets ss are flipped at the port x, or at every port but some.
+module _ (u : ℕ) (u1 : 1 ≤ u) (ss : List ℕ) (but : ℕ → Bool) (resized : ℕ → Bool) (k₀ : Configuration)
+    (t : OldCells) (low : (b : ℕ) (e : Tuple) → t b e < modulus) (B : ℕ) (small : B < modulus) where
+  abbrev base : Change
+  base = record { pairs = []; resized = resized }
+
+  abbrev at : ℕ → Change
+  at x = record { pairs = pairsAt ss x; resized = resized }
+
+  abbrev others : Change
+  others = record { pairs = pairsBut u but ss; resized = resized }
+
+  abbrev among : ℕ → Bool
+  among S = someOf (eqb S) ss
+
+  -- In a row, what the flip at x adds to the resizing is the difference at x alone, by the row of the flip at every port but some.
+  pub row-at-once : (x : ℕ) → x < u → but x ≡ false → (k k′ : Configuration) → Flips (atOne among x) k₀ k → Flips (atOthers u among but) k₀ k′
+      → (n : Node) (c : Forest) (b d : ℕ) (e : Tuple) (sets : ℕ) → AllRegular (tree n c none) (suc d) → AllInRow among but e (tree n c none) (suc d)
+      → SetsBelow sets (tree n c none) (suc d) → LiteralsAtMost B k₀ (tree n c none) (suc d)
+      → sum (eachPort u (λ z. partial (flipAt ss x) (newCell u k (at x) t) (newCell u k₀ base t) n c b (suc d) (z ∷ e) ∷ [])) % modulus
+      ≡ (newCell u k′ others t n c b (suc d) (x ∷ e) + (modulus - newCell u k₀ base t n c b (suc d) (x ∷ e))) % modulus
+  unfolding PortsBelow forestHit touched
+  row-at-once x l free k k′ g g′ n c b d e sets r i s h =
+      let part = flipAt ss x in
+      let whole : Together u base part (at x) = pairs-together u [] (pairsAt ss x) resized tt (at-below u ss x l) in
+      let added : ℕ → ℕ = λ z. partial part (newCell u k (at x) t) (newCell u k₀ base t) n c b (suc d) (z ∷ e) in
+      let says = lists-at ss x (λ S. false) in
+      ap (λ (y : ℕ). y % modulus) (one-port u added x l
+      (λ z a. partial-none part _ _ n c b (suc d) (z ∷ e) (or-left _ _ (one-missed among but x e free part says z a (tree n c none) (suc d) i))))
+      ∙ partial-is u base part (at x) whole k₀ k u1 t low B small n c b (suc d) (x ∷ e) r
+      (agree-on part k₀ k sets (flips-agree sets (atOne among x) (λ S. false) part k₀ k says g) (tree n c none) (suc d) s) h
+      ∙ ap (λ (y : ℕ). (y + (modulus - newCell u k₀ base t n c b (suc d) (x ∷ e))) % modulus)
+      (new-cell-alike u u1 k (at x) k′ others (at-below u ss x l) (but-below u u but ss (omega arith)) t n c b (suc d) (x ∷ e) r
+      (others-alike among but x e free u l resized k₀ k (at x) k′ others (lists-at ss x resized) (lists-but u but ss resized) g g′ (tree n c none) (suc d) (x ∷ e) i itself))
