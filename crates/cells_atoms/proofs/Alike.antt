@@ -1,20 +1,20 @@
 -- Changes that are alike at and below a cell touch the same cells there and come to the same numbers. Assumes nothing.
 use mathlib.Core.Path.{_≡_, refl, sym, ap, ap₂, _∙_}
 use mathlib.Core.Bool.{Bool, true, false, cond, _||_}
-use mathlib.Core.List.{List, [], _∷_}
+use mathlib.Core.List.{List, _∷_}
 use Prim.Native.Nat.{ℕ, _+_, _-_, _^_, _≤_}
 use Rattle.logic.specs.Formula.{Literal, Node, root, all, any, and, or, lit, Forest, none, tree, childDepth}
 use Rattle.logic.specs.inner.Literals.{Every, OfLiteral, OfTest}
 use Rattle.logic.specs.Configuration.{Configuration}
 use Rattle.logic.specs.Truth.{Tuple}
-use Rattle.logic.specs.Penalty.{literalPenalty, combine, below}
+use Rattle.logic.specs.Penalty.{literalPenalty, combine}
 use Rattle.logic.specs.Cells.{siblingFirst}
 use Rattle.logic.specs.Change.{someOf, Change, hit, nodeHit, forestHit, touched, modulus, Renewal, renew, OldCells, renewals, newCell}
 use Rattle.logic.proofs.Touched.{treesTouched, PortsBelow, Inner, touched-below}
-use Rattle.cells_walk.specs.inner.Below.{Directly, at-lit}
+use Rattle.cells_walk.specs.inner.Below.{Directly}
 use Rattle.cells_walk.proofs.Frame.{below-directly}
 use Rattle.cells_atoms.specs.inner.Alike.{AlikeAt, Alike}
-use Rattle.cells_atoms.specs.inner.Atoms.{isAtom, overAtoms, EachAtom, difference, Regular, AllRegular}
+use Rattle.cells_atoms.specs.inner.Atoms.{overAtoms, EachAtom, difference, Regular, AllRegular}
 use Rattle.cells_atoms.proofs.Over.{each-by, over-same}
 
 pub or-none : (b : Bool) → (b || false) ≡ b

@@ -1,8 +1,10 @@
 -- Laws.
 pub mod Alike
 pub mod Atoms
+pub mod Examples
 pub mod Listing
 pub mod Over
 pub mod Parts
+pub mod Plans
 pub mod Ports
 pub mod Rows

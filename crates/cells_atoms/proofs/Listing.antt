@@ -1,14 +1,13 @@
 -- The changes that flip some sets at one port, and at every port but some, as lists of pairs. Assumes nothing.
 use mathlib.Core.Path.{_≡_, refl, sym, ap, ap₂, _∙_}
 use mathlib.Core.Bool.{Bool, true, false, cond, not, _&&_, _||_}
-use mathlib.Core.List.{List, [], _∷_, _++_}
+use mathlib.Core.List.{List, [], _∷_}
 use Prim.Native.Nat.{ℕ, zero, suc, _≤_, _<_}
 use native.Mathlib.Decide.{ℕ-discrete}
 use native.Mathlib.Omega.{arith}
 use lib.Dec.{eqb, ltb}
 use borrow.Author.Tests.{eq-eqb, ne-eqb, ltb-true, lt-ltb, le-ltb}
 use Rattle.logic.specs.inner.Agreement.{listed}
-use Rattle.logic.specs.Moves.{Pair}
 use Rattle.logic.specs.Change.{someOf}
 use Rattle.logic.proofs.Lists.{and-false, same-test, some-append}
 use Rattle.logic.proofs.Touched.{PortsBelow}

@@ -1,8 +1,8 @@
 -- A part of a change counts only at the cells that it touches. Assumes nothing.
-use mathlib.Core.Path.{_≡_, refl, sym, ap, ap₂, _∙_}
+use mathlib.Core.Path.{_≡_, refl, sym, ap, _∙_}
 use mathlib.Core.Bool.{Bool, true, false, cond, _&&_, _||_}
 use mathlib.Core.List.{List, [], _∷_, _++_}
-use Prim.Native.Nat.{ℕ, _+_, _-_, _^_, _%_, _≤_, _<_}
+use Prim.Native.Nat.{ℕ, _+_, _-_, _%_, _≤_, _<_}
 use native.Mathlib.Omega.{arith}
 use Rattle.logic.specs.Formula.{Test, isin, notin, port, size, Node, root, all, any, and, or, lit, Forest, none, tree, childDepth}
 use Rattle.logic.specs.inner.Agreement.{AgreeAt, AgreeOn}
@@ -11,14 +11,13 @@ use Rattle.logic.specs.Configuration.{Configuration}
 use Rattle.logic.specs.Truth.{Tuple}
 use Rattle.logic.specs.Cells.{CellRule}
 use Rattle.logic.specs.Moves.{Pair}
-use Rattle.logic.specs.Change.{someOf, Change, memberHit, hit, nodeHit, forestHit, touched, modulus, OldCells, newCell}
+use Rattle.logic.specs.Change.{Change, memberHit, hit, nodeHit, forestHit, touched, modulus, OldCells, newCell}
 use Rattle.logic.proofs.Lists.{or-left, or-right, or-false, some-append}
 use Rattle.logic.proofs.Touched.{PortsBelow}
 use Rattle.logic.proofs.Bound.{LiteralsAtMost}
-use Rattle.cells_walk.specs.inner.Below.{Directly}
 use Rattle.cells_walk.proofs.Frame.{directly-untouched}
 use Rattle.cells_atoms.specs.inner.Alike.{AlikeAt, Alike}
-use Rattle.cells_atoms.specs.inner.Atoms.{overAtoms, EachAtom, difference, AllRegular}
+use Rattle.cells_atoms.specs.inner.Atoms.{overAtoms, difference, AllRegular}
 use Rattle.cells_atoms.specs.inner.Parts.{Together, partial, crossed}
 use Rattle.cells_atoms.proofs.Alike.{or-none, new-cell-alike}
 use Rattle.cells_atoms.proofs.Atoms.{whole-difference, new-cell-fits, difference-is}

@@ -3,7 +3,6 @@ use mathlib.Core.Path.{_≡_}
 use mathlib.Core.Bool.{cond, _&&_, _||_}
 use Prim.Native.Nat.{ℕ, _+_, _-_}
 use Rattle.logic.specs.Formula.{Test}
-use Rattle.logic.specs.Configuration.{Configuration}
 use Rattle.logic.specs.Truth.{Tuple}
 use Rattle.logic.specs.Cells.{CellRule}
 use Rattle.logic.specs.Change.{Change, hit, touched, modulus}
