@@ -2,14 +2,14 @@
 use mathlib.Core.Path.{_≡_, refl, sym, ap, ap₂, _∙_}
 use mathlib.Core.Bool.{Bool, true, false, cond, _||_}
 use mathlib.Core.List.{List, _∷_}
-use Prim.Native.Nat.{ℕ, _+_, _-_, _^_, _≤_}
+use Prim.Native.Nat.{ℕ, _+_, _^_, _≤_}
 use Rattle.logic.specs.Formula.{Literal, Node, root, all, any, and, or, lit, Forest, none, tree, childDepth}
 use Rattle.logic.specs.inner.Literals.{Every, OfLiteral, OfTest}
 use Rattle.logic.specs.Configuration.{Configuration}
 use Rattle.logic.specs.Truth.{Tuple}
 use Rattle.logic.specs.Penalty.{literalPenalty, combine}
 use Rattle.logic.specs.Cells.{siblingFirst}
-use Rattle.logic.specs.Change.{someOf, Change, hit, nodeHit, forestHit, touched, modulus, Renewal, renew, OldCells, renewals, newCell}
+use Rattle.logic.specs.Change.{someOf, Change, hit, nodeHit, forestHit, touched, Renewal, renew, OldCells, renewals, newCell}
 use Rattle.logic.proofs.Touched.{treesTouched, PortsBelow, Inner, touched-below}
 use Rattle.cells_walk.specs.inner.Below.{Directly}
 use Rattle.cells_walk.proofs.Frame.{below-directly}
@@ -97,7 +97,7 @@ module _ (u : ℕ) (u1 : 1 ≤ u) (k : Configuration) (ch : Change) (k′ : Conf
 
       pub difference-alike : difference u k ch t n c b d e ≡ difference u k′ ch′ t n c b d e
       unfolding difference
-      difference-alike = ap₂ (λ (x : Bool) (y : ℕ). cond x (y + (modulus - t b e)) 0) touched-alike new-cell-alike
+      difference-alike = rw (touched-alike, new-cell-alike)
 
     -- so changes that are alike at each atom's cells have the same sum
     pub over-alike : (f : Forest) (b d : ℕ) (e : Tuple) → AllRegular f d → EachAtom u (λ n c b d e. Alike u k ch k′ ch′ (tree n c none) e) f b d e
