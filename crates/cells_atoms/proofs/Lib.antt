@@ -8,3 +8,4 @@ pub mod Parts
 pub mod Plans
 pub mod Ports
 pub mod Rows
+pub mod Tuples

@@ -17,7 +17,7 @@ use Rattle.cells_atoms.specs.inner.Atoms.{isAtom, overAtoms, EachAtom}
 -- A relation of three numbers that sums keep: of three sums over the same cells it holds if it holds of each cell's numbers.
 module _ (Q : ℕ → ℕ → ℕ → Type 0) (start : Q 0 0 0)
     (step : (a b c x y z : ℕ) → Q a b c → Q x y z → Q (a + x) (b + y) (c + z)) where
-  ports-kept : (u : ℕ) (f g h : ℕ → ℕ) → ((p : ℕ) → p < u → Q (f p) (g p) (h p))
+  pub ports-kept : (u : ℕ) (f g h : ℕ → ℕ) → ((p : ℕ) → p < u → Q (f p) (g p) (h p))
       → Q (sum (eachPort u (λ p. f p ∷ []))) (sum (eachPort u (λ p. g p ∷ []))) (sum (eachPort u (λ p. h p ∷ [])))
   unfolding eachPort sum
   ports-kept zero f g h H = start

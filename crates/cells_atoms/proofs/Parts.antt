@@ -11,7 +11,7 @@ use Rattle.logic.specs.Configuration.{Configuration}
 use Rattle.logic.specs.Truth.{Tuple}
 use Rattle.logic.specs.Cells.{CellRule}
 use Rattle.logic.specs.Moves.{Pair}
-use Rattle.logic.specs.Change.{Change, memberHit, hit, nodeHit, forestHit, touched, modulus, OldCells, newCell}
+use Rattle.logic.specs.Change.{someOf, Change, memberHit, hit, nodeHit, forestHit, touched, modulus, OldCells, newCell}
 use Rattle.logic.proofs.Lists.{or-left, or-right, or-false, some-append}
 use Rattle.logic.proofs.Touched.{PortsBelow}
 use Rattle.logic.proofs.Bound.{LiteralsAtMost}
@@ -28,17 +28,36 @@ unfolding PortsBelow
 below-append u [] rs h i = i
 below-append u (q ∷ qs) rs h i = (h .0, below-append u qs rs (h .1) i)
 
--- pairs put behind pairs, with the same sets resized
-pub pairs-together : (u : ℕ) (qs rs : List Pair) (resized : ℕ → Bool) → PortsBelow u qs → PortsBelow u rs
-    → Together u record { pairs = qs; resized = resized } record { pairs = rs; resized = λ S. false } record { pairs = qs ++ rs; resized = resized }
-unfolding hit
-pairs-together u qs rs resized h i = record { hits = go; below = below-append u qs rs h i; base-below = h }
-  where
-    go : (t : Test) (e : Tuple) → hit record { pairs = qs ++ rs; resized = resized } t e ≡ (hit record { pairs = qs; resized = resized } t e || hit record { pairs = rs; resized = λ S. false } t e)
-    go (port r v w) e = refl
-    go (size r S c) e = sym (or-none (resized S))
-    go (isin v S) e = some-append (memberHit v S e) qs rs
-    go (notin v S) e = some-append (memberHit v S e) qs rs
+-- Two changes put together: their pairs one behind the other, in either order, and the sets that one of both resizes.
+module _ (u : ℕ) (base part : Change) (resized : ℕ → Bool) (resized-is : (S : ℕ) → resized S ≡ (base .resized S || part .resized S))
+    (base-below : PortsBelow u (base .pairs)) (part-below : PortsBelow u (part .pairs)) where
+  hits-both : (qs : List Pair) → ((f : Pair → Bool) → someOf f qs ≡ (someOf f (base .pairs) || someOf f (part .pairs)))
+      → (t : Test) (e : Tuple) → hit record { pairs = qs; resized = resized } t e ≡ (hit base t e || hit part t e)
+  unfolding hit
+  hits-both qs h (port r v w) e = refl
+  hits-both qs h (size r S c) e = resized-is S
+  hits-both qs h (isin v S) e = h (memberHit v S e)
+  hits-both qs h (notin v S) e = h (memberHit v S e)
+
+  pub part-behind : Together u base part record { pairs = base .pairs ++ part .pairs; resized = resized }
+  part-behind = record {
+    hits = hits-both (base .pairs ++ part .pairs) (λ f. some-append f (base .pairs) (part .pairs));
+    below = below-append u (base .pairs) (part .pairs) base-below part-below;
+    base-below = base-below;
+  }
+
+  pub part-before : Together u base part record { pairs = part .pairs ++ base .pairs; resized = resized }
+  part-before = record {
+    hits = hits-both (part .pairs ++ base .pairs) (λ f. some-append f (part .pairs) (base .pairs) ∙ turned (someOf f (part .pairs)) (someOf f (base .pairs)));
+    below = below-append u (part .pairs) (base .pairs) part-below base-below;
+    base-below = base-below;
+  }
+    where
+      turned : (a b : Bool) → (a || b) ≡ (b || a)
+      turned true true = refl
+      turned true false = refl
+      turned false true = refl
+      turned false false = refl
 
 -- a number less another, by way of a third
 by-way-of : (new base old : ℕ) → base < modulus → (new + (modulus - old)) % modulus ≡ (base + (modulus - old) + (new + (modulus - base))) % modulus

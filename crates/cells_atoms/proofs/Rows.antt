@@ -21,10 +21,10 @@ use Rattle.cells_sum.proofs.Sums.{sum-port}
 use Rattle.cells_atoms.specs.inner.Atoms.{AllRegular}
 use Rattle.cells_atoms.specs.inner.Parts.{Together, partial}
 use Rattle.cells_atoms.specs.inner.Ports.{Flips, atOne, atOthers, pairsAt, pairsBut, AllInRow, itself}
-use Rattle.cells_atoms.proofs.Alike.{new-cell-alike}
+use Rattle.cells_atoms.proofs.Alike.{or-none, new-cell-alike}
 use Rattle.cells_atoms.proofs.Listing.{lists-at, lists-but, at-below, but-below}
 use Rattle.cells_atoms.proofs.Over.{ports-zero}
-use Rattle.cells_atoms.proofs.Parts.{pairs-together, partial-none, partial-is}
+use Rattle.cells_atoms.proofs.Parts.{part-behind, partial-none, partial-is}
 use Rattle.cells_atoms.proofs.Ports.{flips-agree, others-alike, one-missed}
 
 -- the flip of some sets at one port, with no set resized
@@ -64,7 +64,7 @@ module _ (u : ℕ) (u1 : 1 ≤ u) (ss : List ℕ) (but : ℕ → Bool) (resized 
   unfolding PortsBelow forestHit touched
   row-at-once x l free k k′ g g′ n c b d e sets r i s h =
       let part = flipAt ss x in
-      let whole : Together u base part (at x) = pairs-together u [] (pairsAt ss x) resized tt (at-below u ss x l) in
+      let whole : Together u base part (at x) = part-behind u base part resized (λ S. sym (or-none (resized S))) tt (at-below u ss x l) in
       let added : ℕ → ℕ = λ z. partial part (newCell u k (at x) t) (newCell u k₀ base t) n c b (suc d) (z ∷ e) in
       let says = lists-at ss x (λ S. false) in
       ap (λ (y : ℕ). y % modulus) (one-port u added x l

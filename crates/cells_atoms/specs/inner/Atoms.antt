@@ -2,12 +2,12 @@
 use mathlib.Core.Path.{_≡_}
 use mathlib.Core.Bool.{Bool, true, false, cond}
 use mathlib.Core.List.{[], _∷_}
-use Prim.Native.Nat.{ℕ, _+_, _-_, _^_}
+use Prim.Native.Nat.{ℕ, zero, suc, _+_, _-_, _^_}
 use Rattle.logic.specs.Formula.{Node, root, all, any, and, or, lit, Forest, none, tree, childDepth}
 use Rattle.logic.specs.inner.Literals.{Every}
 use Rattle.logic.specs.Configuration.{Configuration}
 use Rattle.logic.specs.Truth.{Tuple}
-use Rattle.logic.specs.Penalty.{sum, below}
+use Rattle.logic.specs.Penalty.{sum, eachPort, below}
 use Rattle.logic.specs.Cells.{CellRule, siblingFirst}
 use Rattle.logic.specs.Change.{Change, touched, modulus, OldCells, newCell}
 use Rattle.cells_walk.specs.inner.Below.{Directly}
@@ -27,6 +27,17 @@ overAtoms u g none b d e = 0
 overAtoms u g (tree n c s) b d e =
     cond (isAtom n) (g n c b d e) (sum (below u n e (λ x. overAtoms u g c (b + u ^ d) (childDepth n d) x ∷ [])))
     + overAtoms u g s (siblingFirst u n c b d) d e
+
+-- The same atom by atom: a number for each atom of a forest, by the atom, its children, its first cell and its depth; and a sum
+-- over the tuples that have m ports more than e.
+unfoldable pub ofAtoms : ℕ → (Node → Forest → ℕ → ℕ → ℕ) → Forest → ℕ → ℕ → ℕ
+ofAtoms u g none b d = 0
+ofAtoms u g (tree n c s) b d =
+    cond (isAtom n) (g n c b d) (ofAtoms u g c (b + u ^ d) (childDepth n d)) + ofAtoms u g s (siblingFirst u n c b d) d
+
+unfoldable pub overTuples : ℕ → ℕ → (Tuple → ℕ) → Tuple → ℕ
+overTuples u zero h e = h e
+overTuples u (suc m) h e = sum (eachPort u (λ p. overTuples u m h (p ∷ e) ∷ []))
 
 -- A rule holds at each of these cells.
 unfoldable pub EachAtom : ℕ → (Node → Forest → ℕ → ℕ → Tuple → Type 0) → Forest → ℕ → ℕ → Tuple → Type 0
