@@ -7,5 +7,6 @@ pub mod Over
 pub mod Parts
 pub mod Plans
 pub mod Ports
+pub mod Roots
 pub mod Rows
 pub mod Tuples

@@ -80,11 +80,15 @@ module _ (u : ℕ) (g h : CellRule) (f : Forest) (b d : ℕ) (e : Tuple) where
   over-two = over-kept (λ x y z. x ≡ y + z) refl (λ a b c x y z i j. omega arith) u (λ n c b d e. g n c b d e + h n c b d e) g h f b d e
       (each-by u (λ n c b d e. g n c b d e + h n c b d e ≡ g n c b d e + h n c b d e) (λ f b d e. Unit {0}) (λ n c s b d e x g i w. tt) (λ n c s b d e g. tt) (λ n c s b d e g i. refl) f b d e tt)
 
+pub over-zero : (u : ℕ) (g : CellRule) (f : Forest) (b d : ℕ) (e : Tuple) → EachAtom u (λ n c b d e. g n c b d e ≡ 0) f b d e → overAtoms u g f b d e ≡ 0
+over-zero u g f b d e = over-kept (λ x y z. x ≡ 0) refl (λ a b c x y z i j. omega arith) u g g g f b d e
+
+-- The same of sums over ports, and over the cells directly below a cell.
+pub ports-mod : (u : ℕ) (g h : ℕ → ℕ) → ((p : ℕ) → p < u → g p % modulus ≡ h p % modulus) → sum (eachPort u (λ p. g p ∷ [])) % modulus ≡ sum (eachPort u (λ p. h p ∷ [])) % modulus
+ports-mod u g h H = ports-kept (λ x y z. x % modulus ≡ y % modulus) refl (λ a b c x y z i j. sum-mod a b x y i j) u g h h H
+
 pub ports-zero : (u : ℕ) (g : ℕ → ℕ) → ((p : ℕ) → p < u → g p ≡ 0) → sum (eachPort u (λ p. g p ∷ [])) ≡ 0
 ports-zero u g H = ports-kept (λ x y z. x ≡ 0) refl (λ a b c x y z i j. omega arith) u g g g H
 
 pub below-zero : (u : ℕ) (n : Node) (e : Tuple) (g : Tuple → ℕ) → ((x : Tuple) → Directly u n e x → g x ≡ 0) → sum (below u n e (λ x. g x ∷ [])) ≡ 0
 below-zero u n e g H = below-kept (λ x y z. x ≡ 0) refl (λ a b c x y z i j. omega arith) u n e g g g H
-
-pub over-zero : (u : ℕ) (g : CellRule) (f : Forest) (b d : ℕ) (e : Tuple) → EachAtom u (λ n c b d e. g n c b d e ≡ 0) f b d e → overAtoms u g f b d e ≡ 0
-over-zero u g f b d e = over-kept (λ x y z. x ≡ 0) refl (λ a b c x y z i j. omega arith) u g g g f b d e

@@ -18,7 +18,7 @@ use Rattle.logic.proofs.Bound.{LiteralsAtMost}
 use Rattle.cells_walk.proofs.Frame.{directly-untouched}
 use Rattle.cells_atoms.specs.inner.Alike.{AlikeAt, Alike}
 use Rattle.cells_atoms.specs.inner.Atoms.{overAtoms, difference, AllRegular}
-use Rattle.cells_atoms.specs.inner.Parts.{Together, partial, crossed}
+use Rattle.cells_atoms.specs.inner.Parts.{Together, added, crossed}
 use Rattle.cells_atoms.proofs.Alike.{or-none, new-cell-alike}
 use Rattle.cells_atoms.proofs.Atoms.{whole-difference, new-cell-fits, difference-is}
 use Rattle.cells_atoms.proofs.Over.{each-by, sum-mod, over-mod, over-two}
@@ -65,9 +65,9 @@ unfolding modulus
 by-way-of new base old h = omega arith
 
 -- off the cells that it touches a part adds nothing
-pub partial-none : (part : Change) (new base : CellRule) (n : Node) (c : Forest) (b d : ℕ) (e : Tuple) → touched part n c e ≡ false → partial part new base n c b d e ≡ 0
-unfolding partial
-partial-none part new base n c b d e h = ap (λ (a : Bool). cond a (new n c b d e + (modulus - base n c b d e)) 0) h
+pub added-none : (part : Change) (new base : CellRule) (n : Node) (c : Forest) (b d : ℕ) (e : Tuple) → touched part n c e ≡ false → added part new base n c b d e ≡ 0
+unfolding added
+added-none part new base n c b d e h = ap (λ (a : Bool). cond a (new n c b d e + (modulus - base n c b d e)) 0) h
 
 module _ (u : ℕ) (base part ch : Change) (whole : Together u base part ch) (k₀ k : Configuration) where
   -- a test that the part does not hit
@@ -97,7 +97,7 @@ module _ (u : ℕ) (base part ch : Change) (whole : Together u base part ch) (k�
       )
 
   module _ (u1 : 1 ≤ u) (t : OldCells) where
-    part-missed : (n : Node) (c : Forest) (b d : ℕ) (e : Tuple) → AllRegular (tree n c none) d → AgreeOn part k₀ k (tree n c none) d → touched part n c e ≡ false
+    pub part-missed : (n : Node) (c : Forest) (b d : ℕ) (e : Tuple) → AllRegular (tree n c none) d → AgreeOn part k₀ k (tree n c none) d → touched part n c e ≡ false
         → newCell u k ch t n c b d e ≡ newCell u k₀ base t n c b d e
     unfolding touched forestHit
     part-missed n c b d e r g h =
@@ -105,32 +105,32 @@ module _ (u : ℕ) (base part ch : Change) (whole : Together u base part ch) (k�
 
     module _ (low : (b : ℕ) (e : Tuple) → t b e < modulus) (B : ℕ) (small : B < modulus) where
       -- modulo 2^32 what a part adds is the new number less that without it, touched or not
-      pub partial-is : (n : Node) (c : Forest) (b d : ℕ) (e : Tuple) → AllRegular (tree n c none) d → AgreeOn part k₀ k (tree n c none) d → LiteralsAtMost B k₀ (tree n c none) d
-          → partial part (newCell u k ch t) (newCell u k₀ base t) n c b d e % modulus ≡ (newCell u k ch t n c b d e + (modulus - newCell u k₀ base t n c b d e)) % modulus
-      unfolding partial
-      partial-is n c b d e r g h = whole-difference (touched part n c e) _ _ (new-cell-fits u k₀ base t low B small n c b d e h) (part-missed n c b d e r g)
+      pub added-is : (n : Node) (c : Forest) (b d : ℕ) (e : Tuple) → AllRegular (tree n c none) d → AgreeOn part k₀ k (tree n c none) d → LiteralsAtMost B k₀ (tree n c none) d
+          → added part (newCell u k ch t) (newCell u k₀ base t) n c b d e % modulus ≡ (newCell u k ch t n c b d e + (modulus - newCell u k₀ base t n c b d e)) % modulus
+      unfolding added
+      added-is n c b d e r g h = whole-difference (touched part n c e) _ _ (new-cell-fits u k₀ base t low B small n c b d e h) (part-missed n c b d e r g)
 
       -- of a cell: its difference without the part, and what the part adds
       part-differ : (n : Node) (c : Forest) (b d : ℕ) (e : Tuple) → AllRegular (tree n c none) d → AgreeOn part k₀ k (tree n c none) d → LiteralsAtMost B k₀ (tree n c none) d
-          → difference u k ch t n c b d e % modulus ≡ (difference u k₀ base t n c b d e + partial part (newCell u k ch t) (newCell u k₀ base t) n c b d e) % modulus
+          → difference u k ch t n c b d e % modulus ≡ (difference u k₀ base t n c b d e + added part (newCell u k ch t) (newCell u k₀ base t) n c b d e) % modulus
       part-differ n c b d e r g h =
           difference-is u k ch t n c b d e (low b e)
           ∙ by-way-of (newCell u k ch t n c b d e) (newCell u k₀ base t n c b d e) (t b e) (new-cell-fits u k₀ base t low B small n c b d e h)
-          ∙ sum-mod _ _ _ _ (sym (difference-is u k₀ base t n c b d e (low b e))) (sym (partial-is n c b d e r g h))
+          ∙ sum-mod _ _ _ _ (sym (difference-is u k₀ base t n c b d e (low b e))) (sym (added-is n c b d e r g h))
 
       -- The differences of a change over the atoms are those without the part and what the part adds.
       pub over-part : (f : Forest) (b d : ℕ) (e : Tuple) → AllRegular f d → AgreeOn part k₀ k f d → LiteralsAtMost B k₀ f d
           → overAtoms u (difference u k ch t) f b d e % modulus
-          ≡ (overAtoms u (difference u k₀ base t) f b d e + overAtoms u (partial part (newCell u k ch t) (newCell u k₀ base t)) f b d e) % modulus
+          ≡ (overAtoms u (difference u k₀ base t) f b d e + overAtoms u (added part (newCell u k ch t) (newCell u k₀ base t)) f b d e) % modulus
       unfolding AllRegular AgreeOn LiteralsAtMost Every
       over-part f b d e r g h =
-          over-mod u (difference u k ch t) (λ n c b d e. difference u k₀ base t n c b d e + partial part (newCell u k ch t) (newCell u k₀ base t) n c b d e) f b d e
+          over-mod u (difference u k ch t) (λ n c b d e. difference u k₀ base t n c b d e + added part (newCell u k ch t) (newCell u k₀ base t) n c b d e) f b d e
           (each-by u _ (λ f b d e. AllRegular f d × AgreeOn part k₀ k f d × LiteralsAtMost B k₀ f d)
           (λ n c s b d e x g i w. (g .0 .1, g .1 .1, g .2 .1))
           (λ n c s b d e g. (g .0 .2, g .1 .2, g .2 .2))
           (λ n c s b d e g i. part-differ n c b d e (g .0 .0, g .0 .1, tt) (g .1 .0, g .1 .1, tt) (g .2 .0, g .2 .1, tt))
           f b d e (r, g, h))
-          ∙ ap (λ (x : ℕ). x % modulus) (over-two u (difference u k₀ base t) (partial part (newCell u k ch t) (newCell u k₀ base t)) f b d e)
+          ∙ ap (λ (x : ℕ). x % modulus) (over-two u (difference u k₀ base t) (added part (newCell u k ch t) (newCell u k₀ base t)) f b d e)
 
 -- what a part adds beside another part, by what it adds alone
 crossed-number : (hit hit′ : Bool) (new new′ both base : ℕ) → new < modulus → new′ < modulus → base < modulus → (hit′ ≡ false → (both ≡ new) × (new′ ≡ base))
@@ -161,9 +161,9 @@ module _ (u : ℕ) (u1 : 1 ≤ u) (base part part′ ch ch′ both : Change) (k�
   crossed-differ : (n : Node) (c : Forest) (b d : ℕ) (e : Tuple) → AllRegular (tree n c none) d
       → AgreeOn part′ k₀ k′ (tree n c none) d × AgreeOn part′ k k″ (tree n c none) d
       → LiteralsAtMost B k₀ (tree n c none) d × LiteralsAtMost B k (tree n c none) d × LiteralsAtMost B k′ (tree n c none) d
-      → partial part after-both after′ n c b d e % modulus
-      ≡ (partial part after after-base n c b d e + crossed part part′ after-both after after′ after-base n c b d e) % modulus
-  unfolding partial crossed
+      → added part after-both after′ n c b d e % modulus
+      ≡ (added part after after-base n c b d e + crossed part part′ after-both after after′ after-base n c b d e) % modulus
+  unfolding added crossed
   crossed-differ n c b d e r g i =
       crossed-number (touched part n c e) (touched part′ n c e) _ _ _ _
       (new-cell-fits u k ch t low B small n c b d e (i .1)) (new-cell-fits u k′ ch′ t low B small n c b d e (i .2)) (new-cell-fits u k₀ base t low B small n c b d e (i .0))
@@ -172,17 +172,17 @@ module _ (u : ℕ) (u1 : 1 ≤ u) (base part part′ ch ch′ both : Change) (k�
   pub over-two-parts : (f : Forest) (b d : ℕ) (e : Tuple) → AllRegular f d → AgreeOn part k′ k″ f d → AgreeOn part′ k₀ k′ f d × AgreeOn part′ k k″ f d
       → LiteralsAtMost B k₀ f d × LiteralsAtMost B k f d × LiteralsAtMost B k′ f d
       → overAtoms u (difference u k″ both t) f b d e % modulus
-      ≡ (overAtoms u (difference u k₀ base t) f b d e + overAtoms u (partial part′ after′ after-base) f b d e
-      + (overAtoms u (partial part after after-base) f b d e + overAtoms u (crossed part part′ after-both after after′ after-base) f b d e)) % modulus
+      ≡ (overAtoms u (difference u k₀ base t) f b d e + overAtoms u (added part′ after′ after-base) f b d e
+      + (overAtoms u (added part after after-base) f b d e + overAtoms u (crossed part part′ after-both after after′ after-base) f b d e)) % modulus
   unfolding AllRegular AgreeOn LiteralsAtMost Every
   over-two-parts f b d e r a g i =
       over-part u ch′ part both one-more k′ k″ u1 t low B small f b d e r a (i .2)
       ∙ sum-mod _ _ _ _ (over-part u base part′ ch′ other k₀ k′ u1 t low B small f b d e r (g .0) (i .0))
-      (over-mod u (partial part after-both after′) (λ n c b d e. partial part after after-base n c b d e + crossed part part′ after-both after after′ after-base n c b d e) f b d e
+      (over-mod u (added part after-both after′) (λ n c b d e. added part after after-base n c b d e + crossed part part′ after-both after after′ after-base n c b d e) f b d e
       (each-by u _ (λ f b d e. AllRegular f d × (AgreeOn part′ k₀ k′ f d × AgreeOn part′ k k″ f d) × (LiteralsAtMost B k₀ f d × LiteralsAtMost B k f d × LiteralsAtMost B k′ f d))
       (λ n c s b d e x y z w. (y .0 .1, (y .1 .0 .1, y .1 .1 .1), (y .2 .0 .1, y .2 .1 .1, y .2 .2 .1)))
       (λ n c s b d e y. (y .0 .2, (y .1 .0 .2, y .1 .1 .2), (y .2 .0 .2, y .2 .1 .2, y .2 .2 .2)))
       (λ n c s b d e y z. crossed-differ n c b d e (y .0 .0, y .0 .1, tt) ((y .1 .0 .0, y .1 .0 .1, tt), (y .1 .1 .0, y .1 .1 .1, tt))
       ((y .2 .0 .0, y .2 .0 .1, tt), (y .2 .1 .0, y .2 .1 .1, tt), (y .2 .2 .0, y .2 .2 .1, tt)))
       f b d e (r, g, i))
-      ∙ ap (λ (x : ℕ). x % modulus) (over-two u (partial part after after-base) (crossed part part′ after-both after after′ after-base) f b d e))
+      ∙ ap (λ (x : ℕ). x % modulus) (over-two u (added part after after-base) (crossed part part′ after-both after after′ after-base) f b d e))

@@ -59,3 +59,7 @@ module _ (u : ℕ) where
       (tuples-case (isAtom n) d (g n c b d) _ []
       ∙ ap (cond (isAtom n) (overTuples u d (g n c b d) [])) (tuples-below n d (overAtoms u g c (b + u ^ d) (childDepth n d)) ∙ atoms-tuples g c (b + u ^ d) (childDepth n d)))
       (atoms-tuples g s (siblingFirst u n c b d) d)
+
+  pub atoms-each : (g : CellRule) (f : Forest) (b : ℕ) → overAtoms u g f b 0 [] ≡ ofAtoms u (λ n c b d. overTuples u d (g n c b d) []) f b 0
+  unfolding overTuples
+  atoms-each g f b = atoms-tuples g f b 0

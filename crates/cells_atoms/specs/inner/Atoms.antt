@@ -12,7 +12,7 @@ use Rattle.logic.specs.Cells.{CellRule, siblingFirst}
 use Rattle.logic.specs.Change.{Change, touched, modulus, OldCells, newCell}
 use Rattle.cells_walk.specs.inner.Below.{Directly}
 
--- A literal, an "or" and an exists; what is asked for among the children of a root, an "and" and a for all.
+-- An atom is a literal, an "or" or an exists above which stand only the root, "and" and for all: its node is one of these.
 unfoldable pub isAtom : Node → Bool
 isAtom root = false
 isAtom all = false

@@ -14,9 +14,9 @@ pub record Together (u : ℕ) (base part ch : Change) : Type 0 where
   pub below : PortsBelow u (ch .pairs)
   pub base-below : PortsBelow u (base .pairs)
 
--- The new number under one rule minus that under another, at the cells that a part touches.
-unfoldable pub partial : Change → CellRule → CellRule → CellRule
-partial part new base n c b d e = cond (touched part n c e) (new n c b d e + (modulus - base n c b d e)) 0
+-- What a part adds: at the cells that it touches, the new number with it minus that without it.
+unfoldable pub added : Change → CellRule → CellRule → CellRule
+added part new base n c b d e = cond (touched part n c e) (new n c b d e + (modulus - base n c b d e)) 0
 
 -- What two parts add together beside what each adds alone, at the cells that both touch.
 unfoldable pub crossed : Change → Change → CellRule → CellRule → CellRule → CellRule → CellRule
