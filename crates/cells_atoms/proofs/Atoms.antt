@@ -83,7 +83,7 @@ over-untouched u ch g H f b d e h =
 module _ (u : ℕ) (k : Configuration) (ch : Change) (t : OldCells) where
   difference-none : (n : Node) (c : Forest) (b d : ℕ) (e : Tuple) → touched ch n c e ≡ false → difference u k ch t n c b d e ≡ 0
   unfolding difference
-  difference-none n c b d e h = ap (λ (a : Bool). cond a (newCell u k ch t n c b d e + (modulus - t b e)) 0) h
+  difference-none n c b d e h = rw h
 
   -- modulo 2^32 a cell's difference is its new number less its old one, touched or not
   pub difference-is : (n : Node) (c : Forest) (b d : ℕ) (e : Tuple) → t b e < modulus

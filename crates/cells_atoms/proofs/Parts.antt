@@ -67,7 +67,7 @@ by-way-of new base old h = omega arith
 -- off the cells that it touches a part adds nothing
 pub added-none : (part : Change) (new base : CellRule) (n : Node) (c : Forest) (b d : ℕ) (e : Tuple) → touched part n c e ≡ false → added part new base n c b d e ≡ 0
 unfolding added
-added-none part new base n c b d e h = ap (λ (a : Bool). cond a (new n c b d e + (modulus - base n c b d e)) 0) h
+added-none part new base n c b d e h = rw h
 
 module _ (u : ℕ) (base part ch : Change) (whole : Together u base part ch) (k₀ k : Configuration) where
   -- a test that the part does not hit
