@@ -76,8 +76,8 @@ same-member pairs pairs′ k₀ k k′ g g′ v S e h =
     same-pair (inr i) = i (portOf e v) .0 ∙ sym (i (portOf e v) .1)
 
 -- configurations of which one has a change's pairs flipped agree off the change
-pub flips-agree : (n : ℕ) (pairs : Sets) (resized : ℕ → Bool) (ch : Change) (k₀ k : Configuration) → Lists pairs resized ch → Flips pairs k₀ k → AgreeOff n ch k₀ k
-flips-agree n pairs resized ch k₀ k l g = record {
+pub agree-off : (n : ℕ) (pairs : Sets) (resized : ℕ → Bool) (ch : Change) (k₀ k : Configuration) → Lists pairs resized ch → Flips pairs k₀ k → AgreeOff n ch k₀ k
+agree-off n pairs resized ch k₀ k l g = record {
   members = λ S p i h. g .members-are S p ∙ ap (λ (a : Bool). cond a (not (k₀ .member S p)) (k₀ .member S p)) (sym (l .listed-are S p) ∙ h);
   sizes = λ S i h. g .sizes-are S;
 }

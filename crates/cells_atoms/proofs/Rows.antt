@@ -27,7 +27,7 @@ use Rattle.cells_atoms.proofs.Alike.{or-none, new-cell-alike}
 use Rattle.cells_atoms.proofs.Listing.{lists-at, lists-but, at-below, but-below}
 use Rattle.cells_atoms.proofs.Over.{ports-mod, ports-zero}
 use Rattle.cells_atoms.proofs.Parts.{part-behind, added-none, added-is}
-use Rattle.cells_atoms.proofs.Ports.{flips-agree, others-alike, one-missed}
+use Rattle.cells_atoms.proofs.Ports.{agree-off, others-alike, one-missed}
 
 -- the flip of some sets at one port, with no set resized
 abbrev flipAt : List ℕ → ℕ → Change
@@ -63,7 +63,7 @@ module _ (u : ℕ) (u1 : 1 ≤ u) (ss : List ℕ) (but : ℕ → Bool) (resized 
 
   agree : (x : ℕ) (k : Configuration) → Flips (atOne among x) k₀ k → (sets : ℕ) (f : Forest) (d : ℕ) → SetsBelow sets f d → AgreeOn (flipAt ss x) k₀ k f d
   agree x k g sets f d s =
-      agree-on (flipAt ss x) k₀ k sets (flips-agree sets (atOne among x) (λ S. false) (flipAt ss x) k₀ k (lists-at ss x (λ S. false)) g) f d s
+      agree-on (flipAt ss x) k₀ k sets (agree-off sets (atOne among x) (λ S. false) (flipAt ss x) k₀ k (lists-at ss x (λ S. false)) g) f d s
 
   -- What the flip at x adds to the resizing at one tuple of an atom, and the same by numbers alone.
   abbrev addsAt : ℕ → Configuration → CellRule
