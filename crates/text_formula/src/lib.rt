@@ -1,5 +1,6 @@
 // Formula, disjunction, conjunction and unit, read by a cycle of calls that writes the tree as records. A unit with more than 64
-// of `(`, `~` and quantifiers around it is read by crate text_deep, without calls, so that the cycle is no deeper than that.
+// of `(`, `~` and quantifiers around it is read by crate text_deep, without calls, so that the cycle is no deeper than that; parts
+// that `&` or `|` joins are read in a loop.
 // Paper 01, section Plan text; ground 4.
 use text_deep::deep_unit;
 use text_grammar::Reading;
@@ -63,7 +64,7 @@ pub fn formula(text: &[u8], at: usize, out: &mut [u16], n: usize, d: usize) -> R
     }
 }
 
-// "A disjunction joins conjunctions by `|`": they are read in a loop, with a link behind each to the one before, and joined at the end.
+// "A disjunction joins conjunctions by `|`": a link to the link before stands behind each but the last, the joins behind the last.
 fn disjunction(text: &[u8], at: usize, out: &mut [u16], n: usize, d: usize) -> Reading
     requires { ⌜ ReaderRoom (now text) (now out) at n d ⌝ }
     ensures { λ r. ⌜ Reads disjunction (now (text .entry)) (now (out .entry)) (now (out .exit)) at n d r ⌝ }
@@ -93,7 +94,7 @@ fn disjunction(text: &[u8], at: usize, out: &mut [u16], n: usize, d: usize) -> R
     }
 }
 
-// "a conjunction joins units by `&`": read and joined likewise.
+// "a conjunction joins units by `&`", likewise.
 fn conjunction(text: &[u8], at: usize, out: &mut [u16], n: usize, d: usize) -> Reading
     requires { ⌜ ReaderRoom (now text) (now out) at n d ⌝ }
     ensures { λ r. ⌜ Reads conjunction (now (text .entry)) (now (out .entry)) (now (out .exit)) at n d r ⌝ }

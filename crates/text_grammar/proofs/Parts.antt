@@ -3,12 +3,12 @@ use mathlib.Core.Path.{_≡_, refl, sym, ap, _∙_}
 use mathlib.Core.List.{List, [], _∷_}
 use mathlib.Core.Bool.{Bool, true, false, _||_}
 use mathlib.Core.Option.{none, some}
-use Prim.Native.Nat.{ℕ, suc, _+_, _*_, _-_, _≤_, _<_}
+use Prim.Native.Nat.{ℕ, _+_, _*_, _-_, _≤_, _<_}
 use native.Mathlib.Omega.{arith}
 use lib.ListN.{length, getD, set}
 use Rattle.logic.proofs.Lists.{or-left, or-right}
 use Rattle.text_tree.specs.Tree.{Join, Tree, join, tooDeep}
-use Rattle.text_tree.specs.inner.Stored.{joinOperator, Stored}
+use Rattle.text_tree.specs.inner.Stored.{joinOperator}
 use Rattle.text_tree.specs.inner.Links.{Left, Linked, no-link, link, AllStored, none-stored, one-stored, joinedTo, JoinsRoom, JoinsWritten, WritesJoins}
 use Rattle.text_tree.proofs.Records.{pushed, stored-kept}
 use Rattle.text_tree.proofs.Links.{linked-from, linked-kept, all-kept, joins-long, joins-kept, joins-stored}

@@ -7,7 +7,7 @@ use lib.ListN.{length, getD, set}
 use Rattle.text_tree.specs.Tree.{Join, Tree, join}
 use Rattle.text_tree.specs.inner.Stored.{joinOperator, Stored, of-join}
 use Rattle.text_tree.specs.inner.Links.{Left, Linked, no-link, link, AllStored, none-stored, one-stored, joinedTo, withJoins, JoinsRoom, JoinsWritten}
-use Rattle.text_tree.proofs.Records.{Pushed, pushed, record-kept, stored-kept, before-record}
+use Rattle.text_tree.proofs.Records.{pushed, record-kept, stored-kept, before-record}
 
 pub linked-from : {t : List ℕ} {n e : ℕ} {ps : List Left} → Linked t n e ps → n ≤ e
 linked-from no-link = omega arith
