@@ -28,7 +28,7 @@ fn member_penalty(inside: u32, outside: u32, mask: u64, p: u32) -> u32
     outside
 }
 
-// The same by one of 32 bits of a mask: so many make vector instructions, where those of 64 bits have no shift of their own.
+// The same by half a mask: a vector holds four numbers of 32 bits, and shifts them in fewer steps than two of 64.
 fn bit_penalty(inside: u32, outside: u32, half: u32, p: u32) -> u32
     requires { ⌜ p < 32 ⌝ }
     ensures { λ r. ⌜ r ≡ cond (inMask half p) inside outside ⌝ }
