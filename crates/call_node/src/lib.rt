@@ -4,14 +4,13 @@ use contracts::Part;
 use logic::wide;
 ghost use mathlib.Core.Path.{_≡_};
 ghost use Prim.Native.Nat.{_≤_};
-ghost use lib.ListN.{length};
 ghost use Rattle.call_node.specs.inner.Bounds.{boundAt};
 ghost use Rattle.contracts.specs.NodeCells.{nodeCells, PartGives};
 ghost use Rattle.table_format.specs.Decode.{decode};
 
 // Where the cells of node i begin; where the last node's end, if there is no node i.
-pub fn bound_of(firsts: &[u32], i: usize, nodes: usize, total: usize) -> usize
-    requires { ⌜ nodes ≤ length (now firsts) ⌝ }
+pub fn bound_of(firsts: &[u32; 512], i: usize, nodes: usize, total: usize) -> usize
+    requires { ⌜ nodes ≤ 512 ⌝ }
     ensures { λ r. ⌜ r ≡ boundAt (now (firsts .entry)) i nodes total ⌝ }
 {
     if i < nodes {

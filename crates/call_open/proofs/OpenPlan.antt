@@ -70,7 +70,6 @@ change-ready t ch c says after settled = record {
   ports-are = t .opened .ports-are;
   sets-are = t .opened .sets-are;
   indexed = t .opened .indexed;
-  long = t .long;
   change = ch;
   says = says;
   masks-settled = settled;

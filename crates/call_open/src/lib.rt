@@ -51,9 +51,9 @@ fn closed(number: u8) -> Opened
 pub fn open_cells(
     table: &[u8],
     shortest: usize,
-    firsts: &mut [u32],
-    ends: &mut [u16],
-    uses: &mut [u64],
+    firsts: &mut [u32; 512],
+    ends: &mut [u16; 512],
+    uses: &mut [u64; 512],
 ) -> Opened
     requires { ⌜ IndexRoom (now firsts) (now ends) (now uses) ⌝ }
     ensures { λ r. ⌜ OpensCells (now (table .entry)) shortest r (now (firsts .exit)) (now (ends .exit)) (now (uses .exit)) ⌝ }
@@ -79,9 +79,9 @@ pub fn open_tables(
     table: &[u8],
     masks: &[u64],
     shortest: usize,
-    firsts: &mut [u32],
-    ends: &mut [u16],
-    uses: &mut [u64],
+    firsts: &mut [u32; 512],
+    ends: &mut [u16; 512],
+    uses: &mut [u64; 512],
 ) -> Opened
     requires { ⌜ IndexRoom (now firsts) (now ends) (now uses) ⌝ }
     ensures { λ r. ⌜ Opens (now (table .entry)) (now (masks .entry)) shortest r (now (firsts .exit)) (now (ends .exit)) (now (uses .exit)) ⌝ }

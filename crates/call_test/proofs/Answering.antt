@@ -14,7 +14,7 @@ use Rattle.logic.specs.InTest.{testGrounds, testMasks, testChange}
 use Rattle.logic.proofs.InTest.{test-mask-flip}
 use Rattle.table_format.specs.Decode.{Decoded, sound, decode}
 use Rattle.cells_sum.specs.declared.After.{After}
-use Rattle.cells_walk.specs.inner.Visit.{TablesLong, CellsFit}
+use Rattle.cells_walk.specs.inner.Visit.{CellsFit}
 use Rattle.contracts.specs.State.{State, tables, ownTables, withRest}
 use Rattle.contracts.specs.declared.Moved.the-variants.{Accepted, Refused}
 use Rattle.contracts.specs.MoveCall.{MoveValues, moveRefused, moveAccepted, moveValues, MoveTold, MadeAs}
@@ -46,11 +46,11 @@ module _ {ports sets : ℕ} {bytes masks : List ℕ} {shortest : ℕ} {firsts en
 
 -- neither 14 nor 20 applies to the port
 pub port-ready : {ports sets : ℕ} {bytes masks cells : List ℕ} {firsts ends uses : List ℕ} (o : OpenPlan ports sets bytes masks (length cells) firsts ends uses)
-    → TablesLong firsts ends uses → CellsFit cells → (into : Bool) (p n : ℕ) → PortNumber ports sets into p masks n → n ≡ 0
+    → CellsFit cells → (into : Bool) (p n : ℕ) → PortNumber ports sets into p masks n → n ≡ 0
     → PortReady ports sets bytes firsts ends uses masks cells p
-port-ready o long fit into p n number z =
+port-ready o fit into p n number z =
     let f = test-free (o .plan) _ into p (sym (number-is o into p n number) ∙ z) in
-    record { tables-open = record { opened = o; long = long; cells-fit = fit }; below = omega (arith, f .0, o .ports-are) }
+    record { tables-open = record { opened = o; cells-fit = fit }; below = omega (arith, f .0, o .ports-are) }
 
 -- a ground applies
 pub test-refused : (d : Decoded) (into : Bool) (p : ℕ) (s : State) (n : ℕ) → (n ≡ 0 → ⊥) → refusal (testCallGrounds d s into p) ≡ n

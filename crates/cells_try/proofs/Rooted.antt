@@ -16,8 +16,8 @@ use Rattle.cells_try.specs.inner.Walking.{WalkReady, CellReady, CellGive
 
 module _ (u sets : ℕ) (c : Changed) (bytes firsts ends uses masks cells : List ℕ) (r : RootReady u sets c bytes firsts ends uses masks cells) where
   -- under any change that is told so
-  abbrev ready-for : (ch : Change) → Describes u ch c → WalkReady u sets c firsts ends uses masks cells ch
-  ready-for ch says = record { says = says; masks-settled = r .masks-settled; cells-fit = r .cells-fit; long = r .long }
+  abbrev ready-for : (ch : Change) → Describes u ch c → WalkReady u sets c masks cells ch
+  ready-for ch says = record { says = says; masks-settled = r .masks-settled; cells-fit = r .cells-fit }
 
   abbrev visit-for : (ch : Change) → Describes u ch c
       → Visit u sets ch bytes firsts ends uses cells 0 (tree root (below-root (r .plan) bytes (r .decodes)) none) 0 0 [] 0 0 (firstWord c)

@@ -18,7 +18,7 @@ use Rattle.logic.specs.Penalty.{eachPort, sum}
 use Rattle.logic.specs.Cells.{placeOf, siblingFirst, tabulate}
 use Rattle.logic.specs.Change.{Change, forestHit, touched, modulus, cellOf}
 use Rattle.logic.proofs.Bound.{LiteralsAtMost, literals-low, sizes-64}
-use Rattle.logic.proofs.Lists.{or-right, or-false}
+use Rattle.logic.proofs.Lists.{or-false}
 use Rattle.logic.proofs.Tables.{place-lt, length-tabulate}
 use Rattle.table_format.specs.Bytes.{kindField, recordAt}
 use Rattle.table_format.specs.Rules.{treeCount}
@@ -83,7 +83,7 @@ module _ (u sets : ℕ) (c : Changed) (bytes firsts ends uses masks cells : List
   Standing ch i f b d e row digits word = RowVisit u sets ch bytes firsts ends uses cells i f b d e row digits word
 
   abbrev Walks : Change → Type 0
-  Walks ch = WalkReady u sets c firsts ends uses masks cells ch
+  Walks ch = WalkReady u sets c masks cells ch
 
   -- what a visited row says of itself
   module _ (i d row digits word : ℕ) (ch : Change) (n : Node) (f s : Forest) (b : ℕ) (e : Tuple) (ready : Walks ch) (v : Standing ch i (tree n f s) b d e row digits word) where
@@ -390,14 +390,9 @@ module _ (u sets : ℕ) (c : Changed) (bytes firsts ends uses masks cells : List
     ports-by-row add old new more acc r was gives v m ch (tree n f (tree n′ f′ s)) b e ready w o = absurd (omega arith)
 
     -- the ports of the change alone
-    pub pair-of : (acc : Sum) (all add : Bool) (used : ℕ) → PortsReady u sets c bytes firsts ends uses masks cells i d row digits word acc → used ≡ getD uses i 0
-        → all ≡ (not add || meets used (restWord word d)) → all ≡ false → PairReady u sets c bytes firsts ends uses masks cells i d row digits word acc
-    pair-of acc all add used r us al h =
-        record { ports = r; few = ap (λ (x : ℕ). meets x (restWord word d)) (sym us) ∙ or-right (not add) _ (sym al ∙ h) }
-
-    pub pair-gives : (acc r : Sum) (all add : Bool) (used : ℕ) → all ≡ (not add || meets used (restWord word d)) → all ≡ false → So true u acc r → So add u acc r
-    pair-gives acc r all true used al h so = so
-    pair-gives acc r all false used al h so = absurd (true≢false (sym al ∙ h))
+    pub pair-of : (acc : Sum) (used rest : ℕ) (every : Bool) → PortsReady u sets c bytes firsts ends uses masks cells i d row digits word acc
+        → used ≡ getD uses i 0 → rest ≡ restWord word d → every ≡ meets used rest → every ≡ false → PairReady u sets c bytes firsts ends uses masks cells i d row digits word acc
+    pair-of acc used rest every r us re ev h = record { ports = r; few = rest-met used rest every us re ev false h }
 
     pub pair-begin : (acc : Sum) → acc .changed < modulus → So true 0 acc acc
     unfolding PortsSo

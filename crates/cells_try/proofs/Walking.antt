@@ -1,5 +1,5 @@
 -- What the walk asks at each of its steps, and what follows from what the steps give. Assumes nothing.
-use mathlib.Core.Path.{_≡_, sym, ap, ap₂, _∙_, subst}
+use mathlib.Core.Path.{_≡_, refl, sym, ap, ap₂, _∙_, subst}
 use mathlib.Core.Bool.{Bool, true, false, not, _&&_}
 use mathlib.Core.List.{List, [], _∷_}
 use Prim.Native.Nat.{ℕ, suc, _+_, _*_, _^_, _%_, _≤_, _<_}
@@ -27,10 +27,10 @@ use Rattle.cells_sum.specs.declared.After.{After}
 use Rattle.cells_sum.specs.declared.Sum.{Sum}
 use Rattle.cells_walk.specs.inner.Nodes.{NodeIs, TestFits, NodeFits, Fitting}
 use Rattle.cells_walk.specs.inner.Visit.{Visit, CellsFit, CellAfter, RowVisit, TestAt, RecordReady, RecordAfresh, Afresh}
-use Rattle.cells_walk.proofs.KindOf.{adds-kind, Quantifier, Joint, quantifier-of, joint-of, literal-of}
+use Rattle.cells_walk.proofs.KindOf.{adds-kind, Quantifier, Joint, quantifier-of, quantifier-few, joint-of, literal-of}
 use Rattle.cells_walk.proofs.Visits.{all-constants, node-here, fits-here, node-below, room-here, visit-next, visit-children, visit-ports, touched-here}
 use Rattle.cells_walk.proofs.Outcomes.{begun-fits, untouched-after, literal-cell, inner-cell, trees-more, trees-none}
-use Rattle.cells_try.specs.inner.Walking.{WalkReady, CellReady, CellTouched, CellGives, TreesReady, TreesGive, PortsReady, PortsSo}
+use Rattle.cells_try.specs.inner.Walking.{WalkReady, CellReady, CellTouched, QuantifierReady, CellGives, TreesReady, TreesGive, PortsReady, PortsSo}
 use Rattle.cells_try.proofs.Remaining.{Remaining, remains-first, remains-next}
 
 pub width-low : (u d : ℕ) → u ≤ 64 → d ≤ 3 → u ^ d ≤ 262144
@@ -68,6 +68,11 @@ unfolding treeCount Fitting Every
 first-tree none d sets h v = absurd (omega arith)
 first-tree (tree n c s) d sets h v = v .0 .depth3
 
+some-node : (f : Forest) → treeCount f ≡ 1 → 1 ≤ nodeCount f
+unfolding treeCount nodeCount
+some-node none h = absurd (omega arith)
+some-node (tree n c s) h = omega arith
+
 module _ (u sets : ℕ) (c : Changed) (bytes firsts ends uses masks cells : List ℕ) where
   abbrev after : Configuration
   after = configured u sets (inMasks masks)
@@ -81,7 +86,7 @@ module _ (u sets : ℕ) (c : Changed) (bytes firsts ends uses masks cells : List
 
   module _ (i d place digits word : ℕ) where
     -- what a visited cell says of itself
-    module _ (ch : Change) (n : Node) (f s : Forest) (b : ℕ) (e : Tuple) (ready : WalkReady u sets c firsts ends uses masks cells ch)
+    module _ (ch : Change) (n : Node) (f s : Forest) (b : ℕ) (e : Tuple) (ready : WalkReady u sets c masks cells ch)
         (v : Standing ch i (tree n f s) b d e place digits word) where
       pub here : NodeIs bytes firsts ends uses i n f b
       here = node-here u sets ch bytes firsts ends uses cells i n f s b d e place digits word v
@@ -143,15 +148,6 @@ module _ (u sets : ℕ) (c : Changed) (bytes firsts ends uses masks cells : List
       pub node-low : i < 512
       node-low = node-below u sets (r .change) bytes firsts ends uses cells i (r .node) (r .children) (r .siblings) (r .first) d (r .tuple) place digits word (r .visit)
 
-      pub firsts-room : i < length firsts
-      firsts-room = omega (arith, node-low, r .ready .long .firsts-long)
-
-      pub ends-room : i < length ends
-      ends-room = omega (arith, node-low, r .ready .long .ends-long)
-
-      pub uses-room : i < length uses
-      uses-room = omega (arith, node-low, r .ready .long .uses-long)
-
       pub cell-room : getD firsts i 0 + place < length cells
       cell-room = room-here u sets (r .change) bytes firsts ends uses cells i (r .node) (r .children) (r .siblings) (r .first) d (r .tuple) place digits word (r .visit) (r .ready .masks-settled .ports1)
 
@@ -178,24 +174,15 @@ module _ (u sets : ℕ) (c : Changed) (bytes firsts ends uses masks cells : List
             };
           }
 
-      module _ (old kind end : ℕ) (add : Bool) (start : Sum) (o : old ≡ getD cells (getD firsts i 0 + place) 0)
-          (kd : kind ≡ kindField (recordAt bytes i)) (en : end ≡ getD ends i 0) (ad : add ≡ eqb (kind % 2) 1) (st : (start .value ≡ begun add old) × (start .changed ≡ 0)) where
-        pub ports-ready : (leb 1 kind && leb kind 2) ≡ true → PortsReady u sets c bytes firsts ends uses masks cells (i + 1) d (place * u) digits word start
-        ports-ready h =
-            let q = quantifier-of (r .node) kind (kd ∙ node-ready .kind-is) h in record {
-              change = r .change;
-              forest = r .children;
-              first = r .first + u ^ d;
-              tuple = r .tuple;
-              ready = r .ready;
-              visit = ports-here (r .change) (r .node) (r .children) (r .siblings) (r .first) (r .tuple) (r .ready) (r .visit) q;
-              one = one-here (r .change) (r .node) (r .children) (r .siblings) (r .first) (r .tuple) (r .ready) (r .visit) q;
-              few = zero-few (start .changed) (st .1);
-              low = rw (st .0) (begun-fits add old (rw o (all-fit cells (r .ready .cells-fit) (getD firsts i 0 + place))));
-            }
+      pub quantifier-ready : (used : ℕ) (met : Bool) (kind : ℕ) → used ≡ getD uses i 0 → met ≡ meets used word → met ≡ true → kind ≡ kindField (recordAt bytes i)
+          → (leb 1 kind && leb kind 2) ≡ true → QuantifierReady u sets c bytes firsts ends uses masks cells i d place digits word
+      quantifier-ready used met kind us m h kd q =
+          record { cell = touched-ready used met us m h; quantifier = ap (λ (x : ℕ). leb 1 x && leb x 2) (sym kd) ∙ q }
 
-        pub trees-ready : kind < 5 → (leb 1 kind && leb kind 2) ≡ false → TreesReady u sets c bytes firsts ends uses masks cells (i + 1) end d place digits word start
-        trees-ready l h = record {
+      module _ (old kind : ℕ) (add : Bool) (start : Sum) (kd : kind ≡ kindField (recordAt bytes i)) (st : (start .value ≡ begun add old) × (start .changed ≡ 0)) where
+        pub trees-ready : (end : ℕ) → end ≡ getD ends i 0 → kind < 5 → (leb 1 kind && leb kind 2) ≡ false
+            → TreesReady u sets c bytes firsts ends uses masks cells (i + 1) end d place digits word start
+        trees-ready end en l h = record {
           change = r .change;
           forest = r .children;
           first = r .first + u ^ d;
@@ -207,6 +194,37 @@ module _ (u sets : ℕ) (c : Changed) (bytes firsts ends uses masks cells : List
           few = zero-few (start .changed) (st .1);
         }
 
+    -- what the steps at a quantifier's cell ask
+    module _ (r : QuantifierReady u sets c bytes firsts ends uses masks cells i d place digits word) where
+      abbrev at : CellReady u sets c bytes firsts ends uses masks cells i d place digits word
+      at = r .cell .begins
+
+      abbrev binds : Quantifier (at .node)
+      binds = quantifier-of (at .node) (kindField (recordAt bytes i)) (node-ready at .kind-is) (r .quantifier)
+
+      abbrev child-visit : RowVisit u sets (at .change) bytes firsts ends uses cells (i + 1) (at .children) (at .first + u ^ d) d (at .tuple) (place * u) digits word
+      child-visit = ports-here (at .change) (at .node) (at .children) (at .siblings) (at .first) (at .tuple) (at .ready) (at .visit) binds
+
+      abbrev one-child : treeCount (at .children) ≡ 1
+      one-child = one-here (at .change) (at .node) (at .children) (at .siblings) (at .first) (at .tuple) (at .ready) (at .visit) binds
+
+      pub child-low : i + 1 < 512
+      child-low = omega (arith, child-visit .nodes, some-node (at .children) one-child)
+
+      pub ports-ready : (old : ℕ) (add : Bool) (start : Sum) → old ≡ getD cells (getD firsts i 0 + place) 0 → (start .value ≡ begun add old) × (start .changed ≡ 0)
+          → PortsReady u sets c bytes firsts ends uses masks cells (i + 1) d (place * u) digits word start
+      ports-ready old add start o st = record {
+        change = at .change;
+        forest = at .children;
+        first = at .first + u ^ d;
+        tuple = at .tuple;
+        ready = at .ready;
+        visit = child-visit;
+        one = one-child;
+        few = zero-few (start .changed) (st .1);
+        low = rw (st .0) (begun-fits add old (rw o (all-fit cells (at .ready .cells-fit) (getD firsts i 0 + place))));
+      }
+
     -- what the steps at a cell come to
     module _ (old used : ℕ) (o : old ≡ getD cells (getD firsts i 0 + place) 0) (us : used ≡ getD uses i 0) where
       pub gives-untouched : (r : After) → meets used word ≡ false → r .old ≡ old → r .value ≡ old → r .changed ≡ 0
@@ -217,7 +235,7 @@ module _ (u sets : ℕ) (c : Changed) (bytes firsts ends uses masks cells : List
 
       gives-lit : (used′ value : ℕ) (r : After) → used′ ≡ getD uses i 0 → meets used′ word ≡ true → RecordAfresh u sets d bytes i masks digits value
           → (r .old ≡ old) × (r .value ≡ value) × (r .changed ≡ (indicator (not (eqb value old)) + 0) % 4294967296)
-          → (ch : Change) (n : Node) (f s : Forest) (b : ℕ) (e : Tuple) (ready : WalkReady u sets c firsts ends uses masks cells ch)
+          → (ch : Change) (n : Node) (f s : Forest) (b : ℕ) (e : Tuple) (ready : WalkReady u sets c masks cells ch)
           (v : Standing ch i (tree n f s) b d e place digits word) (l : Literal) → n ≡ lit l → CellAfter u after ch (cellOf u cells) n f b d e r
       unfolding RecordAfresh Afresh modulus
       gives-lit used′ value r us′ m fresh cl ch n f s b e ready v l q =
@@ -236,7 +254,7 @@ module _ (u sets : ℕ) (c : Changed) (bytes firsts ends uses masks cells : List
             let l = literal-of n kind (kd ∙ here ch n f s b e ready v .kind-is) h in
             gives-lit used value r us m fresh cl ch n f s b e ready v (l .0) (l .1)
 
-        module _ (end : ℕ) (add : Bool) (start sums : Sum) (r : After) (en : end ≡ getD ends i 0) (ad : add ≡ eqb (kind % 2) 1) (few : kind < 5)
+        module _ (add : Bool) (start sums : Sum) (r : After) (ad : add ≡ eqb (kind % 2) 1)
             (st : (start .value ≡ begun add old) × (start .changed ≡ 0))
             (cl : (r .old ≡ old) × (r .value ≡ sums .value) × (r .changed ≡ (indicator (not (eqb (sums .value) old)) + sums .changed) % 4294967296)) where
           pub gives-ports : (leb 1 kind && leb kind 2) ≡ true
@@ -247,7 +265,7 @@ module _ (u sets : ℕ) (c : Changed) (bytes firsts ends uses masks cells : List
               let q = quantifier-of n kind (kd ∙ here ch n f s b e ready v .kind-is) h in
               let p = so ch f (b + u ^ d) e ready (ports-here ch n f s b e ready v q) (one-here ch n f s b e ready v q) in
               let ol = old-here ch n f s b e ready v old o in
-              let an = ad ∙ adds-kind n kind (kd ∙ here ch n f s b e ready v .kind-is) few in
+              let an = ad ∙ adds-kind n kind (kd ∙ here ch n f s b e ready v .kind-is) (quantifier-few kind h) in
               inner-cell u after ch (cellOf u cells) (ready .masks-settled .ports1) (cells-low (ready .cells-fit)) n f b d e r sums (literals ch n f s b e ready v) (q .inner)
               (fits ch n f s b e ready v .children) (touched-is ch n f s b e ready v used true us m) (cl .0 ∙ ol)
               (p .value-is ∙ ap₂ (λ (x : Bool) (y : ℕ). gathered x y (eachPort u (λ z. renewals u after ch (cellOf u cells) f (b + u ^ d) (suc d) (z ∷ e)))) an (st .0 ∙ ap₂ begun an ol)
@@ -259,11 +277,11 @@ module _ (u sets : ℕ) (c : Changed) (bytes firsts ends uses masks cells : List
               ∙ ap (λ (x : ℕ). eachPort u (λ z. changes u after ch (cellOf u cells) f (b + u ^ d) x (z ∷ e) ∷ [])) (q .deeper d)))))
               (cl .1) (cl .2 ∙ ap (λ (x : ℕ). (indicator (not (eqb (sums .value) x)) + sums .changed) % 4294967296) (sym (cl .0)))
 
-          pub gives-trees : (leb 1 kind && leb kind 2) ≡ false
+          pub gives-trees : (end : ℕ) → end ≡ getD ends i 0 → kind < 5 → (leb 1 kind && leb kind 2) ≡ false
               → TreesGive u sets c bytes firsts ends uses masks cells (i + 1) end d place digits word add start sums
               → CellGives u sets c bytes firsts ends uses masks cells i d place digits word r
           unfolding CellGives TreesGive modulus
-          gives-trees h so ch n f s b e ready v =
+          gives-trees end en few h so ch n f s b e ready v =
               let q = joint-of n kind (kd ∙ here ch n f s b e ready v .kind-is) few h in
               let p = so ch f (b + u ^ d) e ready (trees-here ch n f s b e ready v q) (end-here ch n f s b e ready v end en) in
               let ol = old-here ch n f s b e ready v old o in
@@ -278,6 +296,14 @@ module _ (u sets : ℕ) (c : Changed) (bytes firsts ends uses masks cells : List
               ∙ ap sum (sym (q .counted u e (λ x. changes u after ch (cellOf u cells) f (b + u ^ d) (childDepth n d) x ∷ [])
               ∙ ap (λ (x : ℕ). changes u after ch (cellOf u cells) f (b + u ^ d) x e ∷ []) (q .level d)))))
               (cl .1) (cl .2 ∙ ap (λ (x : ℕ). (indicator (not (eqb (sums .value) x)) + sums .changed) % 4294967296) (sym (cl .0)))
+
+    pub quantifier-gives : QuantifierReady u sets c bytes firsts ends uses masks cells i d place digits word → (old kind : ℕ) (add : Bool) (start sums : Sum) (r : After)
+        → old ≡ getD cells (getD firsts i 0 + place) 0 → kind ≡ kindField (recordAt bytes i) → add ≡ eqb (kind % 2) 1 → (start .value ≡ begun add old) × (start .changed ≡ 0)
+        → (r .old ≡ old) × (r .value ≡ sums .value) × (r .changed ≡ (indicator (not (eqb (sums .value) old)) + sums .changed) % 4294967296)
+        → PortsSo u sets c bytes firsts ends uses masks cells (i + 1) d (place * u) digits word add u start sums
+        → CellGives u sets c bytes firsts ends uses masks cells i d place digits word r
+    quantifier-gives q old kind add start sums r o kd ad st cl so =
+        gives-ports old (getD uses i 0) o refl kind (q .cell .touched) kd add start sums r ad st cl (ap (λ (x : ℕ). leb 1 x && leb x 2) kd ∙ q .quantifier) so
 
   -- the trees of a forest
   module _ (i until d place digits word : ℕ) where

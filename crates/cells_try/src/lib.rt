@@ -22,7 +22,6 @@ use cells_touch::rest_word;
 use cells_walk::by_cells;
 use cells_walk::cell_at;
 use cells_walk::end_at;
-use cells_walk::every_port;
 use cells_walk::first_port;
 use cells_walk::is_quantifier;
 use cells_walk::kept;
@@ -36,14 +35,14 @@ use cells_walk::with_port;
 use std::num::wrapping_add_u32;
 ghost use mathlib.Core.Bool.{true};
 ghost use Rattle.cells_walk.specs.inner.Root.{RootReady, RootGives};
-ghost use Rattle.cells_try.specs.inner.Walking.{CellReady, CellTouched, CellGives, TreesReady, TreesGive, PortsReady, PairReady, PortsSo, RowReady, RowGives, RowCellsReady, RowJoinReady, RowJoins, RowTreesReady, RowTreesGive};
+ghost use Rattle.cells_try.specs.inner.Walking.{CellReady, CellTouched, QuantifierReady, CellGives, TreesReady, TreesGive, PairReady, PortsSo, RowReady, RowGives, RowCellsReady, RowJoinReady, RowJoins, RowTreesReady, RowTreesGive};
 
 // A cell's old number, its new one, and how many cells at or below it differ from before.
 fn cell_after(
     table: &[u8],
-    firsts: &[u32],
-    ends: &[u16],
-    uses: &[u64],
+    firsts: &[u32; 512],
+    ends: &[u16; 512],
+    uses: &[u64; 512],
     masks: &[u64],
     cells: &[u32],
     ports: usize,
@@ -67,11 +66,8 @@ fn cell_after(
     if 5 <= kind {
         return literal_outcome(old, table, i, ports, sets, depth, masks, digits);
     }
-    let add = adds_of(kind);
-    let begun = begin(add, old);
-    let end = end_at(ends, i);
     if is_quantifier(kind) {
-        let r = ports_after(
+        return ports_after(
             table,
             firsts,
             ends,
@@ -81,16 +77,14 @@ fn cell_after(
             ports,
             sets,
             c,
-            i + 1,
+            i,
             depth,
-            place * ports,
+            place,
             digits,
             word,
-            add,
-            begun,
         );
-        return outcome(old, r);
     }
+    let add = adds_of(kind);
     let r = trees_after(
         table,
         firsts,
@@ -102,13 +96,13 @@ fn cell_after(
         sets,
         c,
         i + 1,
-        end,
+        end_at(ends, i),
         depth,
         place,
         digits,
         word,
         add,
-        begun,
+        begin(add, old),
     );
     outcome(old, r)
 }
@@ -116,9 +110,9 @@ fn cell_after(
 // A touched cell among its siblings. A literal's is done here, so that the loop over them makes no call for one.
 fn tree_after(
     table: &[u8],
-    firsts: &[u32],
-    ends: &[u16],
-    uses: &[u64],
+    firsts: &[u32; 512],
+    ends: &[u16; 512],
+    uses: &[u64; 512],
     masks: &[u64],
     cells: &[u32],
     ports: usize,
@@ -158,9 +152,9 @@ fn tree_after(
 // The trees of a forest at a tuple, gone into a sum or a minimum.
 fn trees_after(
     table: &[u8],
-    firsts: &[u32],
-    ends: &[u16],
-    uses: &[u64],
+    firsts: &[u32; 512],
+    ends: &[u16; 512],
+    uses: &[u64; 512],
     masks: &[u64],
     cells: &[u32],
     ports: usize,
@@ -207,13 +201,13 @@ fn trees_after(
     sum
 }
 
-// The tree below a quantifier at its ports: it has one child. A sum of which only the ports of the change can be touched takes
-// these; else the child's cells at all ports are one row.
+// A touched quantifier's cell: it has one child. A sum of which only the ports of the change can be touched takes these; else
+// the child's cells at all ports are one row.
 fn ports_after(
     table: &[u8],
-    firsts: &[u32],
-    ends: &[u16],
-    uses: &[u64],
+    firsts: &[u32; 512],
+    ends: &[u16; 512],
+    uses: &[u64; 512],
     masks: &[u64],
     cells: &[u32],
     ports: usize,
@@ -221,17 +215,15 @@ fn ports_after(
     c: Changed,
     i: usize,
     depth: usize,
-    row: usize,
+    place: usize,
     digits: u32,
     word: u64,
-    add: bool,
-    acc: Sum,
-) -> Sum
-    requires { ⌜ PortsReady ports sets c (now table) (now firsts) (now ends) (now uses) (now masks) (now cells) i depth row digits word acc ⌝ }
-    ensures { λ r. ⌜ PortsSo ports sets c (now (table .entry)) (now (firsts .entry)) (now (ends .entry)) (now (uses .entry)) (now (masks .entry)) (now (cells .entry)) i depth row digits word add ports acc r ⌝ }
+) -> After
+    requires { ⌜ QuantifierReady ports sets c (now table) (now firsts) (now ends) (now uses) (now masks) (now cells) i depth place digits word ⌝ }
+    ensures { λ r. ⌜ CellGives ports sets c (now (table .entry)) (now (firsts .entry)) (now (ends .entry)) (now (uses .entry)) (now (masks .entry)) (now (cells .entry)) i depth place digits word r ⌝ }
 {
-    if !every_port(add, uses_at(uses, i), word, depth) {
-        return pair_after(
+    if !adds_of(kind_at(table, i)) {
+        return all_ports_after(
             table,
             firsts,
             ends,
@@ -243,12 +235,75 @@ fn ports_after(
             c,
             i,
             depth,
-            row,
+            place,
             digits,
             word,
-            acc,
         );
     }
+    if meet(uses_at(uses, i + 1), rest_word(word, depth)) {
+        return all_ports_after(
+            table,
+            firsts,
+            ends,
+            uses,
+            masks,
+            cells,
+            ports,
+            sets,
+            c,
+            i,
+            depth,
+            place,
+            digits,
+            word,
+        );
+    }
+    let old = cell_at(firsts, i, place, cells);
+    let r = pair_after(
+        table,
+        firsts,
+        ends,
+        uses,
+        masks,
+        cells,
+        ports,
+        sets,
+        c,
+        i + 1,
+        depth,
+        place * ports,
+        digits,
+        word,
+        begin(true, old),
+    );
+    outcome(old, r)
+}
+
+// The same from the row of its child. It is called from two places, so that the compiler keeps its rows out of the frame of
+// `cell_after`, of which there is one for each level of the plan.
+fn all_ports_after(
+    table: &[u8],
+    firsts: &[u32; 512],
+    ends: &[u16; 512],
+    uses: &[u64; 512],
+    masks: &[u64],
+    cells: &[u32],
+    ports: usize,
+    sets: usize,
+    c: Changed,
+    i: usize,
+    depth: usize,
+    place: usize,
+    digits: u32,
+    word: u64,
+) -> After
+    requires { ⌜ QuantifierReady ports sets c (now table) (now firsts) (now ends) (now uses) (now masks) (now cells) i depth place digits word ⌝ }
+    ensures { λ r. ⌜ CellGives ports sets c (now (table .entry)) (now (firsts .entry)) (now (ends .entry)) (now (uses .entry)) (now (masks .entry)) (now (cells .entry)) i depth place digits word r ⌝ }
+{
+    let old = cell_at(firsts, i, place, cells);
+    let add = adds_of(kind_at(table, i));
+    let begun = begin(add, old);
+    let row = place * ports;
     let mut new = [0u32; 64];
     let changed = row_after(
         table,
@@ -260,26 +315,27 @@ fn ports_after(
         ports,
         sets,
         c,
-        i,
+        i + 1,
         depth,
         row,
         digits,
         word,
         &mut new,
     );
-    let old = cells_from(cells, place_at(firsts, i, row));
-    Sum {
-        value: gather_row(add, acc.value, &new, old, ports),
-        changed: wrapping_add_u32(acc.changed, changed),
-    }
+    let before = cells_from(cells, place_at(firsts, i + 1, row));
+    let sum = Sum {
+        value: gather_row(add, begun.value, &new, before, ports),
+        changed: wrapping_add_u32(begun.changed, changed),
+    };
+    outcome(old, sum)
 }
 
 // A sum with the child's cells at the ports of the change.
 fn pair_after(
     table: &[u8],
-    firsts: &[u32],
-    ends: &[u16],
-    uses: &[u64],
+    firsts: &[u32; 512],
+    ends: &[u16; 512],
+    uses: &[u64; 512],
     masks: &[u64],
     cells: &[u32],
     ports: usize,
@@ -337,9 +393,9 @@ fn pair_after(
 // A node's cells at every port of the variable above it, put into `out`; how many cells at or below them differ from before.
 fn row_after(
     table: &[u8],
-    firsts: &[u32],
-    ends: &[u16],
-    uses: &[u64],
+    firsts: &[u32; 512],
+    ends: &[u16; 512],
+    uses: &[u64; 512],
     masks: &[u64],
     cells: &[u32],
     ports: usize,
@@ -411,9 +467,9 @@ fn row_after(
 // The cells of a row visited one by one: at every port, or at those of the change where no other can be touched.
 fn row_cells_after(
     table: &[u8],
-    firsts: &[u32],
-    ends: &[u16],
-    uses: &[u64],
+    firsts: &[u32; 512],
+    ends: &[u16; 512],
+    uses: &[u64; 512],
     masks: &[u64],
     cells: &[u32],
     ports: usize,
@@ -459,9 +515,9 @@ fn row_cells_after(
 // The rows of a forest's trees, gone into a row of sums or minima.
 fn row_trees_after(
     table: &[u8],
-    firsts: &[u32],
-    ends: &[u16],
-    uses: &[u64],
+    firsts: &[u32; 512],
+    ends: &[u16; 512],
+    uses: &[u64; 512],
     masks: &[u64],
     cells: &[u32],
     ports: usize,
@@ -509,9 +565,9 @@ fn row_trees_after(
 // One tree's row, gone into a row of sums or minima; one that is not touched is not visited.
 fn row_tree_after(
     table: &[u8],
-    firsts: &[u32],
-    ends: &[u16],
-    uses: &[u64],
+    firsts: &[u32; 512],
+    ends: &[u16; 512],
+    uses: &[u64; 512],
     masks: &[u64],
     cells: &[u32],
     ports: usize,
@@ -558,9 +614,9 @@ fn row_tree_after(
 // What the root comes to, under the masks after a change.
 pub fn root_after(
     table: &[u8],
-    firsts: &[u32],
-    ends: &[u16],
-    uses: &[u64],
+    firsts: &[u32; 512],
+    ends: &[u16; 512],
+    uses: &[u64; 512],
     masks: &[u64],
     cells: &[u32],
     ports: usize,

@@ -51,6 +51,9 @@ quantifier-of and kind h q = absurd (false≢true (sym (ap (λ (x : ℕ). leb 1 
 quantifier-of or kind h q = absurd (false≢true (sym (ap (λ (x : ℕ). leb 1 x && leb x 2) h) ∙ q))
 quantifier-of (lit l) kind h q = absurd (omega (arith, test-kind-range (l .test), leb-true kind 2 (and-right (leb 1 kind) _ q)))
 
+pub quantifier-few : (kind : ℕ) → (leb 1 kind && leb kind 2) ≡ true → kind < 5
+quantifier-few kind q = omega (arith, leb-true kind 2 (and-right (leb 1 kind) _ q))
+
 pub joint-of : (n : Node) (kind : ℕ) → kind ≡ kindNumber n → kind < 5 → (leb 1 kind && leb kind 2) ≡ false → Joint n
 unfolding kindNumber childDepth Inner below
 joint-of root kind h l q = record { level = λ d. refl; inner = Prim.tt; renewed = λ u e g. refl; counted = λ u e g. refl }

@@ -7,8 +7,6 @@ use cells_sum::After;
 use cells_sum::Sum;
 use cells_sum::outcome;
 use cells_touch::Changed;
-use cells_touch::meet;
-use cells_touch::rest_word;
 use logic::has_port;
 use logic::wide;
 use table_format::a_of;
@@ -22,21 +20,20 @@ ghost use Prim.Native.Nat.{_+_, _*_, _/_, _%_, _^_, _≤_, _<_};
 ghost use lib.Dec.{eqb, leb, ltb};
 ghost use lib.ListN.{length, getD};
 ghost use Rattle.logic.specs.Configuration.{indicator};
-ghost use Rattle.cells_touch.specs.inner.Hits.{meets, restWord};
 ghost use Rattle.table_format.specs.Bytes.{recordLength, kindField, recordsOf, recordAt};
 ghost use Rattle.cells_walk.specs.inner.Visit.{LiteralReady, Afresh, RecordReady, RecordAfresh};
 
 // The place of a node's cell in the cell table.
-pub fn place_at(firsts: &[u32], i: usize, place: usize) -> usize
-    requires { ⌜ (i < length (now firsts)) × (place ≤ 16777216) ⌝ }
+pub fn place_at(firsts: &[u32; 512], i: usize, place: usize) -> usize
+    requires { ⌜ (i < 512) × (place ≤ 16777216) ⌝ }
     ensures { λ r. ⌜ r ≡ getD (now (firsts .entry)) i 0 + place ⌝ }
 {
     wide(firsts[i]) + place
 }
 
 // A cell's number at a place of its node.
-pub fn cell_at(firsts: &[u32], i: usize, place: usize, cells: &[u32]) -> u32
-    requires { ⌜ (i < length (now firsts)) × (getD (now firsts) i 0 + place < length (now cells)) ⌝ }
+pub fn cell_at(firsts: &[u32; 512], i: usize, place: usize, cells: &[u32]) -> u32
+    requires { ⌜ (i < 512) × (getD (now firsts) i 0 + place < length (now cells)) ⌝ }
     ensures { λ r. ⌜ r ≡ getD (now (cells .entry)) (getD (now (firsts .entry)) i 0 + place) 0 ⌝ }
 {
     let at = wide(firsts[i]) + place;
@@ -44,8 +41,8 @@ pub fn cell_at(firsts: &[u32], i: usize, place: usize, cells: &[u32]) -> u32
 }
 
 // A cell that is not touched keeps its number, and so do all below it.
-pub fn kept(firsts: &[u32], i: usize, place: usize, cells: &[u32]) -> After
-    requires { ⌜ (i < length (now firsts)) × (getD (now firsts) i 0 + place < length (now cells)) ⌝ }
+pub fn kept(firsts: &[u32; 512], i: usize, place: usize, cells: &[u32]) -> After
+    requires { ⌜ (i < 512) × (getD (now firsts) i 0 + place < length (now cells)) ⌝ }
     ensures { λ r. ⌜ (r .old ≡ getD (now (cells .entry)) (getD (now (firsts .entry)) i 0 + place) 0) × (r .value ≡ r .old) × (r .changed ≡ 0) ⌝ }
 {
     let old = cell_at(firsts, i, place, cells);
@@ -56,17 +53,24 @@ pub fn kept(firsts: &[u32], i: usize, place: usize, cells: &[u32]) -> After
     }
 }
 
+// An end of the index as a node's number.
+fn wide_end(end: u16) -> usize
+    ensures { λ r. ⌜ r ≡ end ⌝ }
+{
+    end as usize
+}
+
 // The node behind all that stand below node i.
-pub fn end_at(ends: &[u16], i: usize) -> usize
-    requires { ⌜ i < length (now ends) ⌝ }
+pub fn end_at(ends: &[u16; 512], i: usize) -> usize
+    requires { ⌜ i < 512 ⌝ }
     ensures { λ r. ⌜ r ≡ getD (now (ends .entry)) i 0 ⌝ }
 {
-    ends[i] as usize
+    wide_end(ends[i])
 }
 
 // How node i and those below it use the sets, four bits a set.
-pub fn uses_at(uses: &[u64], i: usize) -> u64
-    requires { ⌜ i < length (now uses) ⌝ }
+pub fn uses_at(uses: &[u64; 512], i: usize) -> u64
+    requires { ⌜ i < 512 ⌝ }
     ensures { λ r. ⌜ r ≡ getD (now (uses .entry)) i 0 ⌝ }
 {
     uses[i]
@@ -196,17 +200,6 @@ pub fn by_cells(every: bool, kind: u8) -> bool
 {
     if every {
         return is_quantifier(kind);
-    }
-    true
-}
-
-// Whether the ports below a quantifier go into its number as a row: a minimum reads all of them, and a sum does if more than the
-// ports of the change can be touched.
-pub fn every_port(add: bool, used: u64, word: u64, depth: usize) -> bool
-    ensures { λ r. ⌜ r ≡ (not add || meets used (restWord word depth)) ⌝ }
-{
-    if add {
-        return meet(used, rest_word(word, depth));
     }
     true
 }

@@ -29,7 +29,7 @@ module _ (u sets : ℕ) (c : Changed) (bytes firsts ends uses masks cells : List
       let f = below-root Q bytes (r .decodes) in
       let at = root-visit Q bytes (r .decodes) u (r .ports-are) sets (r .sets-are) c ch says firsts ends uses cells (r .indexed) (r .own-cells) in
       let w : Wrote (Q .ports) (spelled Q masks) ch (tree root f none) 0 0 (Only []) cells new =
-      rw (r .sets-are) at (rw (r .ports-are) at (writes ch root f none 0 [] record { says = says; masks-settled = r .masks-settled; cells-fit = r .cells-fit; long = r .long } (rw h at))) in
+      rw (r .sets-are) at (rw (r .ports-are) at (writes ch root f none 0 [] record { says = says; masks-settled = r .masks-settled; cells-fit = r .cells-fit } (rw h at))) in
       subst (λ (R : Plan). new ≡ newCells R (spelled R masks) ch (take (ownCells R) cells) ++ drop (ownCells R) cells) one
       (wrote-whole Q (facts Q bytes (r .decodes) .ports1) (spelled Q masks) ch cells new (r .own-cells)
       (subst (λ (g : Forest). Wrote (Q .ports) (spelled Q masks) ch g 0 0 (Only []) cells new) (sym (formula-is Q bytes (r .decodes))) w))

@@ -54,8 +54,8 @@ module _ (u sets : ℕ) (c : Changed) (bytes firsts ends uses masks : List ℕ) 
 
   -- What is asked of a table holds of one that is as long and whose numbers fit.
   module _ (old new : List ℕ) (fit : CellsFit new) (long : length new ≡ length old) where
-    ready-kept : (ch : Change) → WalkReady u sets c firsts ends uses masks old ch → WalkReady u sets c firsts ends uses masks new ch
-    ready-kept ch r = record { says = r .says; masks-settled = r .masks-settled; cells-fit = fit; long = r .long }
+    ready-kept : (ch : Change) → WalkReady u sets c masks old ch → WalkReady u sets c masks new ch
+    ready-kept ch r = record { says = r .says; masks-settled = r .masks-settled; cells-fit = fit }
 
     visit-kept : (ch : Change) (i : ℕ) (f : Forest) (b d : ℕ) (e : Tuple) (place digits word : ℕ)
         → Visit u sets ch bytes firsts ends uses old i f b d e place digits word → Visit u sets ch bytes firsts ends uses new i f b d e place digits word
@@ -165,7 +165,7 @@ module _ (u sets : ℕ) (c : Changed) (bytes firsts ends uses masks : List ℕ) 
         -- a touched cell gets its number after the cells below it have got theirs
         module _ (kind : ℕ) (kd : kind ≡ kindField (recordAt bytes i)) (r : After) (gives : Gives r) (value : ℕ) (is : r .value ≡ value)
             (mid new : List ℕ) (put : new ≡ set mid (getD firsts i 0 + place) value) where
-          module _ (ch : Change) (n : Node) (f s : Forest) (b : ℕ) (e : Tuple) (ready : WalkReady u sets c firsts ends uses masks cells ch)
+          module _ (ch : Change) (n : Node) (f s : Forest) (b : ℕ) (e : Tuple) (ready : WalkReady u sets c masks cells ch)
               (v : Visit u sets ch bytes firsts ends uses cells i (tree n f s) b d e place digits word) where
             kind-here : kind ≡ kindNumber n
             kind-here = kd ∙ here u sets c bytes firsts ends uses masks cells i d place digits word ch n f s b e ready v .kind-is
@@ -219,7 +219,7 @@ module _ (u sets : ℕ) (c : Changed) (bytes firsts ends uses masks : List ℕ) 
 
       module _ (next : ℕ) (nx : next ≡ getD ends i 0) (mid : List ℕ) (fit : CellsFit mid) (long : length mid ≡ length cells)
           (first : CellWrites u sets c bytes firsts ends uses masks cells i d place digits word mid) (more-left : i < until) where
-        module _ (ch : Change) (n : Node) (f s : Forest) (b : ℕ) (e : Tuple) (ready : WalkReady u sets c firsts ends uses masks cells ch)
+        module _ (ch : Change) (n : Node) (f s : Forest) (b : ℕ) (e : Tuple) (ready : WalkReady u sets c masks cells ch)
             (v : Visit u sets ch bytes firsts ends uses cells i (tree n f s) b d e place digits word) where
           visit-later : Visit u sets ch bytes firsts ends uses mid next s (siblingFirst u n f b d) d e place digits word
           visit-later =
@@ -263,7 +263,7 @@ module _ (u sets : ℕ) (c : Changed) (bytes firsts ends uses masks : List ℕ) 
 
       unfoldable pub RowTo : ℕ → List ℕ → Type 0
       RowTo m new =
-          (ch : Change) (n : Node) (f s : Forest) (b : ℕ) (e : Tuple) → WalkReady u sets c firsts ends uses masks cells ch → Standing ch n f s b e
+          (ch : Change) (n : Node) (f s : Forest) (b : ℕ) (e : Tuple) → WalkReady u sets c masks cells ch → Standing ch n f s b e
           → Wrote u after ch (tree n f none) b (suc d) (Row m e) cells new
 
       pub row-to-none : RowTo 0 cells
@@ -272,7 +272,7 @@ module _ (u sets : ℕ) (c : Changed) (bytes firsts ends uses masks : List ℕ) 
 
       module _ (x digits′ word′ : ℕ) (low : x < u) (dg : digits′ ≡ digits + x * 256 ^ d) (wd : word′ ≡ portWord c word d x) (mid : List ℕ) (fit : CellsFit mid)
           (long : length mid ≡ length cells) (so : RowTo x mid) where
-        module _ (ch : Change) (n : Node) (f s : Forest) (b : ℕ) (e : Tuple) (ready : WalkReady u sets c firsts ends uses masks cells ch) (v : Standing ch n f s b e) where
+        module _ (ch : Change) (n : Node) (f s : Forest) (b : ℕ) (e : Tuple) (ready : WalkReady u sets c masks cells ch) (v : Standing ch n f s b e) where
           visit-port : Visit u sets ch bytes firsts ends uses mid i (tree n f s) b (d + 1) (x ∷ e) (row + x) digits′ word′
           visit-port =
               visit-kept cells mid fit long ch i (tree n f s) b (d + 1) (x ∷ e) (row + x) digits′ word′
@@ -381,7 +381,7 @@ module _ (u sets : ℕ) (c : Changed) (bytes firsts ends uses masks : List ℕ) 
       module _ (kind at : ℕ) (out mid new : List ℕ) (changed : ℕ) (kd : kind ≡ kindField (recordAt bytes i)) (aq : at ≡ getD firsts i 0 + row)
           (gives : RowGives u sets c bytes firsts ends uses masks cells i d row digits word out changed)
           (put : new ≡ take at mid ++ (tabulate u (λ x. getD out x 0) ++ drop (at + u) mid)) where
-        module _ (ch : Change) (n : Node) (f s : Forest) (b : ℕ) (e : Tuple) (ready : WalkReady u sets c firsts ends uses masks cells ch) (v : Standing ch n f s b e) where
+        module _ (ch : Change) (n : Node) (f s : Forest) (b : ℕ) (e : Tuple) (ready : WalkReady u sets c masks cells ch) (v : Standing ch n f s b e) where
           row-kind : kind ≡ kindNumber n
           row-kind = kd ∙ row-node u sets ch bytes firsts ends uses cells i n f s b d e row digits word v .kind-is
 
@@ -436,7 +436,7 @@ module _ (u sets : ℕ) (c : Changed) (bytes firsts ends uses masks : List ℕ) 
 
       module _ (next : ℕ) (nx : next ≡ getD ends i 0) (mid : List ℕ) (fit : CellsFit mid) (long : length mid ≡ length cells)
           (first : RowWrites u sets c bytes firsts ends uses masks cells i d row digits word mid) (more-left : i < until) where
-        module _ (ch : Change) (n : Node) (f s : Forest) (b : ℕ) (e : Tuple) (ready : WalkReady u sets c firsts ends uses masks cells ch)
+        module _ (ch : Change) (n : Node) (f s : Forest) (b : ℕ) (e : Tuple) (ready : WalkReady u sets c masks cells ch)
             (v : RowVisit u sets ch bytes firsts ends uses cells i (tree n f s) b d e row digits word) where
           row-later : RowVisit u sets ch bytes firsts ends uses mid next s (siblingFirst u n f b (suc d)) d e row digits word
           row-later =

@@ -23,7 +23,6 @@ use cells_touch::rest_word;
 use cells_walk::by_cells;
 use cells_walk::cell_at;
 use cells_walk::end_at;
-use cells_walk::every_port;
 use cells_walk::first_port;
 use cells_walk::is_quantifier;
 use cells_walk::kept;
@@ -40,12 +39,12 @@ ghost use mathlib.Core.Bool.{true};
 ghost use Prim.Native.Nat.{_+_, _<_};
 ghost use lib.ListN.{length, getD, set};
 ghost use Rattle.cells_walk.specs.inner.Root.{RootReady, RootGives};
-ghost use Rattle.cells_try.specs.inner.Walking.{CellReady, CellTouched, CellGives, TreesReady, TreesGive, PortsReady, PairReady, PortsSo, RowGives, RowCellsReady, RowJoinReady, RowJoins, RowTreesReady, RowTreesGive};
+ghost use Rattle.cells_try.specs.inner.Walking.{CellReady, CellTouched, QuantifierReady, CellGives, TreesReady, TreesGive, PairReady, PortsSo, RowGives, RowCellsReady, RowJoinReady, RowJoins, RowTreesReady, RowTreesGive};
 ghost use Rattle.cells_write.specs.inner.Writing.{CellWrites, TreesWrite, PortsWrite, RowWriteReady, RowWrites, RowTreesWrite, RootWrites};
 
 // Writes a cell's number at a place of its node.
-fn put_cell(firsts: &[u32], i: usize, place: usize, value: u32, cells: &mut [u32])
-    requires { ⌜ (i < length (now firsts)) × (getD (now firsts) i 0 + place < length (now cells)) ⌝ }
+fn put_cell(firsts: &[u32; 512], i: usize, place: usize, value: u32, cells: &mut [u32])
+    requires { ⌜ (i < 512) × (getD (now firsts) i 0 + place < length (now cells)) ⌝ }
     ensures { λ _. ⌜ now (cells .exit) ≡ set (now (cells .entry)) (getD (now (firsts .entry)) i 0 + place) value ⌝ }
 {
     let at = firsts[i] as usize + place;
@@ -55,9 +54,9 @@ fn put_cell(firsts: &[u32], i: usize, place: usize, value: u32, cells: &mut [u32
 // A cell and all that is touched below it, written. Its old number is read first: the sum above takes the new minus the old.
 fn cell_written(
     table: &[u8],
-    firsts: &[u32],
-    ends: &[u16],
-    uses: &[u64],
+    firsts: &[u32; 512],
+    ends: &[u16; 512],
+    uses: &[u64; 512],
     masks: &[u64],
     cells: &mut [u32],
     ports: usize,
@@ -83,11 +82,8 @@ fn cell_written(
         put_cell(firsts, i, place, r.value, cells);
         return r;
     }
-    let add = adds_of(kind);
-    let begun = begin(add, old);
-    let end = end_at(ends, i);
     if is_quantifier(kind) {
-        let r = ports_written(
+        return ports_written(
             table,
             firsts,
             ends,
@@ -97,17 +93,14 @@ fn cell_written(
             ports,
             sets,
             c,
-            i + 1,
+            i,
             depth,
-            place * ports,
+            place,
             digits,
             word,
-            add,
-            begun,
         );
-        put_cell(firsts, i, place, r.value, cells);
-        return outcome(old, r);
     }
+    let add = adds_of(kind);
     let r = trees_written(
         table,
         firsts,
@@ -119,13 +112,13 @@ fn cell_written(
         sets,
         c,
         i + 1,
-        end,
+        end_at(ends, i),
         depth,
         place,
         digits,
         word,
         add,
-        begun,
+        begin(add, old),
     );
     put_cell(firsts, i, place, r.value, cells);
     outcome(old, r)
@@ -134,9 +127,9 @@ fn cell_written(
 // A touched cell among its siblings. A literal's is done here, so that the loop over them makes no call for one.
 fn tree_written(
     table: &[u8],
-    firsts: &[u32],
-    ends: &[u16],
-    uses: &[u64],
+    firsts: &[u32; 512],
+    ends: &[u16; 512],
+    uses: &[u64; 512],
     masks: &[u64],
     cells: &mut [u32],
     ports: usize,
@@ -178,9 +171,9 @@ fn tree_written(
 // The trees of a forest at a tuple, written one after the other and gone into a sum or a minimum.
 fn trees_written(
     table: &[u8],
-    firsts: &[u32],
-    ends: &[u16],
-    uses: &[u64],
+    firsts: &[u32; 512],
+    ends: &[u16; 512],
+    uses: &[u64; 512],
     masks: &[u64],
     cells: &mut [u32],
     ports: usize,
@@ -227,13 +220,13 @@ fn trees_written(
     sum
 }
 
-// The tree below a quantifier at its ports: it has one child. A sum of which only the ports of the change can be touched takes
-// these; else the child's cells at all ports are one row, whose old numbers are kept for the sum.
+// A touched quantifier's cell, written: it has one child. A sum of which only the ports of the change can be touched takes these; else
+// the child's cells at all ports are one row.
 fn ports_written(
     table: &[u8],
-    firsts: &[u32],
-    ends: &[u16],
-    uses: &[u64],
+    firsts: &[u32; 512],
+    ends: &[u16; 512],
+    uses: &[u64; 512],
     masks: &[u64],
     cells: &mut [u32],
     ports: usize,
@@ -241,17 +234,15 @@ fn ports_written(
     c: Changed,
     i: usize,
     depth: usize,
-    row: usize,
+    place: usize,
     digits: u32,
     word: u64,
-    add: bool,
-    acc: Sum,
-) -> Sum
-    requires { ⌜ PortsReady ports sets c (now table) (now firsts) (now ends) (now uses) (now masks) (now cells) i depth row digits word acc ⌝ }
-    ensures { λ r. ⌜ PortsSo ports sets c (now (table .entry)) (now (firsts .entry)) (now (ends .entry)) (now (uses .entry)) (now (masks .entry)) (now (cells .entry)) i depth row digits word add ports acc r × PortsWrite ports sets c (now (table .entry)) (now (firsts .entry)) (now (ends .entry)) (now (uses .entry)) (now (masks .entry)) (now (cells .entry)) i depth row digits word (now (cells .exit)) ⌝ }
+) -> After
+    requires { ⌜ QuantifierReady ports sets c (now table) (now firsts) (now ends) (now uses) (now masks) (now cells) i depth place digits word ⌝ }
+    ensures { λ r. ⌜ CellGives ports sets c (now (table .entry)) (now (firsts .entry)) (now (ends .entry)) (now (uses .entry)) (now (masks .entry)) (now (cells .entry)) i depth place digits word r × CellWrites ports sets c (now (table .entry)) (now (firsts .entry)) (now (ends .entry)) (now (uses .entry)) (now (masks .entry)) (now (cells .entry)) i depth place digits word (now (cells .exit)) ⌝ }
 {
-    if !every_port(add, uses_at(uses, i), word, depth) {
-        return pair_written(
+    if !adds_of(kind_at(table, i)) {
+        return all_ports_written(
             table,
             firsts,
             ends,
@@ -263,17 +254,81 @@ fn ports_written(
             c,
             i,
             depth,
-            row,
+            place,
             digits,
             word,
-            acc,
         );
     }
-    let mut old = [0u32; 64];
-    copy_row(
-        cells_from(&cells[..], place_at(firsts, i, row)),
+    if meet(uses_at(uses, i + 1), rest_word(word, depth)) {
+        return all_ports_written(
+            table,
+            firsts,
+            ends,
+            uses,
+            masks,
+            cells,
+            ports,
+            sets,
+            c,
+            i,
+            depth,
+            place,
+            digits,
+            word,
+        );
+    }
+    let old = cell_at(firsts, i, place, &cells[..]);
+    let r = pair_written(
+        table,
+        firsts,
+        ends,
+        uses,
+        masks,
+        cells,
         ports,
-        &mut old,
+        sets,
+        c,
+        i + 1,
+        depth,
+        place * ports,
+        digits,
+        word,
+        begin(true, old),
+    );
+    put_cell(firsts, i, place, r.value, cells);
+    outcome(old, r)
+}
+
+// The same from the row of its child. It is called from two places, so that the compiler keeps its rows out of the frame of
+// `cell_written`, of which there is one for each level of the plan.
+fn all_ports_written(
+    table: &[u8],
+    firsts: &[u32; 512],
+    ends: &[u16; 512],
+    uses: &[u64; 512],
+    masks: &[u64],
+    cells: &mut [u32],
+    ports: usize,
+    sets: usize,
+    c: Changed,
+    i: usize,
+    depth: usize,
+    place: usize,
+    digits: u32,
+    word: u64,
+) -> After
+    requires { ⌜ QuantifierReady ports sets c (now table) (now firsts) (now ends) (now uses) (now masks) (now cells) i depth place digits word ⌝ }
+    ensures { λ r. ⌜ CellGives ports sets c (now (table .entry)) (now (firsts .entry)) (now (ends .entry)) (now (uses .entry)) (now (masks .entry)) (now (cells .entry)) i depth place digits word r × CellWrites ports sets c (now (table .entry)) (now (firsts .entry)) (now (ends .entry)) (now (uses .entry)) (now (masks .entry)) (now (cells .entry)) i depth place digits word (now (cells .exit)) ⌝ }
+{
+    let old = cell_at(firsts, i, place, &cells[..]);
+    let add = adds_of(kind_at(table, i));
+    let begun = begin(add, old);
+    let row = place * ports;
+    let mut before = [0u32; 64];
+    copy_row(
+        cells_from(&cells[..], place_at(firsts, i + 1, row)),
+        ports,
+        &mut before,
     );
     let mut new = [0u32; 64];
     let changed = row_written(
@@ -286,26 +341,28 @@ fn ports_written(
         ports,
         sets,
         c,
-        i,
+        i + 1,
         depth,
         row,
         digits,
         word,
-        &old,
+        &before,
         &mut new,
     );
-    Sum {
-        value: gather_row(add, acc.value, &new, &old, ports),
-        changed: wrapping_add_u32(acc.changed, changed),
-    }
+    let sum = Sum {
+        value: gather_row(add, begun.value, &new, &before, ports),
+        changed: wrapping_add_u32(begun.changed, changed),
+    };
+    put_cell(firsts, i, place, sum.value, cells);
+    outcome(old, sum)
 }
 
 // A sum with the child's cells at the ports of the change, written.
 fn pair_written(
     table: &[u8],
-    firsts: &[u32],
-    ends: &[u16],
-    uses: &[u64],
+    firsts: &[u32; 512],
+    ends: &[u16; 512],
+    uses: &[u64; 512],
     masks: &[u64],
     cells: &mut [u32],
     ports: usize,
@@ -364,9 +421,9 @@ fn pair_written(
 // many cells at or below them differ from before. `old` has the numbers that the row is about to lose.
 fn row_written(
     table: &[u8],
-    firsts: &[u32],
-    ends: &[u16],
-    uses: &[u64],
+    firsts: &[u32; 512],
+    ends: &[u16; 512],
+    uses: &[u64; 512],
     masks: &[u64],
     cells: &mut [u32],
     ports: usize,
@@ -440,9 +497,9 @@ fn row_written(
 // The cells of a row written one by one: at every port, or at those of the change where no other can be touched.
 fn row_cells_written(
     table: &[u8],
-    firsts: &[u32],
-    ends: &[u16],
-    uses: &[u64],
+    firsts: &[u32; 512],
+    ends: &[u16; 512],
+    uses: &[u64; 512],
     masks: &[u64],
     cells: &mut [u32],
     ports: usize,
@@ -488,9 +545,9 @@ fn row_cells_written(
 // The rows of a forest's trees, written one after the other and gone into a row of sums or minima.
 fn row_trees_written(
     table: &[u8],
-    firsts: &[u32],
-    ends: &[u16],
-    uses: &[u64],
+    firsts: &[u32; 512],
+    ends: &[u16; 512],
+    uses: &[u64; 512],
     masks: &[u64],
     cells: &mut [u32],
     ports: usize,
@@ -538,9 +595,9 @@ fn row_trees_written(
 // One tree's row, written and gone into a row of sums or minima; one that is not touched is not visited.
 fn row_tree_written(
     table: &[u8],
-    firsts: &[u32],
-    ends: &[u16],
-    uses: &[u64],
+    firsts: &[u32; 512],
+    ends: &[u16; 512],
+    uses: &[u64; 512],
     masks: &[u64],
     cells: &mut [u32],
     ports: usize,
@@ -590,9 +647,9 @@ fn row_tree_written(
 // A change carried through all of a plan's own cells, under the masks after it.
 pub fn root_written(
     table: &[u8],
-    firsts: &[u32],
-    ends: &[u16],
-    uses: &[u64],
+    firsts: &[u32; 512],
+    ends: &[u16; 512],
+    uses: &[u64; 512],
     masks: &[u64],
     cells: &mut [u32],
     ports: usize,

@@ -17,9 +17,9 @@ ghost use Rattle.move_best.specs.inner.Choosing.{SearchRoom, Chooses};
 // A fold over the candidates.
 fn search(
     table: &[u8],
-    firsts: &[u32],
-    ends: &[u16],
-    uses: &[u64],
+    firsts: &[u32; 512],
+    ends: &[u16; 512],
+    uses: &[u64; 512],
     masks: &[u64],
     cells: &[u32],
     ports: usize,
@@ -59,9 +59,9 @@ fn search(
 // places in that order as the table takes.
 pub fn choose(
     table: &[u8],
-    firsts: &[u32],
-    ends: &[u16],
-    uses: &[u64],
+    firsts: &[u32; 512],
+    ends: &[u16; 512],
+    uses: &[u64; 512],
     masks: &[u64],
     cells: &[u32],
     ports: usize,

@@ -12,9 +12,9 @@ ghost use Rattle.move_make.specs.inner.Carrying.{Carries};
 // Makes a legal move over open tables: its masks, then the touched cells.
 pub fn carry(
     table: &[u8],
-    firsts: &[u32],
-    ends: &[u16],
-    uses: &[u64],
+    firsts: &[u32; 512],
+    ends: &[u16; 512],
+    uses: &[u64; 512],
     masks: &mut [u64],
     cells: &mut [u32],
     ports: usize,

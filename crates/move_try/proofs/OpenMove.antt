@@ -17,7 +17,7 @@ use Rattle.logic.proofs.Lists.{and-left, and-right}
 use Rattle.cells_touch.specs.declared.Changed.{Changed}
 use Rattle.cells_touch.specs.inner.Hits.{Describes, Tells}
 use Rattle.cells_sum.specs.declared.After.{After}
-use Rattle.cells_walk.specs.inner.Visit.{MasksSettled, CellsFit, TablesLong}
+use Rattle.cells_walk.specs.inner.Visit.{MasksSettled, CellsFit}
 use Rattle.cells_walk.specs.inner.Root.{RootReady, RootGives}
 use Rattle.call_open.specs.inner.Opening.{OpenPlan}
 use Rattle.call_open.proofs.Opening.{open-longer}
@@ -48,12 +48,12 @@ module _ {ports sets : ℕ} {bytes masks : List ℕ} {shortest : ℕ} {firsts en
 
 -- neither 14 nor 15 applies to the move of open tables
 pub legal-move : {ports sets : ℕ} {bytes masks cells : List ℕ} {shortest : ℕ} {firsts ends uses : List ℕ} {m : Move} {n : ℕ}
-    (o : OpenPlan ports sets bytes masks shortest firsts ends uses) → shortest ≤ length cells → TablesLong firsts ends uses → CellsFit cells
+    (o : OpenPlan ports sets bytes masks shortest firsts ends uses) → shortest ≤ length cells → CellsFit cells
     → MoveNumber ports sets m masks n → n ≡ 0 → LegalMove ports sets bytes firsts ends uses masks cells m
-legal-move {cells = cells} {m = m} {n = n} o l long fit number z =
+legal-move {cells = cells} {m = m} {n = n} o l fit number z =
     let p = open-longer _ _ _ _ _ (length cells) _ _ _ o l in
     record {
-      tables-open = record { opened = p; long = long; cells-fit = fit };
+      tables-open = record { opened = p; cells-fit = fit };
       is-legal = grounds-legal (p .plan) _ m (sym (number-is p m n number) ∙ z);
     }
 

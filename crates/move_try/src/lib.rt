@@ -12,9 +12,9 @@ ghost use Rattle.move_try.specs.inner.Trying.{TryReady, GivesNumbers};
 // The three numbers of a legal move; the masks after it go into `work`, and nothing else is written.
 pub fn try_move(
     table: &[u8],
-    firsts: &[u32],
-    ends: &[u16],
-    uses: &[u64],
+    firsts: &[u32; 512],
+    ends: &[u16; 512],
+    uses: &[u64; 512],
     masks: &[u64],
     cells: &[u32],
     ports: usize,

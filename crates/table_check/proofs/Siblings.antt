@@ -8,7 +8,7 @@ use native.Mathlib.Numerals.{add-one}
 use native.Mathlib.Omega.{arith}
 use lib.Arith.{bin-ind}
 use lib.Bits.{bitOr, or-step, or-zero-l, or-zero-r}
-use lib.ListN.{length, take, drop, length-drop}
+use lib.ListN.{length, set, take, drop, length-append, length-set, length-take, length-drop}
 use lib.Seq.{drop-drop}
 use borrow.Author.Tests.{leb-true}
 use Rattle.logic.specs.Formula.{Node, Forest, none, tree, kindNumber, childDepth}
@@ -44,6 +44,14 @@ or-assoc = bin-ind (λ (n : ℕ). (b c : ℕ) → bitOr (bitOr n b) c ≡ bitOr 
     (ap (λ (x : ℕ). bitOr x (c / 2)) (or-half n b) ∙ ih (b / 2) (c / 2) ∙ ap (bitOr (n / 2)) (sym (or-half b c)))
     (ap (λ (x : ℕ). max x (c % 2)) (or-last n b) ∙ max-assoc (n % 2) (b % 2) (c % 2) ∙ ap (max (n % 2)) (sym (or-last b c)))
     ∙ sym (or-step n (bitOr b c))
+
+-- a table has room for every node after some entries are written as well
+room-after : (l vs m : List ℕ) (i j v : ℕ) → m ≡ set (laid l i vs) j v → 512 ≤ length l → 512 ≤ length m
+unfolding laid
+room-after l vs m i j v q h =
+    let n = length-append (take i l) (vs ++ drop (i + length vs) l) in
+    let k = length-append vs (drop (i + length vs) l) in
+    omega (arith, h, ap length q, length-set (laid l i vs) j v, n, k, length-take i l, length-drop (i + length vs) l)
 
 -- a part's first tree before its later siblings
 module _ (l : List ℕ) (i parent d ports sets above first : ℕ) (r : CheckedTree) (x y z x₁ y₁ z₁ : List ℕ) (n : Node) (c : Forest)
@@ -104,9 +112,8 @@ module _ (l : List ℕ) (i parent d ports sets above first : ℕ) (r : CheckedTr
         }
 
     -- where the later siblings stand
-    placed-rest : length x₁ ≡ length x → length y₁ ≡ length y → length z₁ ≡ length z
-        → Placed (laterOf l i (r .end)) (r .end) parent d ports sets width (first + r .cells) x₁ y₁ z₁
-    placed-rest lx ly lz = record {
+    placed-rest : Placed (laterOf l i (r .end)) (r .end) parent d ports sets width (first + r .cells) x₁ y₁ z₁
+    placed-rest = record {
       few = rw (length-drop (recordLength * (r .end - i)) l)
           (siblings-below recordLength record-pos i (r .end) (length l) 512 (omega (arith, t .end-is)) (t .within) (place .few));
       parents = place .parents;
@@ -123,9 +130,9 @@ module _ (l : List ℕ) (i parent d ports sets above first : ℕ) (r : CheckedTr
         width-low ports d (place .ports1) (place .ports64) depth-low,
         cells-few ports sets c (childDepth n d) (place .ports1) (place .ports64) (t .below),
       );
-      room-firsts = omega (arith, lx, place .room-firsts);
-      room-ends = omega (arith, ly, place .room-ends);
-      room-uses = omega (arith, lz, place .room-uses);
+      room-firsts = room-after x _ x₁ (suc i) i first (t .firsts-are) (place .room-firsts);
+      room-ends = room-after y _ y₁ (suc i) i (r .end) (t .ends-are) (place .room-ends);
+      room-uses = room-after z _ z₁ (suc i) i (r .uses) (t .uses-are) (place .room-uses);
     }
 
 -- A part of which the trees before byte `at` are checked: where the trees from there on stand, and that what is found of them is,
@@ -134,9 +141,6 @@ pub record Passed (part : List ℕ) (i parent d ports sets above width first : �
   pub within : at ≤ length part
   pub trees-few : trees ≤ node
   pub place : Placed (drop at part) node parent d ports sets width (first + cells) x₁ y₁ z₁
-  pub same-firsts : length x₁ ≡ length x
-  pub same-ends : length y₁ ≡ length y
-  pub same-uses : length z₁ ≡ length z
   pub accepts : (s : Forest) (rs r : Checked) (x₂ y₂ z₂ : List ℕ) → Sound (drop at part) node parent d sets above s
       → PartIndexed node d ports (first + cells) s rs x₁ y₁ z₁ x₂ y₂ z₂
       → r .trees ≡ trees + rs .trees → r .cells ≡ cells + rs .cells → r .uses ≡ bitOr used (rs .uses)
@@ -149,9 +153,6 @@ passed-none part i parent d ports sets above width first x y z place = record {
   within = omega arith;
   trees-few = omega arith;
   place = subst (λ (w : ℕ). Placed part i parent d ports sets width w x y z) (sym (add-zero first)) place;
-  same-firsts = refl;
-  same-ends = refl;
-  same-uses = refl;
   accepts = λ s rs r x₂ y₂ z₂ sound k tr ce us. (
     s,
     sound,
@@ -220,9 +221,8 @@ module _ (part : List ℕ) (i parent d ports sets above width first : ℕ) (x y 
       rest-is : laterOf (drop at part) node (t .end) ≡ drop (at + far) part
       rest-is = drop-drop far at part
 
-      pub passed-tree : length x₂ ≡ length x₁ → length y₂ ≡ length y₁ → length z₂ ≡ length z₁
-          → Passed part i parent d ports sets above width first x y z (at + far) (t .end) (trees + 1) (cells + t .cells) (bitOr used (t .uses)) x₂ y₂ z₂
-      passed-tree lx ly lz =
+      pub passed-tree : Passed part i parent d ports sets above width first x y z (at + far) (t .end) (trees + 1) (cells + t .cells) (bitOr used (t .uses)) x₂ y₂ z₂
+      passed-tree =
           let f = found in
           let more : first + cells + t .cells ≡ first + (cells + t .cells) = omega arith in
           record {
@@ -230,10 +230,7 @@ module _ (part : List ℕ) (i parent d ports sets above width first : ℕ) (x y 
             trees-few = omega (arith, p .trees-few, tree-ahead .0);
             place = subst (λ (w : ℕ). Placed (drop (at + far) part) (t .end) parent d ports sets width w x₂ y₂ z₂) more
                 (subst (λ (w : List ℕ). Placed w (t .end) parent d ports sets width (first + cells + t .cells) x₂ y₂ z₂) rest-is
-                (placed-rest (drop at part) node parent d ports sets above (first + cells) t x₁ y₁ z₁ x₂ y₂ z₂ (f .0) (f .1) (f .2) (p .place) lx ly lz));
-            same-firsts = lx ∙ p .same-firsts;
-            same-ends = ly ∙ p .same-ends;
-            same-uses = lz ∙ p .same-uses;
+                (placed-rest (drop at part) node parent d ports sets above (first + cells) t x₁ y₁ z₁ x₂ y₂ z₂ (f .0) (f .1) (f .2) (p .place)));
             accepts = λ s rs r x₃ y₃ z₃ sound k tr ce us.
                 let both : Checked = record { ok = true; trees = rs .trees + 1; cells = t .cells + rs .cells; uses = bitOr (t .uses) (rs .uses) } in
                 p .accepts (tree (f .0) (f .1) s) both r x₃ y₃ z₃

@@ -47,11 +47,11 @@ fn note(
     first: usize,
     end: usize,
     used: u64,
-    firsts: &mut [u32],
-    ends: &mut [u16],
-    uses: &mut [u64],
+    firsts: &mut [u32; 512],
+    ends: &mut [u16; 512],
+    uses: &mut [u64; 512],
 )
-    requires { ⌜ (i < length (now firsts)) × (i < length (now ends)) × (i < length (now uses)) × (first < 4294967296) × (end < 65536) ⌝ }
+    requires { ⌜ (i < 512) × (first < 4294967296) × (end < 65536) ⌝ }
     ensures { λ _. ⌜ (now (firsts .exit) ≡ set (now (firsts .entry)) i first) × (now (ends .exit) ≡ set (now (ends .entry)) i end) × (now (uses .exit) ≡ set (now (uses .entry)) i used) ⌝ }
 {
     firsts[i] = first as u32;
@@ -115,9 +115,9 @@ fn check_tree(
     sets: usize,
     width: usize,
     first: usize,
-    firsts: &mut [u32],
-    ends: &mut [u16],
-    uses: &mut [u64],
+    firsts: &mut [u32; 512],
+    ends: &mut [u16; 512],
+    uses: &mut [u64; 512],
 ) -> CheckedTree
     requires { ⌜ (1 ≤ length (now part)) × Placed (now part) i parent depth ports sets width first (now firsts) (now ends) (now uses) ⌝ }
     ensures { λ r. ⌜ TreeJudged (now (part .entry)) i parent depth ports sets above first r (now (firsts .entry)) (now (ends .entry)) (now (uses .entry)) (now (firsts .exit)) (now (ends .exit)) (now (uses .exit)) ⌝ }
@@ -167,9 +167,9 @@ fn check_children(
     sets: usize,
     width: usize,
     first: usize,
-    firsts: &mut [u32],
-    ends: &mut [u16],
-    uses: &mut [u64],
+    firsts: &mut [u32; 512],
+    ends: &mut [u16; 512],
+    uses: &mut [u64; 512],
 ) -> Checked
     requires { ⌜ (depth ≤ 4) × (width ≤ 16777216) × Placed (now part) (i + 1) i (kindDepth kind depth) ports sets (kindWidth kind width ports) (first + width) (now firsts) (now ends) (now uses) ⌝ }
     ensures { λ r. ⌜ Judged (now (part .entry)) (i + 1) i (kindDepth kind depth) ports sets kind (first + width) r (now (firsts .entry)) (now (ends .entry)) (now (uses .entry)) (now (firsts .exit)) (now (ends .exit)) (now (uses .exit)) ⌝ }
@@ -213,9 +213,9 @@ fn check_forest(
     sets: usize,
     width: usize,
     first: usize,
-    firsts: &mut [u32],
-    ends: &mut [u16],
-    uses: &mut [u64],
+    firsts: &mut [u32; 512],
+    ends: &mut [u16; 512],
+    uses: &mut [u64; 512],
 ) -> Checked
     requires { ⌜ Placed (now part) i parent depth ports sets width first (now firsts) (now ends) (now uses) ⌝ }
     ensures { λ r. ⌜ Judged (now (part .entry)) i parent depth ports sets above first r (now (firsts .entry)) (now (ends .entry)) (now (uses .entry)) (now (firsts .exit)) (now (ends .exit)) (now (uses .exit)) ⌝ }
@@ -280,7 +280,12 @@ fn no_plan() -> Info
 }
 
 // Checks a plan table (ground 11) and fills the index tables: linear in the table, whatever its shape.
-pub fn check(table: &[u8], firsts: &mut [u32], ends: &mut [u16], uses: &mut [u64]) -> Info
+pub fn check(
+    table: &[u8],
+    firsts: &mut [u32; 512],
+    ends: &mut [u16; 512],
+    uses: &mut [u64; 512],
+) -> Info
     requires { ⌜ IndexRoom (now firsts) (now ends) (now uses) ⌝ }
     ensures { λ r. ⌜ PlanJudged (now (table .entry)) r (now (firsts .entry)) (now (ends .entry)) (now (uses .entry)) (now (firsts .exit)) (now (ends .exit)) (now (uses .exit)) ⌝ }
 {

@@ -10,9 +10,9 @@ ghost use Rattle.test_make.specs.inner.Putting.{PortReady, Puts};
 // Puts a port in test that is not, or takes it out: the mask after the sets', then the touched cells.
 pub fn put_port(
     table: &[u8],
-    firsts: &[u32],
-    ends: &[u16],
-    uses: &[u64],
+    firsts: &[u32; 512],
+    ends: &[u16; 512],
+    uses: &[u64; 512],
     masks: &mut [u64],
     cells: &mut [u32],
     ports: usize,

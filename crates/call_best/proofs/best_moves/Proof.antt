@@ -13,54 +13,39 @@ use Rattle.call_best.proofs.Answering.{list-shut, list-unknown, list-sh
 use borrow.Author.Needs.{needs}
 use Rattle.call_best.proofs.best_moves.Statement.{statement}
 use Rattle.call_best.proofs.best_moves.Tie as tie
+use Rattle.call_best.proofs.best_moves.Reads as reads
+use Rattle.call_best.proofs.best_moves.Lts as lts
+use Rattle.call_open.proofs.open_tables.Reads as open-tables-reads
+use Rattle.logic.proofs.lesser.Reads as lesser-reads
+use Rattle.logic.proofs.wide.Reads as wide-reads
+use Rattle.move_best.proofs.choose.Reads as choose-reads
+use Rattle.move_list.proofs.write_records.Reads as write-records-reads
+use Rattle.move_order.proofs.kinds_known.Reads as kinds-known-reads
 
 lesser-requires : tie.Need-lesser-requires
 lesser-requires c κs = search needs
-
-slice-aggregate-open-tables : tie.Need-slice-aggregate-open-tables
-slice-aggregate-open-tables c = search needs
-
-slice-aggregate-open-tables-2 : tie.Need-slice-aggregate-open-tables-2
-slice-aggregate-open-tables-2 c = search needs
-
-slice-aggregate-open-tables-3 : tie.Need-slice-aggregate-open-tables-3
-slice-aggregate-open-tables-3 c = search needs
 
 open-tables-requires : tie.Need-open-tables-requires
 open-tables-requires c κs = search needs
 
 returns : tie.Need-returns
 returns c =
-    (list-shut _ _ _ _ _ _ _ (c .if1 .taken) (rw (c .before .before .before .before .before .before .before .before .before .lesser .ensures) at (c .before .before .before .before .before .open-tables .ensures .number-is)), scratch-kept _ _ _)
+    (list-shut _ _ _ _ _ _ _ (c .if1 .taken) (rw (c .before .before .before .before .before .before .lesser .ensures) at (c .before .before .open-tables .ensures .number-is)), scratch-kept _ _ _)
 
 kinds-known-requires : tie.Need-kinds-known-requires
 kinds-known-requires c κs = search needs
 
 returns-2 : tie.Need-returns-2
 returns-2 c =
-    let o = c .before .before .before .before .before .before .before .open-tables .ensures .opens (c .before .before .if1 .left) in
-    (list-unknown _ _ _ _ _ _ (o .plan) (o .decodes) (sym (rw (c .before .before .before .before .before .before .before .before .before .before .before .lesser .ensures) at (c .before .before .before .before .before .before .before .open-tables .ensures .number-is)) ∙ c .before .before .if1 .left) (sym (c .before .kinds-known .ensures) ∙ not-true _ (c .if2 .taken)), scratch-kept _ _ _)
+    let o = c .before .before .before .before .open-tables .ensures .opens (c .before .before .if1 .left) in (list-unknown _ _ _ _ _ _ (o .plan) (o .decodes) (sym (rw (c .before .before .before .before .before .before .before .before .lesser .ensures) at (c .before .before .before .before .open-tables .ensures .number-is)) ∙ c .before .before .if1 .left) (sym (c .before .kinds-known .ensures) ∙ not-true _ (c .if2 .taken)), scratch-kept _ _ _)
 
 slice-aggregate-choose : tie.Need-slice-aggregate-choose
 slice-aggregate-choose c = search needs
 
-slice-aggregate-choose-2 : tie.Need-slice-aggregate-choose-2
-slice-aggregate-choose-2 c = search needs
-
-slice-aggregate-choose-3 : tie.Need-slice-aggregate-choose-3
-slice-aggregate-choose-3 c = search needs
-
-slice-aggregate-choose-4 : tie.Need-slice-aggregate-choose-4
-slice-aggregate-choose-4 c = search needs
-
 choose-requires : tie.Need-choose-requires
 unfolding CellsFit modulus
 choose-requires c κs =
-    record {
-      opened = open-longer _ _ _ _ _ _ _ _ _ (c .before .before .before .before .before .before .before .before .before .before .before .open-tables .ensures .opens (c .before .before .before .before .before .before .if1 .left)) (omega (arith, c .before .before .before .before .before .before .before .before .before .before .before .before .before .before .before .lesser .ensures));
-      long = record { firsts-long = omega (arith, c .before .before .before .before .before .before .before .before .before .before .before .open-tables .kept .1 .1 .1 .0); ends-long = omega (arith, c .before .before .before .before .before .before .before .before .before .before .before .open-tables .kept .1 .1 .1 .1 .0); uses-long = omega (arith, c .before .before .before .before .before .before .before .before .before .before .before .open-tables .kept .1 .1 .1 .1 .1 .0) };
-      cells-fit = (λ j. omega (arith, c .before .before .before .before .before .before .before .before .before .before .before .before .before .before .before .before .before .shared-slice-known3 .given j));
-    }
+    record { opened = open-longer _ _ _ _ _ _ _ _ _ (c .before .before .before .before .before .before .before .before .open-tables .ensures .opens (c .before .before .before .before .before .before .if1 .left)) (omega (arith, c .before .before .before .before .before .before .before .before .before .before .before .before .lesser .ensures)); cells-fit = (λ j. omega (arith, c .before .before .before .before .before .before .before .before .before .before .before .before .before .before .shared-slice-known3 .given j)) }
 
 wide-requires : tie.Need-wide-requires
 wide-requires c κs = search needs
@@ -68,8 +53,7 @@ wide-requires c κs = search needs
 returns-3 : tie.Need-returns-3
 unfolding Chooses
 returns-3 c =
-    let o = c .before .before .before .before .before .before .before .before .before .before .before .before .before .before .before .open-tables .ensures .opens (c .before .before .before .before .before .before .before .before .before .before .if1 .left) in
-    (list-short _ _ _ _ _ _ (o .plan) (o .decodes) (sym (rw (c .before .before .before .before .before .before .before .before .before .before .before .before .before .before .before .before .before .before .before .lesser .ensures) at (c .before .before .before .before .before .before .before .before .before .before .before .before .before .before .before .open-tables .ensures .number-is)) ∙ c .before .before .before .before .before .before .before .before .before .before .if1 .left) (sym (c .before .before .before .before .before .before .before .before .before .kinds-known .ensures) ∙ not-false _ (c .before .before .before .before .before .before .before .before .if2 .left)) _ (c .before .before .before .choose .ensures (o .plan) (o .decodes) .0) _ (c .before .wide .ensures .0) (c .if3 .taken), scratch-kept _ _ _)
+    let o = c .before .before .before .before .before .before .before .before .before .before .before .before .open-tables .ensures .opens (c .before .before .before .before .before .before .before .before .before .before .if1 .left) in (list-short _ _ _ _ _ _ (o .plan) (o .decodes) (sym (rw (c .before .before .before .before .before .before .before .before .before .before .before .before .before .before .before .before .lesser .ensures) at (c .before .before .before .before .before .before .before .before .before .before .before .before .open-tables .ensures .number-is)) ∙ c .before .before .before .before .before .before .before .before .before .before .if1 .left) (sym (c .before .before .before .before .before .before .before .before .before .kinds-known .ensures) ∙ not-false _ (c .before .before .before .before .before .before .before .before .if2 .left)) _ (c .before .before .before .choose .ensures (o .plan) (o .decodes) .0) _ (c .before .wide .ensures .0) (c .if3 .taken), scratch-kept _ _ _)
 
 slice-aggregate-write-records : tie.Need-slice-aggregate-write-records
 slice-aggregate-write-records c = search needs
@@ -77,9 +61,7 @@ slice-aggregate-write-records c = search needs
 write-records-requires : tie.Need-write-records-requires
 unfolding Chooses
 write-records-requires c κs =
-    let o = c .before .before .before .before .before .before .before .before .before .before .before .before .before .before .before .before .before .open-tables .ensures .opens (c .before .before .before .before .before .before .before .before .before .before .before .before .if1 .left) in
-    let own = ownTables (o .plan) (tables (c .before .before .before .before .before .before .before .before .before .before .before .before .before .before .before .before .before .before .before .before .before .before .before .before .before .before .args .masks .now) (c .before .before .before .before .before .before .before .before .before .before .before .before .before .before .before .before .before .before .before .before .before .before .before .before .before .before .args .cells .now)) in
-    (omega (arith, few-listed (o .plan) (sized-of _ (o .plan) (o .decodes)) (c .before .before .before .before .before .before .before .before .before .before .before .before .before .before .before .before .before .before .before .before .before .before .before .before .before .before .args .kinds) own, count-is (o .plan) own _ _ (c .before .before .before .before .before .choose .ensures (o .plan) (o .decodes) .0), c .before .before .before .wide .ensures .0, c .before .before .before .before .before .choose .kept .1 .1 .1 .1 .1 .1 .1 .1 .1 .0), c .before .before .if3 .left)
+    let o = c .before .before .before .before .before .before .before .before .before .before .before .before .before .before .open-tables .ensures .opens (c .before .before .before .before .before .before .before .before .before .before .before .before .if1 .left) in let own = ownTables (o .plan) (tables (c .before .before .before .before .before .before .before .before .before .before .before .before .before .before .before .before .before .before .before .before .before .before .before .args .masks .now) (c .before .before .before .before .before .before .before .before .before .before .before .before .before .before .before .before .before .before .before .before .before .before .before .args .cells .now)) in (omega (arith, few-listed (o .plan) (sized-of _ (o .plan) (o .decodes)) (c .before .before .before .before .before .before .before .before .before .before .before .before .before .before .before .before .before .before .before .before .before .before .before .args .kinds) own, count-is (o .plan) own _ _ (c .before .before .before .before .before .choose .ensures (o .plan) (o .decodes) .0), c .before .before .before .wide .ensures .0, c .before .before .before .before .before .choose .kept .1 .1 .1 .1 .1 .1 .1 .1 .1 .0), c .before .before .if3 .left)
 
 same-length : tie.Need-same-length
 same-length c = search needs
@@ -87,29 +69,18 @@ same-length c = search needs
 returns-4 : tie.Need-returns-4
 unfolding Chooses
 returns-4 c =
-    let o = c .before .before .before .before .before .before .before .before .before .before .before .before .before .before .before .before .before .before .before .open-tables .ensures .opens (c .before .before .before .before .before .before .before .before .before .before .before .before .before .before .if1 .left) in
-    let q = c .before .before .before .before .before .before .before .choose .ensures (o .plan) (o .decodes) in (
-      list-made _ _ _ _ _ _ (o .plan) (o .decodes) (sym (rw (c .before .before .before .before .before .before .before .before .before .before .before .before .before .before .before .before .before .before .before .before .before .before .before .lesser .ensures) at (c .before .before .before .before .before .before .before .before .before .before .before .before .before .before .before .before .before .before .before .open-tables .ensures .number-is)) ∙ c .before .before .before .before .before .before .before .before .before .before .before .before .before .before .if1 .left) (sym (c .before .before .before .before .before .before .before .before .before .before .before .before .before .kinds-known .ensures) ∙ not-false _ (c .before .before .before .before .before .before .before .before .before .before .before .before .if2 .left)) _ (q .0) _ (c .before .before .before .before .before .wide .ensures .0) (c .before .before .before .before .if3 .left) _
-          (best-written (o .plan) (sized-of _ (o .plan) (o .decodes)) _ _ _ _ _ _ (omega (arith, c .before .before .before .before .before .before .before .choose .kept .1 .1 .1 .1 .1 .1 .1 .1 .1 .0)) (q .0) (q .1) _ (c .before .before .before .before .before .wide .ensures .0) (c .before .write-records .ensures)),
-      scratch-kept _ _ _,
-    )
+    let o = c .before .before .before .before .before .before .before .before .before .before .before .before .before .before .before .before .open-tables .ensures .opens (c .before .before .before .before .before .before .before .before .before .before .before .before .before .before .if1 .left) in let q = c .before .before .before .before .before .before .before .choose .ensures (o .plan) (o .decodes) in (list-made _ _ _ _ _ _ (o .plan) (o .decodes) (sym (rw (c .before .before .before .before .before .before .before .before .before .before .before .before .before .before .before .before .before .before .before .before .lesser .ensures) at (c .before .before .before .before .before .before .before .before .before .before .before .before .before .before .before .before .open-tables .ensures .number-is)) ∙ c .before .before .before .before .before .before .before .before .before .before .before .before .before .before .if1 .left) (sym (c .before .before .before .before .before .before .before .before .before .before .before .before .before .kinds-known .ensures) ∙ not-false _ (c .before .before .before .before .before .before .before .before .before .before .before .before .if2 .left)) _ (q .0) _ (c .before .before .before .before .before .wide .ensures .0) (c .before .before .before .before .if3 .left) _ (best-written (o .plan) (sized-of _ (o .plan) (o .decodes)) _ _ _ _ _ _ (omega (arith, c .before .before .before .before .before .before .before .choose .kept .1 .1 .1 .1 .1 .1 .1 .1 .1 .0)) (q .0) (q .1) _ (c .before .before .before .before .before .wide .ensures .0) (c .before .write-records .ensures)), scratch-kept _ _ _)
 
 pub best-moves-spec : {M : Type 1} → statement M
 best-moves-spec =
     tie.close
     (tie.spec
     lesser-requires
-    slice-aggregate-open-tables
-    slice-aggregate-open-tables-2
-    slice-aggregate-open-tables-3
     open-tables-requires
     returns
     kinds-known-requires
     returns-2
     slice-aggregate-choose
-    slice-aggregate-choose-2
-    slice-aggregate-choose-3
-    slice-aggregate-choose-4
     choose-requires
     wide-requires
     returns-3

@@ -17,21 +17,23 @@ use Rattle.call_improve.proofs.Improving.{improve-shut, improve-unknown
 use borrow.Author.Needs.{needs}
 use Rattle.call_improve.proofs.improve.Statement.{statement}
 use Rattle.call_improve.proofs.improve.Tie as tie
+use Rattle.call_improve.proofs.improve.Reads as reads
+use Rattle.call_improve.proofs.improve.Lts as lts
+use Rattle.answers.proofs.made.Reads as made-reads
+use Rattle.call_improve.proofs.lowers.Reads as lowers-reads
+use Rattle.call_open.proofs.open_tables.Reads as open-tables-reads
+use Rattle.journal_rules.proofs.cells_lent.Reads as cells-lent-reads
+use Rattle.journal_rules.proofs.is_full.Reads as is-full-reads
+use Rattle.logic.proofs.lesser.Reads as lesser-reads
+use Rattle.move_best.proofs.choose.Reads as choose-reads
+use Rattle.move_make.proofs.carry.Reads as carry-reads
+use Rattle.move_order.proofs.kinds_known.Reads as kinds-known-reads
 
 lesser-requires : tie.Need-lesser-requires
 lesser-requires c κs = search needs
 
 cells-lent-requires : tie.Need-cells-lent-requires
 cells-lent-requires c κs = search needs
-
-slice-aggregate-open-tables : tie.Need-slice-aggregate-open-tables
-slice-aggregate-open-tables c = search needs
-
-slice-aggregate-open-tables-2 : tie.Need-slice-aggregate-open-tables-2
-slice-aggregate-open-tables-2 c = search needs
-
-slice-aggregate-open-tables-3 : tie.Need-slice-aggregate-open-tables-3
-slice-aggregate-open-tables-3 c = search needs
 
 open-tables-requires : tie.Need-open-tables-requires
 open-tables-requires c κs = search needs
@@ -41,7 +43,7 @@ same-length c = search needs
 
 returns : tie.Need-returns
 returns c =
-    (improve-shut _ _ _ _ _ _ _ _ (c .if1 .taken) (rw (c .before .before .before .before .before .before .before .before .before .before .before .lesser .ensures) at (rw (c .before .before .before .before .before .before .before .before .before .cells-lent .ensures) at (c .before .before .before .before .before .open-tables .ensures .number-is))), scratch-kept _ _ _)
+    (improve-shut _ _ _ _ _ _ _ _ (c .if1 .taken) (rw (c .before .before .before .before .before .before .before .before .lesser .ensures) at (rw (c .before .before .before .before .before .before .cells-lent .ensures) at (c .before .before .open-tables .ensures .number-is))), scratch-kept _ _ _)
 
 kinds-known-requires : tie.Need-kinds-known-requires
 kinds-known-requires c κs = search needs
@@ -51,35 +53,19 @@ same-length-2 c = search needs
 
 returns-2 : tie.Need-returns-2
 returns-2 c =
-    let o = c .before .before .before .before .before .before .before .open-tables .ensures .opens (c .before .before .if1 .left) in
-    (improve-unknown _ _ _ _ _ _ _ (o .plan) (o .decodes) (sym (rw (c .before .before .before .before .before .before .before .before .before .before .before .before .before .lesser .ensures) at (rw (c .before .before .before .before .before .before .before .before .before .before .before .cells-lent .ensures) at (c .before .before .before .before .before .before .before .open-tables .ensures .number-is))) ∙ c .before .before .if1 .left) (sym (c .before .kinds-known .ensures) ∙ not-true _ (c .if2 .taken)), scratch-kept _ _ _)
+    let o = c .before .before .before .before .open-tables .ensures .opens (c .before .before .if1 .left) in (improve-unknown _ _ _ _ _ _ _ (o .plan) (o .decodes) (sym (rw (c .before .before .before .before .before .before .before .before .before .before .lesser .ensures) at (rw (c .before .before .before .before .before .before .before .before .cells-lent .ensures) at (c .before .before .before .before .open-tables .ensures .number-is))) ∙ c .before .before .if1 .left) (sym (c .before .kinds-known .ensures) ∙ not-true _ (c .if2 .taken)), scratch-kept _ _ _)
 
 slice-aggregate-choose : tie.Need-slice-aggregate-choose
 slice-aggregate-choose c = search needs
 
-slice-aggregate-choose-2 : tie.Need-slice-aggregate-choose-2
-slice-aggregate-choose-2 c = search needs
-
-slice-aggregate-choose-3 : tie.Need-slice-aggregate-choose-3
-slice-aggregate-choose-3 c = search needs
-
-slice-aggregate-choose-4 : tie.Need-slice-aggregate-choose-4
-slice-aggregate-choose-4 c = search needs
-
 choose-requires : tie.Need-choose-requires
 unfolding CellsFit modulus
 choose-requires c κs =
-    let l = lent-most _ _ _ _ (c .before .before .before .before .before .before .before .before .before .before .before .before .before .before .before .before .before .cells-lent .ensures) in record {
-      opened = open-longer _ _ _ _ _ _ _ _ _ (c .before .before .before .before .before .before .before .before .before .before .before .before .before .open-tables .ensures .opens (c .before .before .before .before .before .before .before .before .if1 .left)) (omega (arith, l, c .before .before .before .before .before .before .before .before .before .before .before .before .before .before .before .before .before .before .before .lesser .ensures));
-      long = record { firsts-long = omega (arith, c .before .before .before .before .before .before .before .before .before .before .before .before .before .open-tables .kept .1 .1 .1 .0); ends-long = omega (arith, c .before .before .before .before .before .before .before .before .before .before .before .before .before .open-tables .kept .1 .1 .1 .1 .0); uses-long = omega (arith, c .before .before .before .before .before .before .before .before .before .before .before .before .before .open-tables .kept .1 .1 .1 .1 .1 .0) };
-      cells-fit = (λ j. omega (arith, c .before .before .before .before .before .before .before .before .before .before .before .before .before .before .before .before .before .before .before .before .before .before .slice-known2 .given j));
-    }
+    let l = lent-most _ _ _ _ (c .before .before .before .before .before .before .before .before .before .before .before .before .before .before .cells-lent .ensures) in record { opened = open-longer _ _ _ _ _ _ _ _ _ (c .before .before .before .before .before .before .before .before .before .before .open-tables .ensures .opens (c .before .before .before .before .before .before .before .before .if1 .left)) (omega (arith, l, c .before .before .before .before .before .before .before .before .before .before .before .before .before .before .before .before .lesser .ensures)); cells-fit = (λ j. omega (arith, c .before .before .before .before .before .before .before .before .before .before .before .before .before .before .before .before .before .before .before .slice-known2 .given j)) }
 
 slice-read-root : tie.Need-slice-read-root
 slice-read-root c =
-    let l = lent-most _ _ _ _ (c .before .before .before .before .before .before .before .before .before .before .before .before .before .before .before .before .before .before .before .before .cells-lent .ensures) in
-    let o = c .before .before .before .before .before .before .before .before .before .before .before .before .before .before .before .before .open-tables .ensures .opens (c .before .before .before .before .before .before .before .before .before .before .before .if1 .left) in
-    omega (arith, l, c .before .before .before .before .before .before .before .before .before .before .before .before .before .before .before .before .before .before .before .before .before .before .lesser .ensures, o .own-cells, root-cell _ (o .plan) (o .decodes))
+    let l = lent-most _ _ _ _ (c .before .before .before .before .before .before .before .before .before .before .before .before .before .before .before .before .before .cells-lent .ensures) in let o = c .before .before .before .before .before .before .before .before .before .before .before .before .before .open-tables .ensures .opens (c .before .before .before .before .before .before .before .before .before .before .before .if1 .left) in omega (arith, l, c .before .before .before .before .before .before .before .before .before .before .before .before .before .before .before .before .before .before .before .lesser .ensures, o .own-cells, root-cell _ (o .plan) (o .decodes))
 
 lowers-requires : tie.Need-lowers-requires
 lowers-requires c κs = search needs
@@ -93,8 +79,7 @@ same-length-4 c = search needs
 returns-3 : tie.Need-returns-3
 unfolding Chooses
 returns-3 c =
-    let o = c .before .before .before .before .before .before .before .before .before .before .before .before .before .before .before .before .before .before .open-tables .ensures .opens (c .before .before .before .before .before .before .before .before .before .before .before .before .before .if1 .left) in
-    (improve-none _ _ _ _ _ _ _ (o .plan) (o .decodes) (sym (rw (c .before .before .before .before .before .before .before .before .before .before .before .before .before .before .before .before .before .before .before .before .before .before .before .before .lesser .ensures) at (rw (c .before .before .before .before .before .before .before .before .before .before .before .before .before .before .before .before .before .before .before .before .before .before .cells-lent .ensures) at (c .before .before .before .before .before .before .before .before .before .before .before .before .before .before .before .before .before .before .open-tables .ensures .number-is))) ∙ c .before .before .before .before .before .before .before .before .before .before .before .before .before .if1 .left) (sym (c .before .before .before .before .before .before .before .before .before .before .before .before .kinds-known .ensures) ∙ not-false _ (c .before .before .before .before .before .before .before .before .before .before .before .if2 .left)) _ (c .before .before .before .before .choose .ensures (o .plan) (o .decodes) .0) _ (root-now _ (o .plan) (o .decodes) _ _) (sym (c .before .lowers .ensures) ∙ not-true _ (c .if3 .taken)), scratch-kept _ _ _)
+    let o = c .before .before .before .before .before .before .before .before .before .before .before .before .before .before .before .open-tables .ensures .opens (c .before .before .before .before .before .before .before .before .before .before .before .before .before .if1 .left) in (improve-none _ _ _ _ _ _ _ (o .plan) (o .decodes) (sym (rw (c .before .before .before .before .before .before .before .before .before .before .before .before .before .before .before .before .before .before .before .before .before .lesser .ensures) at (rw (c .before .before .before .before .before .before .before .before .before .before .before .before .before .before .before .before .before .before .before .cells-lent .ensures) at (c .before .before .before .before .before .before .before .before .before .before .before .before .before .before .before .open-tables .ensures .number-is))) ∙ c .before .before .before .before .before .before .before .before .before .before .before .before .before .if1 .left) (sym (c .before .before .before .before .before .before .before .before .before .before .before .before .kinds-known .ensures) ∙ not-false _ (c .before .before .before .before .before .before .before .before .before .before .before .if2 .left)) _ (c .before .before .before .before .choose .ensures (o .plan) (o .decodes) .0) _ (root-now _ (o .plan) (o .decodes) _ _) (sym (c .before .lowers .ensures) ∙ not-true _ (c .if3 .taken)), scratch-kept _ _ _)
 
 is-full-requires : tie.Need-is-full-requires
 is-full-requires c κs = search needs
@@ -108,36 +93,17 @@ same-length-6 c = search needs
 returns-4 : tie.Need-returns-4
 unfolding Chooses
 returns-4 c =
-    let o = c .before .before .before .before .before .before .before .before .before .before .before .before .before .before .before .before .before .before .before .before .open-tables .ensures .opens (c .before .before .before .before .before .before .before .before .before .before .before .before .before .before .before .if1 .left) in
-    (improve-full _ _ _ _ _ _ _ (o .plan) (o .decodes) (sym (rw (c .before .before .before .before .before .before .before .before .before .before .before .before .before .before .before .before .before .before .before .before .before .before .before .before .before .before .lesser .ensures) at (rw (c .before .before .before .before .before .before .before .before .before .before .before .before .before .before .before .before .before .before .before .before .before .before .before .before .cells-lent .ensures) at (c .before .before .before .before .before .before .before .before .before .before .before .before .before .before .before .before .before .before .before .before .open-tables .ensures .number-is))) ∙ c .before .before .before .before .before .before .before .before .before .before .before .before .before .before .before .if1 .left) (sym (c .before .before .before .before .before .before .before .before .before .before .before .before .before .before .kinds-known .ensures) ∙ not-false _ (c .before .before .before .before .before .before .before .before .before .before .before .before .before .if2 .left)) _ (c .before .before .before .before .before .before .choose .ensures (o .plan) (o .decodes) .0) _ (root-now _ (o .plan) (o .decodes) _ _) (sym (c .before .before .before .lowers .ensures) ∙ not-false _ (c .before .before .if3 .left)) (sym (c .before .is-full .ensures) ∙ c .if4 .taken), scratch-kept _ _ _)
+    let o = c .before .before .before .before .before .before .before .before .before .before .before .before .before .before .before .before .before .open-tables .ensures .opens (c .before .before .before .before .before .before .before .before .before .before .before .before .before .before .before .if1 .left) in (improve-full _ _ _ _ _ _ _ (o .plan) (o .decodes) (sym (rw (c .before .before .before .before .before .before .before .before .before .before .before .before .before .before .before .before .before .before .before .before .before .before .before .lesser .ensures) at (rw (c .before .before .before .before .before .before .before .before .before .before .before .before .before .before .before .before .before .before .before .before .before .cells-lent .ensures) at (c .before .before .before .before .before .before .before .before .before .before .before .before .before .before .before .before .before .open-tables .ensures .number-is))) ∙ c .before .before .before .before .before .before .before .before .before .before .before .before .before .before .before .if1 .left) (sym (c .before .before .before .before .before .before .before .before .before .before .before .before .before .before .kinds-known .ensures) ∙ not-false _ (c .before .before .before .before .before .before .before .before .before .before .before .before .before .if2 .left)) _ (c .before .before .before .before .before .before .choose .ensures (o .plan) (o .decodes) .0) _ (root-now _ (o .plan) (o .decodes) _ _) (sym (c .before .before .before .lowers .ensures) ∙ not-false _ (c .before .before .if3 .left)) (sym (c .before .is-full .ensures) ∙ c .if4 .taken), scratch-kept _ _ _)
 
 add-count : tie.Need-add-count
 unfolding mostRecords
 add-count c =
     let h = not-full _ _ (sym (c .before .is-full .ensures) ∙ c .if4 .left) .1 in omega (arith, h)
 
-slice-aggregate-carry : tie.Need-slice-aggregate-carry
-slice-aggregate-carry c = search needs
-
-slice-aggregate-carry-2 : tie.Need-slice-aggregate-carry-2
-slice-aggregate-carry-2 c = search needs
-
-slice-aggregate-carry-3 : tie.Need-slice-aggregate-carry-3
-slice-aggregate-carry-3 c = search needs
-
 carry-requires : tie.Need-carry-requires
 unfolding CellsFit modulus Chooses ownTables
 carry-requires c κs =
-    let l = lent-most _ _ _ _ (c .before .before .before .before .before .before .before .before .before .before .before .before .before .before .before .before .before .before .before .before .before .before .before .before .before .before .before .before .before .cells-lent .ensures) in
-    let o = open-longer _ _ _ _ _ (length (c .before .before .before .before .before .before .before .before .before .before .before .before .before .before .before .before .before .before .before .before .before .before .before .before .before .before .before .before .before .before .before .before .before .before .before .before .before .args .cells .now)) _ _ _ (c .before .before .before .before .before .before .before .before .before .before .before .before .before .before .before .before .before .before .before .before .before .before .before .before .before .open-tables .ensures .opens (c .before .before .before .before .before .before .before .before .before .before .before .before .before .before .before .before .before .before .before .before .if1 .left)) (omega (arith, l, c .before .before .before .before .before .before .before .before .before .before .before .before .before .before .before .before .before .before .before .before .before .before .before .before .before .before .before .before .before .before .before .lesser .ensures)) in
-    record {
-      tables-open = record {
-        opened = o;
-        long = record { firsts-long = omega (arith, c .before .before .before .before .before .before .before .before .before .before .before .before .before .before .before .before .before .before .before .before .before .before .before .before .before .open-tables .kept .1 .1 .1 .0); ends-long = omega (arith, c .before .before .before .before .before .before .before .before .before .before .before .before .before .before .before .before .before .before .before .before .before .before .before .before .before .open-tables .kept .1 .1 .1 .1 .0); uses-long = omega (arith, c .before .before .before .before .before .before .before .before .before .before .before .before .before .before .before .before .before .before .before .before .before .before .before .before .before .open-tables .kept .1 .1 .1 .1 .1 .0) };
-        cells-fit = (λ j. omega (arith, c .before .before .before .before .before .before .before .before .before .before .before .before .before .before .before .before .before .before .before .before .before .before .before .before .before .before .before .before .before .before .before .before .before .before .slice-known2 .given j));
-      };
-      is-legal = chosen-candidate (o .plan) (ownTables (o .plan) (tables (c .before .before .before .before .before .before .before .before .before .before .before .before .before .before .before .before .before .before .before .before .before .before .before .before .before .before .before .before .before .before .before .before .before .before .before .before .before .args .masks .now) (c .before .before .before .before .before .before .before .before .before .before .before .before .before .before .before .before .before .before .before .before .before .before .before .before .before .before .before .before .before .before .before .before .before .before .before .before .before .args .cells .now))) _ _ (root-now _ (o .plan) (o .decodes) (c .before .before .before .before .before .before .before .before .before .before .before .before .before .before .before .before .before .before .before .before .before .before .before .before .before .before .before .before .before .before .before .before .before .before .before .before .before .args .masks .now) _) _ (c .before .before .before .before .before .before .before .before .before .before .before .choose .ensures (o .plan) (o .decodes) .0) (sym (c .before .before .before .before .before .before .before .before .lowers .ensures) ∙ not-false _ (c .before .before .before .before .before .before .before .if3 .left)) .is-legal;
-    }
+    let l = lent-most _ _ _ _ (c .before .before .before .before .before .before .before .before .before .before .before .before .before .before .before .before .before .before .before .before .before .before .before .before .before .before .cells-lent .ensures) in let o = open-longer _ _ _ _ _ (length (c .before .before .before .before .before .before .before .before .before .before .before .before .before .before .before .before .before .before .before .before .before .before .before .before .before .before .before .before .before .before .before .before .before .before .args .cells .now)) _ _ _ (c .before .before .before .before .before .before .before .before .before .before .before .before .before .before .before .before .before .before .before .before .before .before .open-tables .ensures .opens (c .before .before .before .before .before .before .before .before .before .before .before .before .before .before .before .before .before .before .before .before .if1 .left)) (omega (arith, l, c .before .before .before .before .before .before .before .before .before .before .before .before .before .before .before .before .before .before .before .before .before .before .before .before .before .before .before .before .lesser .ensures)) in record { tables-open = record { opened = o; cells-fit = (λ j. omega (arith, c .before .before .before .before .before .before .before .before .before .before .before .before .before .before .before .before .before .before .before .before .before .before .before .before .before .before .before .before .before .before .before .slice-known2 .given j)) }; is-legal = chosen-candidate (o .plan) (ownTables (o .plan) (tables (c .before .before .before .before .before .before .before .before .before .before .before .before .before .before .before .before .before .before .before .before .before .before .before .before .before .before .before .before .before .before .before .before .before .before .args .masks .now) (c .before .before .before .before .before .before .before .before .before .before .before .before .before .before .before .before .before .before .before .before .before .before .before .before .before .before .before .before .before .before .before .before .before .before .args .cells .now))) _ _ (root-now _ (o .plan) (o .decodes) (c .before .before .before .before .before .before .before .before .before .before .before .before .before .before .before .before .before .before .before .before .before .before .before .before .before .before .before .before .before .before .before .before .before .before .args .masks .now) _) _ (c .before .before .before .before .before .before .before .before .before .before .before .choose .ensures (o .plan) (o .decodes) .0) (sym (c .before .before .before .before .before .before .before .before .lowers .ensures) ∙ not-false _ (c .before .before .before .before .before .before .before .if3 .left)) .is-legal }
 
 made-requires : tie.Need-made-requires
 made-requires c κs = search needs
@@ -151,8 +117,7 @@ same-length-8 c = search needs
 returns-5 : tie.Need-returns-5
 unfolding Chooses Carries
 returns-5 c =
-    let o = c .before .before .before .before .before .before .before .before .before .before .before .before .before .before .before .before .before .before .before .before .before .before .before .before .before .before .before .before .before .before .before .open-tables .ensures .opens (c .before .before .before .before .before .before .before .before .before .before .before .before .before .before .before .before .before .before .before .before .before .before .before .before .before .before .if1 .left) in
-    rw (c .made .ensures) (improve-made _ _ _ _ _ _ _ (o .plan) (o .decodes) (sym (rw (c .before .before .before .before .before .before .before .before .before .before .before .before .before .before .before .before .before .before .before .before .before .before .before .before .before .before .before .before .before .before .before .before .before .before .before .before .before .lesser .ensures) at (rw (c .before .before .before .before .before .before .before .before .before .before .before .before .before .before .before .before .before .before .before .before .before .before .before .before .before .before .before .before .before .before .before .before .before .before .before .cells-lent .ensures) at (c .before .before .before .before .before .before .before .before .before .before .before .before .before .before .before .before .before .before .before .before .before .before .before .before .before .before .before .before .before .before .before .open-tables .ensures .number-is))) ∙ c .before .before .before .before .before .before .before .before .before .before .before .before .before .before .before .before .before .before .before .before .before .before .before .before .before .before .if1 .left) (sym (c .before .before .before .before .before .before .before .before .before .before .before .before .before .before .before .before .before .before .before .before .before .before .before .before .before .kinds-known .ensures) ∙ not-false _ (c .before .before .before .before .before .before .before .before .before .before .before .before .before .before .before .before .before .before .before .before .before .before .before .before .if2 .left)) _ (c .before .before .before .before .before .before .before .before .before .before .before .before .before .before .before .before .before .choose .ensures (o .plan) (o .decodes) .0) _ (root-now _ (o .plan) (o .decodes) _ _) (sym (c .before .before .before .before .before .before .before .before .before .before .before .before .before .before .lowers .ensures) ∙ not-false _ (c .before .before .before .before .before .before .before .before .before .before .before .before .before .if3 .left)) (sym (c .before .before .before .before .before .before .before .before .before .before .before .before .is-full .ensures) ∙ c .before .before .before .before .before .before .before .before .before .before .before .if4 .left) _ _ _ _ (c .before .before .before .before .before .carry .ensures (o .plan) (o .decodes)) (omega arith), scratch-kept _ _ _)
+    let o = c .before .before .before .before .before .before .before .before .before .before .before .before .before .before .before .before .before .before .before .before .before .before .before .before .before .before .before .before .open-tables .ensures .opens (c .before .before .before .before .before .before .before .before .before .before .before .before .before .before .before .before .before .before .before .before .before .before .before .before .before .before .if1 .left) in rw (c .made .ensures) (improve-made _ _ _ _ _ _ _ (o .plan) (o .decodes) (sym (rw (c .before .before .before .before .before .before .before .before .before .before .before .before .before .before .before .before .before .before .before .before .before .before .before .before .before .before .before .before .before .before .before .before .before .before .lesser .ensures) at (rw (c .before .before .before .before .before .before .before .before .before .before .before .before .before .before .before .before .before .before .before .before .before .before .before .before .before .before .before .before .before .before .before .before .cells-lent .ensures) at (c .before .before .before .before .before .before .before .before .before .before .before .before .before .before .before .before .before .before .before .before .before .before .before .before .before .before .before .before .open-tables .ensures .number-is))) ∙ c .before .before .before .before .before .before .before .before .before .before .before .before .before .before .before .before .before .before .before .before .before .before .before .before .before .before .if1 .left) (sym (c .before .before .before .before .before .before .before .before .before .before .before .before .before .before .before .before .before .before .before .before .before .before .before .before .before .kinds-known .ensures) ∙ not-false _ (c .before .before .before .before .before .before .before .before .before .before .before .before .before .before .before .before .before .before .before .before .before .before .before .before .if2 .left)) _ (c .before .before .before .before .before .before .before .before .before .before .before .before .before .before .before .before .before .choose .ensures (o .plan) (o .decodes) .0) _ (root-now _ (o .plan) (o .decodes) _ _) (sym (c .before .before .before .before .before .before .before .before .before .before .before .before .before .before .lowers .ensures) ∙ not-false _ (c .before .before .before .before .before .before .before .before .before .before .before .before .before .if3 .left)) (sym (c .before .before .before .before .before .before .before .before .before .before .before .before .is-full .ensures) ∙ c .before .before .before .before .before .before .before .before .before .before .before .if4 .left) _ _ _ _ (c .before .before .before .before .before .carry .ensures (o .plan) (o .decodes)) (omega arith), scratch-kept _ _ _)
 
 pub improve-spec : {M : Type 1} → statement M
 improve-spec =
@@ -160,9 +125,6 @@ improve-spec =
     (tie.spec
     lesser-requires
     cells-lent-requires
-    slice-aggregate-open-tables
-    slice-aggregate-open-tables-2
-    slice-aggregate-open-tables-3
     open-tables-requires
     same-length
     returns
@@ -170,9 +132,6 @@ improve-spec =
     same-length-2
     returns-2
     slice-aggregate-choose
-    slice-aggregate-choose-2
-    slice-aggregate-choose-3
-    slice-aggregate-choose-4
     choose-requires
     slice-read-root
     lowers-requires
@@ -184,9 +143,6 @@ improve-spec =
     same-length-6
     returns-4
     add-count
-    slice-aggregate-carry
-    slice-aggregate-carry-2
-    slice-aggregate-carry-3
     carry-requires
     made-requires
     same-length-7

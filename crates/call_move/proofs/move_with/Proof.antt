@@ -10,18 +10,16 @@ use Rattle.call_move.proofs.Answering.{tries-move, none-is-left, not-le
 use borrow.Author.Needs.{needs}
 use Rattle.call_move.proofs.move_with.Statement.{statement}
 use Rattle.call_move.proofs.move_with.Tie as tie
+use Rattle.call_move.proofs.move_with.Reads as reads
+use Rattle.call_move.proofs.move_with.Lts as lts
+use Rattle.answers.proofs.accepted.Reads as accepted-reads
+use Rattle.call_open.proofs.open_tables.Reads as open-tables-reads
+use Rattle.journal_rules.proofs.cells_lent.Reads as cells-lent-reads
+use Rattle.move_legal.proofs.move_number.Reads as move-number-reads
+use Rattle.move_make.proofs.carry.Reads as carry-reads
 
 cells-lent-requires : tie.Need-cells-lent-requires
 cells-lent-requires c κs = search needs
-
-slice-aggregate-open-tables : tie.Need-slice-aggregate-open-tables
-slice-aggregate-open-tables c = search needs
-
-slice-aggregate-open-tables-2 : tie.Need-slice-aggregate-open-tables-2
-slice-aggregate-open-tables-2 c = search needs
-
-slice-aggregate-open-tables-3 : tie.Need-slice-aggregate-open-tables-3
-slice-aggregate-open-tables-3 c = search needs
 
 open-tables-requires : tie.Need-open-tables-requires
 open-tables-requires c κs = search needs
@@ -31,51 +29,37 @@ same-length c = search needs
 
 returns : tie.Need-returns
 returns c =
-    move-refused _ _ _ _ _ _ _ _ (c .if1 .taken) (shut (tries-move _ _ _ _ _ _ _) _ (c .if1 .taken) (rw (c .before .before .before .before .before .before .before .before .before .cells-lent .ensures) at (c .before .before .before .before .before .open-tables .ensures .number-is)))
+    move-refused _ _ _ _ _ _ _ _ (c .if1 .taken) (shut (tries-move _ _ _ _ _ _ _) _ (c .if1 .taken) (rw (c .before .before .before .before .before .before .cells-lent .ensures) at (c .before .before .open-tables .ensures .number-is)))
 
 same-length-2 : tie.Need-same-length-2
 same-length-2 c = search needs
 
 returns-2 : tie.Need-returns-2
 returns-2 c =
-    let o = c .before .before .before .before .before .before .open-tables .ensures .opens (c .before .if1 .left) in
-    move-refused _ _ _ _ _ _ _ 19 (λ z. omega arith) (tries-move _ _ _ _ _ _ _ .passed (o .plan) (o .decodes) (sym (rw (c .before .before .before .before .before .before .before .before .before .before .cells-lent .ensures) at (c .before .before .before .before .before .before .open-tables .ensures .number-is)) ∙ c .before .if1 .left) ∙ none-is-left _ _ _ _ _ (c .if2 .taken))
+    let o = c .before .before .before .open-tables .ensures .opens (c .before .if1 .left) in move-refused _ _ _ _ _ _ _ 19 (λ z. omega arith) (tries-move _ _ _ _ _ _ _ .passed (o .plan) (o .decodes) (sym (rw (c .before .before .before .before .before .before .before .cells-lent .ensures) at (c .before .before .before .open-tables .ensures .number-is)) ∙ c .before .if1 .left) ∙ none-is-left _ _ _ _ _ (c .if2 .taken))
 
 move-number-requires : tie.Need-move-number-requires
 move-number-requires c κs =
-    move-ready (c .before .before .before .before .before .before .before .open-tables .ensures .opens (c .before .before .if1 .left))
+    move-ready (c .before .before .before .before .open-tables .ensures .opens (c .before .before .if1 .left))
 
 same-length-3 : tie.Need-same-length-3
 same-length-3 c = search needs
 
 returns-3 : tie.Need-returns-3
 returns-3 c =
-    let o = c .before .before .before .before .before .before .before .before .before .open-tables .ensures .opens (c .before .before .before .before .if1 .left) in
-    move-refused _ _ _ _ _ _ _ _ (c .if3 .taken) (tries-move _ _ _ _ _ _ _ .passed (o .plan) (o .decodes) (sym (rw (c .before .before .before .before .before .before .before .before .before .before .before .before .before .cells-lent .ensures) at (c .before .before .before .before .before .before .before .before .before .open-tables .ensures .number-is)) ∙ c .before .before .before .before .if1 .left) ∙ not-legal _ _ _ _ _ _ (c .before .before .before .if2 .left) (c .if3 .taken) (number-is o _ _ (c .before .move-number .ensures)))
+    let o = c .before .before .before .before .before .before .open-tables .ensures .opens (c .before .before .before .before .if1 .left) in move-refused _ _ _ _ _ _ _ _ (c .if3 .taken) (tries-move _ _ _ _ _ _ _ .passed (o .plan) (o .decodes) (sym (rw (c .before .before .before .before .before .before .before .before .before .before .cells-lent .ensures) at (c .before .before .before .before .before .before .open-tables .ensures .number-is)) ∙ c .before .before .before .before .if1 .left) ∙ not-legal _ _ _ _ _ _ (c .before .before .before .if2 .left) (c .if3 .taken) (number-is o _ _ (c .before .move-number .ensures)))
 
 same-length-4 : tie.Need-same-length-4
 same-length-4 c = search needs
 
 returns-4 : tie.Need-returns-4
 returns-4 c =
-    let o = c .before .before .before .before .before .before .before .before .before .before .open-tables .ensures .opens (c .before .before .before .before .before .if1 .left) in
-    move-refused _ _ _ _ _ _ _ 18 (λ z. omega arith) (tries-move _ _ _ _ _ _ _ .passed (o .plan) (o .decodes) (sym (rw (c .before .before .before .before .before .before .before .before .before .before .before .before .before .before .cells-lent .ensures) at (c .before .before .before .before .before .before .before .before .before .before .open-tables .ensures .number-is)) ∙ c .before .before .before .before .before .if1 .left) ∙ by-room _ _ _ _ _ (c .before .before .before .before .if2 .left) (sym (number-is o _ _ (c .before .before .move-number .ensures)) ∙ c .before .if3 .left) ∙ ap (λ (b : Bool). cond b 18 0) (c .if4 .taken))
-
-slice-aggregate-carry : tie.Need-slice-aggregate-carry
-slice-aggregate-carry c = search needs
-
-slice-aggregate-carry-2 : tie.Need-slice-aggregate-carry-2
-slice-aggregate-carry-2 c = search needs
-
-slice-aggregate-carry-3 : tie.Need-slice-aggregate-carry-3
-slice-aggregate-carry-3 c = search needs
+    let o = c .before .before .before .before .before .before .before .open-tables .ensures .opens (c .before .before .before .before .before .if1 .left) in move-refused _ _ _ _ _ _ _ 18 (λ z. omega arith) (tries-move _ _ _ _ _ _ _ .passed (o .plan) (o .decodes) (sym (rw (c .before .before .before .before .before .before .before .before .before .before .before .cells-lent .ensures) at (c .before .before .before .before .before .before .before .open-tables .ensures .number-is)) ∙ c .before .before .before .before .before .if1 .left) ∙ by-room _ _ _ _ _ (c .before .before .before .before .if2 .left) (sym (number-is o _ _ (c .before .before .move-number .ensures)) ∙ c .before .if3 .left) ∙ ap (λ (b : Bool). cond b 18 0) (c .if4 .taken))
 
 carry-requires : tie.Need-carry-requires
 unfolding CellsFit modulus
 carry-requires c κs =
-    legal-move (c .before .before .before .before .before .before .before .before .before .before .before .before .before .before .before .open-tables .ensures .opens (c .before .before .before .before .before .before .before .before .before .before .if1 .left)) (lent-most _ _ _ _ (c .before .before .before .before .before .before .before .before .before .before .before .before .before .before .before .before .before .before .before .cells-lent .ensures))
-    record { firsts-long = omega (arith, c .before .before .before .before .before .before .before .before .before .before .before .before .before .before .before .open-tables .kept .1 .1 .1 .0); ends-long = omega (arith, c .before .before .before .before .before .before .before .before .before .before .before .before .before .before .before .open-tables .kept .1 .1 .1 .1 .0); uses-long = omega (arith, c .before .before .before .before .before .before .before .before .before .before .before .before .before .before .before .open-tables .kept .1 .1 .1 .1 .1 .0) }
-    (λ j. omega (arith, c .before .before .before .before .before .before .before .before .before .before .before .before .before .before .before .before .before .before .before .before .before .slice-known2 .given j)) (c .before .before .before .before .before .before .before .move-number .ensures) (c .before .before .before .before .before .before .if3 .left)
+    legal-move (c .before .before .before .before .before .before .before .before .before .before .before .before .open-tables .ensures .opens (c .before .before .before .before .before .before .before .before .before .before .if1 .left)) (lent-most _ _ _ _ (c .before .before .before .before .before .before .before .before .before .before .before .before .before .before .before .before .cells-lent .ensures)) (λ j. omega (arith, c .before .before .before .before .before .before .before .before .before .before .before .before .before .before .before .before .before .before .slice-known2 .given j)) (c .before .before .before .before .before .before .before .move-number .ensures) (c .before .before .before .before .before .before .if3 .left)
 
 accepted-requires : tie.Need-accepted-requires
 accepted-requires c κs = search needs
@@ -88,18 +72,13 @@ same-length-6 c = search needs
 
 returns-5 : tie.Need-returns-5
 returns-5 c =
-    let o = c .before .before .before .before .before .before .before .before .before .before .before .before .before .before .before .before .before .before .before .before .before .open-tables .ensures .opens (c .before .before .before .before .before .before .before .before .before .before .before .before .before .before .before .before .if1 .left) in
-    rw (c .accepted .ensures) (move-made _ _ _ (o .plan) (o .decodes) _ _ _ _ _ _ _ _
-    (tries-move _ _ _ _ _ _ _ .passed (o .plan) (o .decodes) (sym (rw (c .before .before .before .before .before .before .before .before .before .before .before .before .before .before .before .before .before .before .before .before .before .before .before .before .before .cells-lent .ensures) at (c .before .before .before .before .before .before .before .before .before .before .before .before .before .before .before .before .before .before .before .before .before .open-tables .ensures .number-is)) ∙ c .before .before .before .before .before .before .before .before .before .before .before .before .before .before .before .before .if1 .left) ∙ by-room _ _ _ _ _ (c .before .before .before .before .before .before .before .before .before .before .before .before .before .before .before .if2 .left) (sym (number-is o _ _ (c .before .before .before .before .before .before .before .before .before .before .before .before .before .move-number .ensures)) ∙ c .before .before .before .before .before .before .before .before .before .before .before .before .if3 .left) ∙ ap (λ (b : Bool). cond b 18 0) (c .before .before .before .before .before .before .before .before .before .before .before .if4 .left)) (c .before .before .before .before .before .carry .ensures))
+    let o = c .before .before .before .before .before .before .before .before .before .before .before .before .before .before .before .before .before .before .open-tables .ensures .opens (c .before .before .before .before .before .before .before .before .before .before .before .before .before .before .before .before .if1 .left) in rw (c .accepted .ensures) (move-made _ _ _ (o .plan) (o .decodes) _ _ _ _ _ _ _ _ (tries-move _ _ _ _ _ _ _ .passed (o .plan) (o .decodes) (sym (rw (c .before .before .before .before .before .before .before .before .before .before .before .before .before .before .before .before .before .before .before .before .before .before .cells-lent .ensures) at (c .before .before .before .before .before .before .before .before .before .before .before .before .before .before .before .before .before .before .open-tables .ensures .number-is)) ∙ c .before .before .before .before .before .before .before .before .before .before .before .before .before .before .before .before .if1 .left) ∙ by-room _ _ _ _ _ (c .before .before .before .before .before .before .before .before .before .before .before .before .before .before .before .if2 .left) (sym (number-is o _ _ (c .before .before .before .before .before .before .before .before .before .before .before .before .before .move-number .ensures)) ∙ c .before .before .before .before .before .before .before .before .before .before .before .before .if3 .left) ∙ ap (λ (b : Bool). cond b 18 0) (c .before .before .before .before .before .before .before .before .before .before .before .if4 .left)) (c .before .before .before .before .before .carry .ensures))
 
 pub move-with-spec : {M : Type 1} → statement M
 move-with-spec =
     tie.close
     (tie.spec
     cells-lent-requires
-    slice-aggregate-open-tables
-    slice-aggregate-open-tables-2
-    slice-aggregate-open-tables-3
     open-tables-requires
     same-length
     returns
@@ -110,9 +89,6 @@ move-with-spec =
     returns-3
     same-length-4
     returns-4
-    slice-aggregate-carry
-    slice-aggregate-carry-2
-    slice-aggregate-carry-3
     carry-requires
     accepted-requires
     same-length-5

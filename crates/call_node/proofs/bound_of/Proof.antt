@@ -1,14 +1,17 @@
 use borrow.Author.Tests.{lt-ltb, le-ltb}
-use borrow.Author.Needs.{needs}
 use Rattle.call_node.specs.inner.Bounds.{boundAt}
+use borrow.Author.Needs.{needs}
 use Rattle.call_node.proofs.bound_of.Statement.{statement}
 use Rattle.call_node.proofs.bound_of.Tie as tie
+use Rattle.call_node.proofs.bound_of.Reads as reads
+use Rattle.call_node.proofs.bound_of.Lts as lts
+use Rattle.logic.proofs.wide.Reads as wide-reads
 
 mul-wide : tie.Need-mul-wide
 mul-wide c = search needs
 
-shared-slice-read-wide : tie.Need-shared-slice-read-wide
-shared-slice-read-wide c = search needs
+element-copy-out-wide : tie.Need-element-copy-out-wide
+element-copy-out-wide c = search needs
 
 wide-requires : tie.Need-wide-requires
 wide-requires c κs = search needs
@@ -24,6 +27,4 @@ returns-2 c =
     rw (le-ltb _ _ (c .if1 .left))
 
 pub bound-of-spec : {M : Type 1} → statement M
-bound-of-spec =
-    tie.close
-    (tie.spec mul-wide shared-slice-read-wide wide-requires returns returns-2)
+bound-of-spec = tie.close (tie.spec mul-wide element-copy-out-wide wide-requires returns returns-2)

@@ -10,73 +10,45 @@ use Rattle.call_node.proofs.node_bounds.Lts as lts
 use Rattle.call_node.proofs.bound_of.Reads as bound-of-reads
 use Rattle.call_open.proofs.open_cells.Reads as open-cells-reads
 
-slice-aggregate-open-cells : tie.Need-slice-aggregate-open-cells
-slice-aggregate-open-cells c = search needs
-
-slice-aggregate-open-cells-2 : tie.Need-slice-aggregate-open-cells-2
-slice-aggregate-open-cells-2 c = search needs
-
-slice-aggregate-open-cells-3 : tie.Need-slice-aggregate-open-cells-3
-slice-aggregate-open-cells-3 c = search needs
-
 open-cells-requires : tie.Need-open-cells-requires
 open-cells-requires c κs = search needs
 
 returns : tie.Need-returns
 returns c =
-    part-shut _ _ _ _ (c .if1 .taken) (c .before .before .before .before .before .open-cells .ensures .number-is)
+    part-shut _ _ _ _ (c .if1 .taken) (c .before .before .open-cells .ensures .number-is)
 
 returns-2 : tie.Need-returns-2
 returns-2 c =
-    let o = c .before .before .before .before .before .before .open-cells .ensures .opens (c .before .if1 .left) in
-    part-past _ _ _ (o .plan) (o .decodes) (o .own-cells) (omega (arith, o .nodes-are, c .if2 .taken))
-
-slice-aggregate-bound-of : tie.Need-slice-aggregate-bound-of
-slice-aggregate-bound-of c = search needs
+    let o = c .before .before .before .open-cells .ensures .opens (c .before .if1 .left) in part-past _ _ _ (o .plan) (o .decodes) (o .own-cells) (omega (arith, o .nodes-are, c .if2 .taken))
 
 bound-of-requires : tie.Need-bound-of-requires
 bound-of-requires c κs =
-    let o = c .before .before .before .before .before .before .before .open-cells .ensures .opens (c .before .before .if1 .left) in
-    let R = ready (c .before .before .before .before .before .before .before .before .before .before .before .before .args .table .now) (o .plan) (c .before .before .before .before .before .before .before .open-cells .result .nodes) (o .decodes) (o .nodes-are) in
-    omega (arith, R .facts .nodes512, R .count, c .before .before .before .before .before .before .before .open-cells .kept .1 .1 .0)
-
-slice-aggregate-bound-of-2 : tie.Need-slice-aggregate-bound-of-2
-slice-aggregate-bound-of-2 c = search needs
+    let o = c .before .before .before .before .open-cells .ensures .opens (c .before .before .if1 .left) in let R = ready (c .before .before .before .before .before .before .before .before .before .args .table .now) (o .plan) (c .before .before .before .before .open-cells .result .nodes) (o .decodes) (o .nodes-are) in omega (arith, R .facts .nodes512, R .count)
 
 add-bound-of : tie.Need-add-bound-of
 add-bound-of c = search needs
 
 bound-of-requires-2 : tie.Need-bound-of-requires-2
 bound-of-requires-2 c κs =
-    let o = c .before .before .before .before .before .before .before .before .before .open-cells .ensures .opens (c .before .before .before .before .if1 .left) in
-    let R = ready (c .before .before .before .before .before .before .before .before .before .before .before .before .before .before .args .table .now) (o .plan) (c .before .before .before .before .before .before .before .before .before .open-cells .result .nodes) (o .decodes) (o .nodes-are) in
-    omega (arith, R .facts .nodes512, R .count, c .before .before .before .before .before .before .before .before .before .open-cells .kept .1 .1 .0)
+    let o = c .before .before .before .before .before .before .open-cells .ensures .opens (c .before .before .before .before .if1 .left) in let R = ready (c .before .before .before .before .before .before .before .before .before .before .before .args .table .now) (o .plan) (c .before .before .before .before .before .before .open-cells .result .nodes) (o .decodes) (o .nodes-are) in omega (arith, R .facts .nodes512, R .count)
 
-sub-t23 : tie.Need-sub-t23
-sub-t23 c =
-    let o = c .before .before .before .before .before .before .before .before .before .before .open-cells .ensures .opens (c .before .before .before .before .before .if1 .left) in
-    omega (arith, bounds-of (o .plan) _ _ _ _ _ _ _ (o .indexed .firsts-are) (o .nodes-are) (o .cells-are) (c .before .before .before .before .if2 .left) (c .before .before .bound-of .ensures) (c .bound-of2 .ensures) .rises)
+sub-t18 : tie.Need-sub-t18
+sub-t18 c =
+    let o = c .before .before .before .before .before .before .before .open-cells .ensures .opens (c .before .before .before .before .before .if1 .left) in omega (arith, bounds-of (o .plan) _ _ _ _ _ _ _ (o .indexed .firsts-are) (o .nodes-are) (o .cells-are) (c .before .before .before .before .if2 .left) (c .before .before .bound-of .ensures) (c .bound-of2 .ensures) .rises)
 
 returns-3 : tie.Need-returns-3
 returns-3 c =
-    let o = c .before .before .before .before .before .before .before .before .before .before .open-cells .ensures .opens (c .before .before .before .before .before .if1 .left) in
-    part-found _ _ _ (o .plan) (o .decodes) _ _ _ (o .own-cells) (omega (arith, o .nodes-are, c .before .before .before .before .if2 .left)) (o .cells-are)
-    (bounds-of (o .plan) _ _ _ _ _ _ _ (o .indexed .firsts-are) (o .nodes-are) (o .cells-are) (c .before .before .before .before .if2 .left) (c .before .before .bound-of .ensures) (c .bound-of2 .ensures))
+    let o = c .before .before .before .before .before .before .before .open-cells .ensures .opens (c .before .before .before .before .before .if1 .left) in part-found _ _ _ (o .plan) (o .decodes) _ _ _ (o .own-cells) (omega (arith, o .nodes-are, c .before .before .before .before .if2 .left)) (o .cells-are) (bounds-of (o .plan) _ _ _ _ _ _ _ (o .indexed .firsts-are) (o .nodes-are) (o .cells-are) (c .before .before .before .before .if2 .left) (c .before .before .bound-of .ensures) (c .bound-of2 .ensures))
 
 pub node-bounds-spec : {M : Type 1} → statement M
 node-bounds-spec =
     tie.close
     (tie.spec
-    slice-aggregate-open-cells
-    slice-aggregate-open-cells-2
-    slice-aggregate-open-cells-3
     open-cells-requires
     returns
     returns-2
-    slice-aggregate-bound-of
     bound-of-requires
-    slice-aggregate-bound-of-2
     add-bound-of
     bound-of-requires-2
-    sub-t23
+    sub-t18
     returns-3)

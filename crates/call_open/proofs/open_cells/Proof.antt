@@ -16,68 +16,22 @@ check-requires c κs = search needs
 closed-requires : tie.Need-closed-requires
 closed-requires c κs = search needs
 
-same-length : tie.Need-same-length
-same-length c = search needs
-
-same-length-2 : tie.Need-same-length-2
-same-length-2 c = search needs
-
-same-length-3 : tie.Need-same-length-3
-same-length-3 c = search needs
-
 returns : tie.Need-returns
 returns c =
-    cells-broken _ _ _ _ _ _ (c .closed .ensures) (c .before .before .before .before .before .before .before .before .before .check .ensures .refuses (not-true _ (c .before .if1 .taken)))
+    cells-broken _ _ _ _ _ _ (c .closed .ensures) (c .before .before .before .check .ensures .refuses (not-true _ (c .before .if1 .taken)))
 
 closed-requires-2 : tie.Need-closed-requires-2
 closed-requires-2 c κs = search needs
 
-same-length-4 : tie.Need-same-length-4
-same-length-4 c = search needs
-
-same-length-5 : tie.Need-same-length-5
-same-length-5 c = search needs
-
-same-length-6 : tie.Need-same-length-6
-same-length-6 c = search needs
-
 returns-2 : tie.Need-returns-2
 returns-2 c =
-    let a = c .before .before .before .before .before .before .before .before .before .before .before .check .ensures .accepts (not-false _ (c .before .before .before .if1 .left)) in
-    cells-few _ _ _ _ _ _ (a .0) (a .1) (c .closed2 .ensures) (omega (arith, a .2 .cells-are, c .before .if2 .taken))
-
-same-length-7 : tie.Need-same-length-7
-same-length-7 c = search needs
-
-same-length-8 : tie.Need-same-length-8
-same-length-8 c = search needs
-
-same-length-9 : tie.Need-same-length-9
-same-length-9 c = search needs
+    let a = c .before .before .before .before .before .check .ensures .accepts (not-false _ (c .before .before .before .if1 .left)) in cells-few _ _ _ _ _ _ (a .0) (a .1) (c .closed2 .ensures) (omega (arith, a .2 .cells-are, c .before .if2 .taken))
 
 returns-3 : tie.Need-returns-3
 returns-3 c =
-    let a = c .before .before .before .before .before .before .before .before .before .before .check .ensures .accepts (not-false _ (c .before .before .if1 .left)) in
-    cells-open _ _ _ _ _ _ (a .0) (a .1) refl (a .2 .ports-are) (a .2 .sets-are) (a .2 .nodes-are) (a .2 .cells-are)
-    record { firsts₀ = _; ends₀ = _; uses₀ = _; firsts-are = a .2 .firsts-are; ends-are = a .2 .ends-are; uses-are = a .2 .uses-are }
-    (omega (arith, a .2 .cells-are, c .if2 .left))
+    let a = c .before .before .before .before .check .ensures .accepts (not-false _ (c .before .before .if1 .left)) in cells-open _ _ _ _ _ _ (a .0) (a .1) refl (a .2 .ports-are) (a .2 .sets-are) (a .2 .nodes-are) (a .2 .cells-are) record { firsts₀ = _; ends₀ = _; uses₀ = _; firsts-are = a .2 .firsts-are; ends-are = a .2 .ends-are; uses-are = a .2 .uses-are } (omega (arith, a .2 .cells-are, c .if2 .left))
 
 pub open-cells-spec : {M : Type 1} → statement M
 open-cells-spec =
     tie.close
-    (tie.spec
-    check-requires
-    closed-requires
-    same-length
-    same-length-2
-    same-length-3
-    returns
-    closed-requires-2
-    same-length-4
-    same-length-5
-    same-length-6
-    returns-2
-    same-length-7
-    same-length-8
-    same-length-9
-    returns-3)
+    (tie.spec check-requires closed-requires returns closed-requires-2 returns-2 returns-3)

@@ -10,114 +10,64 @@ use Rattle.call_open.proofs.Opening.{opens-not, opens-few-masks, opens-
 use borrow.Author.Needs.{needs}
 use Rattle.call_open.proofs.open_tables.Statement.{statement}
 use Rattle.call_open.proofs.open_tables.Tie as tie
+use Rattle.call_open.proofs.open_tables.Reads as reads
+use Rattle.call_open.proofs.open_tables.Lts as lts
+use Rattle.call_open.proofs.closed.Reads as closed-reads
+use Rattle.call_open.proofs.masks_ok.Reads as masks-ok-reads
+use Rattle.call_open.proofs.open_cells.Reads as open-cells-reads
+use Rattle.logic.proofs.own_masks.Reads as own-masks-reads
 
 open-cells-requires : tie.Need-open-cells-requires
 open-cells-requires c κs = search needs
 
-same-length : tie.Need-same-length
-same-length c = search needs
-
-same-length-2 : tie.Need-same-length-2
-same-length-2 c = search needs
-
-same-length-3 : tie.Need-same-length-3
-same-length-3 c = search needs
-
 returns : tie.Need-returns
 returns c =
-    opens-not _ _ _ _ _ _ _ (c .if1 .taken) (c .before .before .before .before .before .before .before .before .open-cells .ensures .number-is)
+    opens-not _ _ _ _ _ _ _ (c .if1 .taken) (c .before .before .open-cells .ensures .number-is)
 
 own-masks-requires : tie.Need-own-masks-requires
 own-masks-requires c κs =
-    let a = c .before .before .before .before .before .before .before .before .open-cells .ensures .opens (c .if1 .left) in
-    omega (arith, a .sets-are, plan-facts (a .plan) (decode-sound _ (a .plan) (a .decodes) .rules) .sets16)
+    let a = c .before .before .open-cells .ensures .opens (c .if1 .left) in omega (arith, a .sets-are, plan-facts (a .plan) (decode-sound _ (a .plan) (a .decodes) .rules) .sets16)
 
 closed-requires : tie.Need-closed-requires
 closed-requires c κs = search needs
 
-same-length-4 : tie.Need-same-length-4
-same-length-4 c = search needs
-
-same-length-5 : tie.Need-same-length-5
-same-length-5 c = search needs
-
-same-length-6 : tie.Need-same-length-6
-same-length-6 c = search needs
-
 returns-2 : tie.Need-returns-2
 unfolding ownMasks
 returns-2 c =
-    let a = c .before .before .before .before .before .before .before .before .before .before .before .open-cells .ensures .opens (c .before .before .before .if1 .left) in
-    opens-few-masks _ _ _ _ _ _ _ (a .plan) (a .decodes) (c .closed .ensures) (omega (arith, a .sets-are, c .before .before .own-masks .ensures, c .before .if2 .taken))
+    let a = c .before .before .before .before .before .open-cells .ensures .opens (c .before .before .before .if1 .left) in opens-few-masks _ _ _ _ _ _ _ (a .plan) (a .decodes) (c .closed .ensures) (omega (arith, a .sets-are, c .before .before .own-masks .ensures, c .before .if2 .taken))
 
 own-masks-requires-2 : tie.Need-own-masks-requires-2
 own-masks-requires-2 c κs =
-    let a = c .before .before .before .before .before .before .before .before .before .before .open-cells .ensures .opens (c .before .before .if1 .left) in
-    omega (arith, a .sets-are, plan-facts (a .plan) (decode-sound _ (a .plan) (a .decodes) .rules) .sets16)
+    let a = c .before .before .before .before .open-cells .ensures .opens (c .before .before .if1 .left) in omega (arith, a .sets-are, plan-facts (a .plan) (decode-sound _ (a .plan) (a .decodes) .rules) .sets16)
 
 masks-ok-requires : tie.Need-masks-ok-requires
 masks-ok-requires c κs =
-    let a = c .before .before .before .before .before .before .before .before .before .before .before .open-cells .ensures .opens (c .before .before .before .if1 .left) in
-    (omega (arith, c .before .before .own-masks .ensures, c .own-masks2 .ensures, c .before .if2 .left), omega (arith, a .ports-are, plan-facts (a .plan) (decode-sound _ (a .plan) (a .decodes) .rules) .ports64))
+    let a = c .before .before .before .before .before .open-cells .ensures .opens (c .before .before .before .if1 .left) in (omega (arith, c .before .before .own-masks .ensures, c .own-masks2 .ensures, c .before .if2 .left), omega (arith, a .ports-are, plan-facts (a .plan) (decode-sound _ (a .plan) (a .decodes) .rules) .ports64))
 
 closed-requires-2 : tie.Need-closed-requires-2
 closed-requires-2 c κs = search needs
 
-same-length-7 : tie.Need-same-length-7
-same-length-7 c = search needs
-
-same-length-8 : tie.Need-same-length-8
-same-length-8 c = search needs
-
-same-length-9 : tie.Need-same-length-9
-same-length-9 c = search needs
-
 returns-3 : tie.Need-returns-3
 unfolding ownMasks
 returns-3 c =
-    let a = c .before .before .before .before .before .before .before .before .before .before .before .before .before .before .open-cells .ensures .opens (c .before .before .before .before .before .before .if1 .left) in
-    opens-not-within _ _ _ _ _ _ _ (a .plan) (a .decodes) (omega (arith, a .sets-are, c .before .before .before .before .before .own-masks .ensures, c .before .before .before .before .if2 .left)) (a .own-cells) (c .closed2 .ensures)
-    (ap₂ (λ (u n : ℕ). allWithin u (take n (c .before .before .before .before .before .before .before .before .before .before .before .before .before .before .before .before .before .before .before .before .before .before .before .args .masks .now))) (sym (a .ports-are)) (sym (c .before .before .before .own-masks2 .ensures ∙ ap maskCount (a .sets-are))) ∙ sym (c .before .before .masks-ok .ensures) ∙ not-true _ (c .before .if3 .taken))
-
-same-length-10 : tie.Need-same-length-10
-same-length-10 c = search needs
-
-same-length-11 : tie.Need-same-length-11
-same-length-11 c = search needs
-
-same-length-12 : tie.Need-same-length-12
-same-length-12 c = search needs
+    let a = c .before .before .before .before .before .before .before .before .open-cells .ensures .opens (c .before .before .before .before .before .before .if1 .left) in opens-not-within _ _ _ _ _ _ _ (a .plan) (a .decodes) (omega (arith, a .sets-are, c .before .before .before .before .before .own-masks .ensures, c .before .before .before .before .if2 .left)) (a .own-cells) (c .closed2 .ensures) (ap₂ (λ (u n : ℕ). allWithin u (take n (c .before .before .before .before .before .before .before .before .before .before .before .before .before .before .args .masks .now))) (sym (a .ports-are)) (sym (c .before .before .before .own-masks2 .ensures ∙ ap maskCount (a .sets-are))) ∙ sym (c .before .before .masks-ok .ensures) ∙ not-true _ (c .before .if3 .taken))
 
 returns-4 : tie.Need-returns-4
 unfolding ownMasks
 returns-4 c =
-    let a = c .before .before .before .before .before .before .before .before .before .before .before .before .before .open-cells .ensures .opens (c .before .before .before .before .before .if1 .left) in
-    opens-all _ _ _ _ _ _ _ (a .plan) (a .decodes) (omega (arith, a .sets-are, c .before .before .before .before .own-masks .ensures, c .before .before .before .if2 .left)) (a .own-cells) (c .before .before .before .before .before .if1 .left) (a .ports-are) (a .sets-are) (a .nodes-are) (a .cells-are) (a .indexed)
-    (ap₂ (λ (u n : ℕ). allWithin u (take n (c .before .before .before .before .before .before .before .before .before .before .before .before .before .before .before .before .before .before .before .before .before .before .args .masks .now))) (sym (a .ports-are)) (sym (c .before .before .own-masks2 .ensures ∙ ap maskCount (a .sets-are))) ∙ sym (c .before .masks-ok .ensures) ∙ not-false _ (c .if3 .left))
+    let a = c .before .before .before .before .before .before .before .open-cells .ensures .opens (c .before .before .before .before .before .if1 .left) in opens-all _ _ _ _ _ _ _ (a .plan) (a .decodes) (omega (arith, a .sets-are, c .before .before .before .before .own-masks .ensures, c .before .before .before .if2 .left)) (a .own-cells) (c .before .before .before .before .before .if1 .left) (a .ports-are) (a .sets-are) (a .nodes-are) (a .cells-are) (a .indexed) (ap₂ (λ (u n : ℕ). allWithin u (take n (c .before .before .before .before .before .before .before .before .before .before .before .before .before .args .masks .now))) (sym (a .ports-are)) (sym (c .before .before .own-masks2 .ensures ∙ ap maskCount (a .sets-are))) ∙ sym (c .before .masks-ok .ensures) ∙ not-false _ (c .if3 .left))
 
 pub open-tables-spec : {M : Type 1} → statement M
 open-tables-spec =
     tie.close
     (tie.spec
     open-cells-requires
-    same-length
-    same-length-2
-    same-length-3
     returns
     own-masks-requires
     closed-requires
-    same-length-4
-    same-length-5
-    same-length-6
     returns-2
     own-masks-requires-2
     masks-ok-requires
     closed-requires-2
-    same-length-7
-    same-length-8
-    same-length-9
     returns-3
-    same-length-10
-    same-length-11
-    same-length-12
     returns-4)

@@ -10,7 +10,7 @@ use Rattle.logic.specs.Configuration.{ownMasks, allWithin}
 use Rattle.logic.specs.Cells.{ownCells}
 use Rattle.logic.specs.Moves.{refusal}
 use Rattle.table_format.specs.Decode.{Decoded, sound, decode}
-use Rattle.cells_walk.specs.inner.Visit.{CellsFit, TablesLong}
+use Rattle.cells_walk.specs.inner.Visit.{CellsFit}
 use Rattle.cells_walk.specs.inner.Root.{PlanIndex}
 use Rattle.contracts.specs.Call.{planGrounds, tableGrounds}
 use Rattle.call_open.specs.declared.Opened.{Opened}
@@ -57,8 +57,7 @@ pub record Opens (bytes masks : List ℕ) (shortest : ℕ) (r : Opened) (firsts 
   pub nodes-are : r .number ≡ 0 → (P : Plan) → decode bytes ≡ sound P → r .nodes ≡ nodeCount (P .formula)
   pub cells-are : r .number ≡ 0 → (P : Plan) → decode bytes ≡ sound P → r .cells ≡ ownCells P
 
--- Open tables with index tables that are long enough and cells of 32 bits: what a walk over them asks.
+-- Open tables with cells of 32 bits: what a walk over them asks.
 pub record OpenTables (ports sets : ℕ) (bytes firsts ends uses masks cells : List ℕ) : Type 0 where
   pub opened : OpenPlan ports sets bytes masks (length cells) firsts ends uses
-  pub long : TablesLong firsts ends uses
   pub cells-fit : CellsFit cells

@@ -7,15 +7,12 @@ use Rattle.call_test.proofs.Answering.{tries-test, port-asks, number-is
 use borrow.Author.Needs.{needs}
 use Rattle.call_test.proofs.port_test.Statement.{statement}
 use Rattle.call_test.proofs.port_test.Tie as tie
-
-slice-aggregate-open-tables : tie.Need-slice-aggregate-open-tables
-slice-aggregate-open-tables c = search needs
-
-slice-aggregate-open-tables-2 : tie.Need-slice-aggregate-open-tables-2
-slice-aggregate-open-tables-2 c = search needs
-
-slice-aggregate-open-tables-3 : tie.Need-slice-aggregate-open-tables-3
-slice-aggregate-open-tables-3 c = search needs
+use Rattle.call_test.proofs.port_test.Reads as reads
+use Rattle.call_test.proofs.port_test.Lts as lts
+use Rattle.answers.proofs.accepted.Reads as accepted-reads
+use Rattle.call_open.proofs.open_tables.Reads as open-tables-reads
+use Rattle.test_make.proofs.put_port.Reads as put-port-reads
+use Rattle.test_port.proofs.port_number.Reads as port-number-reads
 
 open-tables-requires : tie.Need-open-tables-requires
 open-tables-requires c κs = search needs
@@ -25,36 +22,23 @@ same-length c = search needs
 
 returns : tie.Need-returns
 returns c =
-    test-refused _ _ _ _ _ (c .if1 .taken) (shut (tries-test _ _ _ _) _ (c .if1 .taken) (c .before .before .before .before .before .open-tables .ensures .number-is))
+    test-refused _ _ _ _ _ (c .if1 .taken) (shut (tries-test _ _ _ _) _ (c .if1 .taken) (c .before .before .open-tables .ensures .number-is))
 
 port-number-requires : tie.Need-port-number-requires
 port-number-requires c κs =
-    port-asks (c .before .before .before .before .before .before .open-tables .ensures .opens (c .before .if1 .left))
+    port-asks (c .before .before .before .open-tables .ensures .opens (c .before .if1 .left))
 
 same-length-2 : tie.Need-same-length-2
 same-length-2 c = search needs
 
 returns-2 : tie.Need-returns-2
 returns-2 c =
-    let o = c .before .before .before .before .before .before .before .before .open-tables .ensures .opens (c .before .before .before .if1 .left) in
-    test-refused _ _ _ _ _ (c .if2 .taken) (tries-test _ _ _ _ .passed (o .plan) (o .decodes) (sym (c .before .before .before .before .before .before .before .before .open-tables .ensures .number-is) ∙ c .before .before .before .if1 .left)
-    ∙ sym (number-is o _ _ _ (c .before .port-number .ensures)))
-
-slice-aggregate-put-port : tie.Need-slice-aggregate-put-port
-slice-aggregate-put-port c = search needs
-
-slice-aggregate-put-port-2 : tie.Need-slice-aggregate-put-port-2
-slice-aggregate-put-port-2 c = search needs
-
-slice-aggregate-put-port-3 : tie.Need-slice-aggregate-put-port-3
-slice-aggregate-put-port-3 c = search needs
+    let o = c .before .before .before .before .before .open-tables .ensures .opens (c .before .before .before .if1 .left) in test-refused _ _ _ _ _ (c .if2 .taken) (tries-test _ _ _ _ .passed (o .plan) (o .decodes) (sym (c .before .before .before .before .before .open-tables .ensures .number-is) ∙ c .before .before .before .if1 .left) ∙ sym (number-is o _ _ _ (c .before .port-number .ensures)))
 
 put-port-requires : tie.Need-put-port-requires
 unfolding CellsFit modulus
 put-port-requires c κs =
-    port-ready (c .before .before .before .before .before .before .before .before .before .before .before .before .before .open-tables .ensures .opens (c .before .before .before .before .before .before .before .before .if1 .left))
-    record { firsts-long = omega (arith, c .before .before .before .before .before .before .before .before .before .before .before .before .before .open-tables .kept .1 .1 .1 .0); ends-long = omega (arith, c .before .before .before .before .before .before .before .before .before .before .before .before .before .open-tables .kept .1 .1 .1 .1 .0); uses-long = omega (arith, c .before .before .before .before .before .before .before .before .before .before .before .before .before .open-tables .kept .1 .1 .1 .1 .1 .0) }
-    (λ j. omega (arith, c .before .before .before .before .before .before .before .before .before .before .before .before .before .before .before .before .before .before .slice-known2 .given j)) _ _ _ (c .before .before .before .before .before .before .port-number .ensures) (c .before .before .before .before .before .if2 .left)
+    port-ready (c .before .before .before .before .before .before .before .before .before .before .open-tables .ensures .opens (c .before .before .before .before .before .before .before .before .if1 .left)) (λ j. omega (arith, c .before .before .before .before .before .before .before .before .before .before .before .before .before .before .before .slice-known2 .given j)) _ _ _ (c .before .before .before .before .before .before .port-number .ensures) (c .before .before .before .before .before .if2 .left)
 
 accepted-requires : tie.Need-accepted-requires
 accepted-requires c κs = search needs
@@ -67,27 +51,18 @@ same-length-4 c = search needs
 
 returns-3 : tie.Need-returns-3
 returns-3 c =
-    let o = c .before .before .before .before .before .before .before .before .before .before .before .before .before .before .before .before .before .before .before .open-tables .ensures .opens (c .before .before .before .before .before .before .before .before .before .before .before .before .before .before .if1 .left) in
-    let f = sym (number-is o _ _ _ (c .before .before .before .before .before .before .before .before .before .before .before .before .port-number .ensures)) ∙ c .before .before .before .before .before .before .before .before .before .before .before .if2 .left in
-    rw (c .accepted .ensures) (test-made _ _ _ (o .plan) (o .decodes) _ _ _ _ _
-    (tries-test _ _ _ _ .passed (o .plan) (o .decodes) (sym (c .before .before .before .before .before .before .before .before .before .before .before .before .before .before .before .before .before .before .before .open-tables .ensures .number-is) ∙ c .before .before .before .before .before .before .before .before .before .before .before .before .before .before .if1 .left) ∙ f) f (c .before .before .before .before .before .put-port .ensures))
+    let o = c .before .before .before .before .before .before .before .before .before .before .before .before .before .before .before .before .open-tables .ensures .opens (c .before .before .before .before .before .before .before .before .before .before .before .before .before .before .if1 .left) in let f = sym (number-is o _ _ _ (c .before .before .before .before .before .before .before .before .before .before .before .before .port-number .ensures)) ∙ c .before .before .before .before .before .before .before .before .before .before .before .if2 .left in rw (c .accepted .ensures) (test-made _ _ _ (o .plan) (o .decodes) _ _ _ _ _ (tries-test _ _ _ _ .passed (o .plan) (o .decodes) (sym (c .before .before .before .before .before .before .before .before .before .before .before .before .before .before .before .before .open-tables .ensures .number-is) ∙ c .before .before .before .before .before .before .before .before .before .before .before .before .before .before .if1 .left) ∙ f) f (c .before .before .before .before .before .put-port .ensures))
 
 pub port-test-spec : {M : Type 1} → statement M
 port-test-spec =
     tie.close
     (tie.spec
-    slice-aggregate-open-tables
-    slice-aggregate-open-tables-2
-    slice-aggregate-open-tables-3
     open-tables-requires
     same-length
     returns
     port-number-requires
     same-length-2
     returns-2
-    slice-aggregate-put-port
-    slice-aggregate-put-port-2
-    slice-aggregate-put-port-3
     put-port-requires
     accepted-requires
     same-length-3

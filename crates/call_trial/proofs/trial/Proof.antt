@@ -10,47 +10,36 @@ use Rattle.call_trial.proofs.Answering.{tries-trial, trial-refused, tri
 use borrow.Author.Needs.{needs}
 use Rattle.call_trial.proofs.trial.Statement.{statement}
 use Rattle.call_trial.proofs.trial.Tie as tie
+use Rattle.call_trial.proofs.trial.Reads as reads
+use Rattle.call_trial.proofs.trial.Lts as lts
+use Rattle.answers.proofs.accepted.Reads as accepted-reads
+use Rattle.call_open.proofs.open_tables.Reads as open-tables-reads
+use Rattle.logic.proofs.lesser.Reads as lesser-reads
+use Rattle.logic.proofs.own_masks.Reads as own-masks-reads
+use Rattle.move_legal.proofs.move_number.Reads as move-number-reads
+use Rattle.move_try.proofs.try_move.Reads as try-move-reads
 
 lesser-requires : tie.Need-lesser-requires
 lesser-requires c κs = search needs
-
-slice-aggregate-open-tables : tie.Need-slice-aggregate-open-tables
-slice-aggregate-open-tables c = search needs
-
-slice-aggregate-open-tables-2 : tie.Need-slice-aggregate-open-tables-2
-slice-aggregate-open-tables-2 c = search needs
-
-slice-aggregate-open-tables-3 : tie.Need-slice-aggregate-open-tables-3
-slice-aggregate-open-tables-3 c = search needs
 
 open-tables-requires : tie.Need-open-tables-requires
 open-tables-requires c κs = search needs
 
 returns : tie.Need-returns
 returns c =
-    (trial-refused _ _ _ _ _ (c .if1 .taken) (shut (tries-trial _ _ _ _) _ (c .if1 .taken) (rw (c .before .before .before .before .before .before .before .before .before .lesser .ensures) at (c .before .before .before .before .before .open-tables .ensures .number-is))), scratch-kept _ _ _)
+    (trial-refused _ _ _ _ _ (c .if1 .taken) (shut (tries-trial _ _ _ _) _ (c .if1 .taken) (rw (c .before .before .before .before .before .before .lesser .ensures) at (c .before .before .open-tables .ensures .number-is))), scratch-kept _ _ _)
 
 move-number-requires : tie.Need-move-number-requires
 move-number-requires c κs =
-    move-ready (c .before .before .before .before .before .open-tables .ensures .opens (c .if1 .left))
+    move-ready (c .before .before .open-tables .ensures .opens (c .if1 .left))
 
 returns-2 : tie.Need-returns-2
 returns-2 c =
-    let o = c .before .before .before .before .before .before .before .open-tables .ensures .opens (c .before .before .if1 .left) in
-    (trial-refused _ _ _ _ _ (c .if2 .taken) (tries-trial _ _ _ _ .passed (o .plan) (o .decodes) (sym (rw (c .before .before .before .before .before .before .before .before .before .before .before .lesser .ensures) at (c .before .before .before .before .before .before .before .open-tables .ensures .number-is)) ∙ c .before .before .if1 .left) ∙ sym (number-is o _ _ (c .before .move-number .ensures))), scratch-kept _ _ _)
+    let o = c .before .before .before .before .open-tables .ensures .opens (c .before .before .if1 .left) in (trial-refused _ _ _ _ _ (c .if2 .taken) (tries-trial _ _ _ _ .passed (o .plan) (o .decodes) (sym (rw (c .before .before .before .before .before .before .before .before .lesser .ensures) at (c .before .before .before .before .open-tables .ensures .number-is)) ∙ c .before .before .if1 .left) ∙ sym (number-is o _ _ (c .before .move-number .ensures))), scratch-kept _ _ _)
 
 own-masks-requires : tie.Need-own-masks-requires
 own-masks-requires c κs =
-    sets-fit (c .before .before .before .before .before .before .before .open-tables .ensures .opens (c .before .before .if1 .left))
-
-slice-aggregate-try-move : tie.Need-slice-aggregate-try-move
-slice-aggregate-try-move c = search needs
-
-slice-aggregate-try-move-2 : tie.Need-slice-aggregate-try-move-2
-slice-aggregate-try-move-2 c = search needs
-
-slice-aggregate-try-move-3 : tie.Need-slice-aggregate-try-move-3
-slice-aggregate-try-move-3 c = search needs
+    sets-fit (c .before .before .before .before .open-tables .ensures .opens (c .before .before .if1 .left))
 
 sub-try-move : tie.Need-sub-try-move
 sub-try-move c = search needs
@@ -60,45 +49,30 @@ part-work-start c = search needs
 
 part-work-end : tie.Need-part-work-end
 part-work-end c =
-    let h = sets-fit (c .before .before .before .before .before .before .before .before .before .before .before .open-tables .ensures .opens (c .before .before .before .before .before .before .if1 .left)) in omega (arith, h, c .before .before .before .own-masks .ensures)
+    let h = sets-fit (c .before .before .before .before .before .before .before .before .open-tables .ensures .opens (c .before .before .before .before .before .before .if1 .left)) in omega (arith, h, c .before .before .before .own-masks .ensures)
 
 try-move-requires : tie.Need-try-move-requires
 unfolding CellsFit modulus
 try-move-requires c κs =
-    record {
-      legal-move = legal-move (c .before .before .before .before .before .before .before .before .before .before .before .before .open-tables .ensures .opens (c .before .before .before .before .before .before .before .if1 .left)) (omega (arith, c .before .before .before .before .before .before .before .before .before .before .before .before .before .before .before .before .lesser .ensures))
-          record { firsts-long = omega (arith, c .before .before .before .before .before .before .before .before .before .before .before .before .open-tables .kept .1 .1 .1 .0); ends-long = omega (arith, c .before .before .before .before .before .before .before .before .before .before .before .before .open-tables .kept .1 .1 .1 .1 .0); uses-long = omega (arith, c .before .before .before .before .before .before .before .before .before .before .before .before .open-tables .kept .1 .1 .1 .1 .1 .0) }
-          (λ j. omega (arith, c .before .before .before .before .before .before .before .before .before .before .before .before .before .before .before .before .before .before .shared-slice-known3 .given j)) (c .before .before .before .before .before .before .move-number .ensures) (c .before .before .before .before .before .if2 .left);
-      work-long = search needs;
-    }
+    record { legal-move = legal-move (c .before .before .before .before .before .before .before .before .before .open-tables .ensures .opens (c .before .before .before .before .before .before .before .if1 .left)) (omega (arith, c .before .before .before .before .before .before .before .before .before .before .before .before .before .lesser .ensures)) (λ j. omega (arith, c .before .before .before .before .before .before .before .before .before .before .before .before .before .before .before .shared-slice-known3 .given j)) (c .before .before .before .before .before .before .move-number .ensures) (c .before .before .before .before .before .if2 .left); work-long = search needs }
 
 accepted-requires : tie.Need-accepted-requires
 accepted-requires c κs = search needs
 
 returns-3 : tie.Need-returns-3
 returns-3 c =
-    let o = c .before .before .before .before .before .before .before .before .before .before .before .before .before .before .before .open-tables .ensures .opens (c .before .before .before .before .before .before .before .before .before .before .if1 .left) in (
-      rw (c .accepted .ensures) (trial-made _ _ _ _ (o .plan) (o .decodes) _ _
-          (tries-trial _ _ _ _ .passed (o .plan) (o .decodes) (sym (rw (c .before .before .before .before .before .before .before .before .before .before .before .before .before .before .before .before .before .before .before .lesser .ensures) at (c .before .before .before .before .before .before .before .before .before .before .before .before .before .before .before .open-tables .ensures .number-is)) ∙ c .before .before .before .before .before .before .before .before .before .before .if1 .left) ∙ sym (sym (c .before .before .before .before .before .before .before .before .if2 .left) ∙ number-is o _ _ (c .before .before .before .before .before .before .before .before .before .move-number .ensures))) (c .before .before .try-move .ensures)),
-      scratch-kept _ _ _,
-    )
+    let o = c .before .before .before .before .before .before .before .before .before .before .before .before .open-tables .ensures .opens (c .before .before .before .before .before .before .before .before .before .before .if1 .left) in (rw (c .accepted .ensures) (trial-made _ _ _ _ (o .plan) (o .decodes) _ _ (tries-trial _ _ _ _ .passed (o .plan) (o .decodes) (sym (rw (c .before .before .before .before .before .before .before .before .before .before .before .before .before .before .before .before .lesser .ensures) at (c .before .before .before .before .before .before .before .before .before .before .before .before .open-tables .ensures .number-is)) ∙ c .before .before .before .before .before .before .before .before .before .before .if1 .left) ∙ sym (sym (c .before .before .before .before .before .before .before .before .if2 .left) ∙ number-is o _ _ (c .before .before .before .before .before .before .before .before .before .move-number .ensures))) (c .before .before .try-move .ensures)), scratch-kept _ _ _)
 
 pub trial-spec : {M : Type 1} → statement M
 trial-spec =
     tie.close
     (tie.spec
     lesser-requires
-    slice-aggregate-open-tables
-    slice-aggregate-open-tables-2
-    slice-aggregate-open-tables-3
     open-tables-requires
     returns
     move-number-requires
     returns-2
     own-masks-requires
-    slice-aggregate-try-move
-    slice-aggregate-try-move-2
-    slice-aggregate-try-move-3
     sub-try-move
     part-work-start
     part-work-end

@@ -4,35 +4,32 @@ use native.Mathlib.Omega.{arith}
 use lib.Dec.{ltb}
 use lib.ListN.{length}
 use borrow.Author.Tests.{not-true, not-false}
-use borrow.Author.Needs.{needs}
 use Rattle.text_write.specs.inner.Forming.{FormsPlan}
 use Rattle.call_write.proofs.Answering.{short, broken-11, refused-at, accepted}
 use borrow.Author.Needs.{needs}
 use Rattle.call_write.proofs.write.Statement.{statement}
 use Rattle.call_write.proofs.write.Tie as tie
-
-slice-aggregate-check : tie.Need-slice-aggregate-check
-slice-aggregate-check c = search needs
-
-slice-aggregate-check-2 : tie.Need-slice-aggregate-check-2
-slice-aggregate-check-2 c = search needs
-
-slice-aggregate-check-3 : tie.Need-slice-aggregate-check-3
-slice-aggregate-check-3 c = search needs
+use Rattle.call_write.proofs.write.Reads as reads
+use Rattle.call_write.proofs.write.Lts as lts
+use Rattle.call_write.proofs.ground.Reads as ground-reads
+use Rattle.call_write.proofs.unreadable.Reads as unreadable-reads
+use Rattle.table_check.proofs.check.Reads as check-reads
+use Rattle.text_put.proofs.put_bytes.Reads as put-bytes-reads
+use Rattle.text_write.proofs.form_text.Reads as form-text-reads
 
 check-requires : tie.Need-check-requires
 check-requires c κs = search needs
 
 returns : tie.Need-returns
 returns c =
-    broken-11 (c .before .before .before .before .before .before .before .before .before .before .before .args .table .now) (c .before .before .before .before .before .before .before .before .before .before .before .args .text .now) (c .before .before .before .before .before .check .ensures .refuses (not-true _ (c .if1 .taken)))
+    broken-11 (c .before .before .before .before .before .before .before .before .args .table .now) (c .before .before .before .before .before .before .before .before .args .text .now) (c .before .before .check .ensures .refuses (not-true _ (c .if1 .taken)))
 
 slice-aggregate-form-text : tie.Need-slice-aggregate-form-text
 slice-aggregate-form-text c = search needs
 
 form-text-requires : tie.Need-form-text-requires
 form-text-requires c κs =
-    let p = c .before .before .before .before .before .before .check .ensures .accepts (not-false _ (c .before .if1 .left)) in record { plan = p .0; decodes = p .1; sets-are = p .2 .sets-are; nodes-are = p .2 .nodes-are }
+    let p = c .before .before .before .check .ensures .accepts (not-false _ (c .before .if1 .left)) in record { plan = p .0; decodes = p .1; sets-are = p .2 .sets-are; nodes-are = p .2 .nodes-are }
 
 unreadable-requires : tie.Need-unreadable-requires
 unreadable-requires c κs = search needs
@@ -43,7 +40,7 @@ ground-requires c κs = search needs
 returns-2 : tie.Need-returns-2
 unfolding FormsPlan
 returns-2 c =
-    let p = c .before .before .before .before .before .before .before .before .before .before .before .check .ensures .accepts (not-false _ (c .before .before .before .before .before .before .if1 .left)) in let f = c .before .before .before .before .form-text .ensures (p .0) (p .1) in refused-at (c .before .before .before .before .before .before .before .before .before .before .before .before .before .before .before .before .before .args .table .now) (c .before .before .before .before .before .before .before .before .before .before .before .before .before .before .before .before .before .args .text .now) (p .0) (p .1) _ _ (c .before .before .before .before .form-text .result) f (omega arith) _ (c .if2 .taken) (c .before .ground .ensures ∙ ap (λ (b : Bool). cond b 17 (cond (ltb (length (c .before .before .before .before .before .before .before .before .before .before .before .before .before .before .before .before .before .args .text .now)) (c .before .before .before .before .form-text .result .end)) 12 0)) (c .before .before .unreadable .ensures))
+    let p = c .before .before .before .before .before .before .before .before .check .ensures .accepts (not-false _ (c .before .before .before .before .before .before .if1 .left)) in let f = c .before .before .before .before .form-text .ensures (p .0) (p .1) in refused-at (c .before .before .before .before .before .before .before .before .before .before .before .before .before .before .args .table .now) (c .before .before .before .before .before .before .before .before .before .before .before .before .before .before .args .text .now) (p .0) (p .1) _ _ (c .before .before .before .before .form-text .result) f (omega arith) _ (c .if2 .taken) (c .before .ground .ensures ∙ ap (λ (b : Bool). cond b 17 (cond (ltb (length (c .before .before .before .before .before .before .before .before .before .before .before .before .before .before .args .text .now)) (c .before .before .before .before .form-text .result .end)) 12 0)) (c .before .before .unreadable .ensures))
 
 sub-put-bytes : tie.Need-sub-put-bytes
 sub-put-bytes c = search needs
@@ -53,15 +50,15 @@ part-put-bytes-start c = search needs
 
 part-put-bytes-end : tie.Need-part-put-bytes-end
 part-put-bytes-end c =
-    omega (arith, short (c .before .before .before .before .before .before .form-text .result) (length (c .before .before .before .before .before .before .before .before .before .before .before .before .before .before .before .before .before .before .before .args .text .now)) (sym (c .before .before .before .ground .ensures ∙ ap (λ (b : Bool). cond b 17 (cond (ltb (length (c .before .before .before .before .before .before .before .before .before .before .before .before .before .before .before .before .before .before .before .args .text .now)) (c .before .before .before .before .before .before .form-text .result .end)) 12 0)) (c .before .before .before .before .unreadable .ensures)) ∙ c .before .before .if2 .left))
+    omega (arith, short (c .before .before .before .before .before .before .form-text .result) (length (c .before .before .before .before .before .before .before .before .before .before .before .before .before .before .before .before .args .text .now)) (sym (c .before .before .before .ground .ensures ∙ ap (λ (b : Bool). cond b 17 (cond (ltb (length (c .before .before .before .before .before .before .before .before .before .before .before .before .before .before .before .before .args .text .now)) (c .before .before .before .before .before .before .form-text .result .end)) 12 0)) (c .before .before .before .before .unreadable .ensures)) ∙ c .before .before .if2 .left))
 
 put-bytes-requires : tie.Need-put-bytes-requires
 put-bytes-requires c κs =
-    omega (arith, short (c .before .before .before .before .before .before .before .form-text .result) (length (c .before .before .before .before .before .before .before .before .before .before .before .before .before .before .before .before .before .before .before .before .args .text .now)) (sym (c .before .before .before .before .ground .ensures ∙ ap (λ (b : Bool). cond b 17 (cond (ltb (length (c .before .before .before .before .before .before .before .before .before .before .before .before .before .before .before .before .before .before .before .before .args .text .now)) (c .before .before .before .before .before .before .before .form-text .result .end)) 12 0)) (c .before .before .before .before .before .unreadable .ensures)) ∙ c .before .before .before .if2 .left))
+    omega (arith, short (c .before .before .before .before .before .before .before .form-text .result) (length (c .before .before .before .before .before .before .before .before .before .before .before .before .before .before .before .before .before .args .text .now)) (sym (c .before .before .before .before .ground .ensures ∙ ap (λ (b : Bool). cond b 17 (cond (ltb (length (c .before .before .before .before .before .before .before .before .before .before .before .before .before .before .before .before .before .args .text .now)) (c .before .before .before .before .before .before .before .form-text .result .end)) 12 0)) (c .before .before .before .before .before .unreadable .ensures)) ∙ c .before .before .before .if2 .left))
 
-cast-t28 : tie.Need-cast-t28
-cast-t28 c =
-    omega (arith, short (c .before .before .before .before .before .before .before .before .before .before .form-text .result) (length (c .before .before .before .before .before .before .before .before .before .before .before .before .before .before .before .before .before .before .before .before .before .before .before .args .text .now)) (sym (c .before .before .before .before .before .before .before .ground .ensures ∙ ap (λ (b : Bool). cond b 17 (cond (ltb (length (c .before .before .before .before .before .before .before .before .before .before .before .before .before .before .before .before .before .before .before .before .before .before .before .args .text .now)) (c .before .before .before .before .before .before .before .before .before .before .form-text .result .end)) 12 0)) (c .before .before .before .before .before .before .before .before .unreadable .ensures)) ∙ c .before .before .before .before .before .before .if2 .left))
+cast-t25 : tie.Need-cast-t25
+cast-t25 c =
+    omega (arith, short (c .before .before .before .before .before .before .before .before .before .before .form-text .result) (length (c .before .before .before .before .before .before .before .before .before .before .before .before .before .before .before .before .before .before .before .before .args .text .now)) (sym (c .before .before .before .before .before .before .before .ground .ensures ∙ ap (λ (b : Bool). cond b 17 (cond (ltb (length (c .before .before .before .before .before .before .before .before .before .before .before .before .before .before .before .before .before .before .before .before .args .text .now)) (c .before .before .before .before .before .before .before .before .before .before .form-text .result .end)) 12 0)) (c .before .before .before .before .before .before .before .before .unreadable .ensures)) ∙ c .before .before .before .before .before .before .if2 .left))
 
 same-length : tie.Need-same-length
 same-length c = search needs
@@ -69,15 +66,12 @@ same-length c = search needs
 returns-3 : tie.Need-returns-3
 unfolding FormsPlan
 returns-3 c =
-    let p = c .before .before .before .before .before .before .before .before .before .before .before .before .before .before .before .before .before .check .ensures .accepts (not-false _ (c .before .before .before .before .before .before .before .before .before .before .before .before .if1 .left)) in let f = c .before .before .before .before .before .before .before .before .before .before .form-text .ensures (p .0) (p .1) in accepted (c .before .before .before .before .before .before .before .before .before .before .before .before .before .before .before .before .before .before .before .before .before .before .before .args .table .now) (c .before .before .before .before .before .before .before .before .before .before .before .before .before .before .before .before .before .before .before .before .before .before .before .args .text .now) (p .0) (p .1) _ _ (c .before .before .before .before .before .before .before .before .before .before .form-text .result) f (omega arith) (sym (c .before .before .before .before .before .before .before .ground .ensures ∙ ap (λ (b : Bool). cond b 17 (cond (ltb (length (c .before .before .before .before .before .before .before .before .before .before .before .before .before .before .before .before .before .before .before .before .before .before .before .args .text .now)) (c .before .before .before .before .before .before .before .before .before .before .form-text .result .end)) 12 0)) (c .before .before .before .before .before .before .before .before .unreadable .ensures)) ∙ c .before .before .before .before .before .before .if2 .left) _ _ (c .before .before .put-bytes .ensures)
+    let p = c .before .before .before .before .before .before .before .before .before .before .before .before .before .before .check .ensures .accepts (not-false _ (c .before .before .before .before .before .before .before .before .before .before .before .before .if1 .left)) in let f = c .before .before .before .before .before .before .before .before .before .before .form-text .ensures (p .0) (p .1) in accepted (c .before .before .before .before .before .before .before .before .before .before .before .before .before .before .before .before .before .before .before .before .args .table .now) (c .before .before .before .before .before .before .before .before .before .before .before .before .before .before .before .before .before .before .before .before .args .text .now) (p .0) (p .1) _ _ (c .before .before .before .before .before .before .before .before .before .before .form-text .result) f (omega arith) (sym (c .before .before .before .before .before .before .before .ground .ensures ∙ ap (λ (b : Bool). cond b 17 (cond (ltb (length (c .before .before .before .before .before .before .before .before .before .before .before .before .before .before .before .before .before .before .before .before .args .text .now)) (c .before .before .before .before .before .before .before .before .before .before .form-text .result .end)) 12 0)) (c .before .before .before .before .before .before .before .before .unreadable .ensures)) ∙ c .before .before .before .before .before .before .if2 .left) _ _ (c .before .before .put-bytes .ensures)
 
 pub write-spec : {M : Type 1} → statement M
 write-spec =
     tie.close
     (tie.spec
-    slice-aggregate-check
-    slice-aggregate-check-2
-    slice-aggregate-check-3
     check-requires
     returns
     slice-aggregate-form-text
@@ -89,6 +83,6 @@ write-spec =
     part-put-bytes-start
     part-put-bytes-end
     put-bytes-requires
-    cast-t28
+    cast-t25
     same-length
     returns-3)

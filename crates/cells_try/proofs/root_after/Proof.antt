@@ -8,11 +8,11 @@ first-word-requires c κs = search needs
 
 cell-after-requires : tie.Need-cell-after-requires
 cell-after-requires c κs =
-    root-ready _ _ _ _ _ _ _ _ _ (c .before .before .before .before .before .before .before .pre) _ (c .first-word .ensures)
+    root-ready _ _ _ _ _ _ _ _ _ (c .before .before .before .before .pre) _ (c .first-word .ensures)
 
 returns : tie.Need-returns
 returns c =
-    root-gives _ _ _ _ _ _ _ _ _ (c .before .before .before .before .before .before .before .before .pre) _ _ (c .before .first-word .ensures) (c .cell-after .ensures)
+    root-gives _ _ _ _ _ _ _ _ _ (c .before .before .before .before .before .pre) _ _ (c .before .first-word .ensures) (c .cell-after .ensures)
 
 pub root-after-spec : {M : Type 1} → statement M
 root-after-spec = tie.close (tie.spec first-word-requires cell-after-requires returns)

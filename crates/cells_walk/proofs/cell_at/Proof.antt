@@ -5,8 +5,8 @@ use Rattle.cells_walk.proofs.cell_at.Tie as tie
 mul-wide : tie.Need-mul-wide
 mul-wide c = search needs
 
-shared-slice-read-wide : tie.Need-shared-slice-read-wide
-shared-slice-read-wide c = search needs
+element-copy-out-wide : tie.Need-element-copy-out-wide
+element-copy-out-wide c = search needs
 
 wide-requires : tie.Need-wide-requires
 wide-requires c κs = search needs
@@ -29,7 +29,7 @@ cell-at-spec =
     tie.close
     (tie.spec
     mul-wide
-    shared-slice-read-wide
+    element-copy-out-wide
     wide-requires
     add-at
     mul-result

@@ -12,7 +12,7 @@ use Rattle.table_format.specs.inner.Index.{ends, usesTable, laid}
 use Rattle.cells_touch.specs.declared.Changed.{Changed}
 use Rattle.cells_touch.specs.inner.Hits.{Describes}
 use Rattle.cells_sum.specs.declared.After.{After}
-use Rattle.cells_walk.specs.inner.Visit.{MasksSettled, CellsFit, TablesLong}
+use Rattle.cells_walk.specs.inner.Visit.{MasksSettled, CellsFit}
 
 -- The index tables of a plan, as its check leaves them in tables of any numbers.
 pub record PlanIndex (P : Plan) (firsts ends′ uses : List ℕ) : Type 0 where
@@ -30,7 +30,6 @@ pub record RootReady (u sets : ℕ) (c : Changed) (bytes firsts ends′ uses mas
   pub ports-are : u ≡ plan .ports
   pub sets-are : sets ≡ plan .sets
   pub indexed : PlanIndex plan firsts ends′ uses
-  pub long : TablesLong firsts ends′ uses
   pub change : Change
   pub says : Describes u change c
   pub masks-settled : MasksSettled u sets masks

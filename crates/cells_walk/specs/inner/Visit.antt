@@ -119,9 +119,3 @@ pub record RowJoined (u : ℕ) (k : Configuration) (ch : Change) (t : OldCells) 
 pub record RowTreesAfter (u : ℕ) (k : Configuration) (ch : Change) (t : OldCells) (add : Bool) (f : Forest) (b d : ℕ) (e : Tuple) (acc : List ℕ) (before : ℕ) (out : List ℕ) (changed : ℕ) : Type 0 where
   pub numbers : (x : ℕ) → x < u → getD out x 0 ≡ gathered add (getD acc x 0) (renewals u k ch t f b (suc d) (x ∷ e))
   pub changed-is : changed ≡ (before + sum (eachPort u (λ x. changes u k ch t f b (suc d) (x ∷ e) ∷ []))) % modulus
-
--- The tables that a walk reads have an entry for every node.
-pub record TablesLong (firsts ends uses : List ℕ) : Type 0 where
-  pub firsts-long : 512 ≤ length firsts
-  pub ends-long : 512 ≤ length ends
-  pub uses-long : 512 ≤ length uses

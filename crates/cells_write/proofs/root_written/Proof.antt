@@ -10,7 +10,7 @@ first-word-requires c κs =
 
 cell-written-requires : tie.Need-cell-written-requires
 cell-written-requires c κs =
-    root-ready _ _ _ _ _ _ _ _ _ (c .before .before .before .before .before .before .before .before .pre) _ (c .first-word .ensures)
+    root-ready _ _ _ _ _ _ _ _ _ (c .before .before .before .before .before .pre) _ (c .first-word .ensures)
 
 same-length : tie.Need-same-length
 same-length c =
@@ -18,7 +18,7 @@ same-length c =
 
 returns : tie.Need-returns
 returns c =
-    root-moved _ _ _ _ _ _ _ _ _ (c .before .before .before .before .before .before .before .before .before .before .before .pre) _ _ _ (c .before .before .before .first-word .ensures) (c .before .before .cell-written .ensures)
+    root-moved _ _ _ _ _ _ _ _ _ (c .before .before .before .before .before .before .before .before .pre) _ _ _ (c .before .before .before .first-word .ensures) (c .before .before .cell-written .ensures)
 
 pub root-written-spec : {M : Type 1} → statement M
 root-written-spec =

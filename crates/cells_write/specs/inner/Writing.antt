@@ -25,34 +25,34 @@ pub record RowWriteReady (u sets : ℕ) (c : Changed) (bytes firsts ends uses ma
 -- The cells at or below one cell hold their new numbers, and no other place is written: `old` is the table before, `new` after.
 unfoldable pub CellWrites : ℕ → ℕ → Changed → List ℕ → List ℕ → List ℕ → List ℕ → List ℕ → List ℕ → ℕ → ℕ → ℕ → ℕ → ℕ → List ℕ → Type 0
 CellWrites u sets c bytes firsts ends uses masks old i d place digits word new =
-    (ch : Change) (n : Node) (f s : Forest) (b : ℕ) (e : Tuple) → WalkReady u sets c firsts ends uses masks old ch
+    (ch : Change) (n : Node) (f s : Forest) (b : ℕ) (e : Tuple) → WalkReady u sets c masks old ch
     → Visit u sets ch bytes firsts ends uses old i (tree n f s) b d e place digits word
     → Wrote u (configured u sets (inMasks masks)) ch (tree n f none) b d (Only e) old new
 
 -- The same of the trees of a forest, which end at node `until`.
 unfoldable pub TreesWrite : ℕ → ℕ → Changed → List ℕ → List ℕ → List ℕ → List ℕ → List ℕ → List ℕ → ℕ → ℕ → ℕ → ℕ → ℕ → ℕ → List ℕ → Type 0
 TreesWrite u sets c bytes firsts ends uses masks old i until d place digits word new =
-    (ch : Change) (f : Forest) (b : ℕ) (e : Tuple) → WalkReady u sets c firsts ends uses masks old ch
+    (ch : Change) (f : Forest) (b : ℕ) (e : Tuple) → WalkReady u sets c masks old ch
     → Visit u sets ch bytes firsts ends uses old i f b d e place digits word → until ≡ i + nodeCount f
     → Wrote u (configured u sets (inMasks masks)) ch f b d (Only e) old new
 
 -- The same of the tree below a quantifier at depth d, at each port.
 unfoldable pub PortsWrite : ℕ → ℕ → Changed → List ℕ → List ℕ → List ℕ → List ℕ → List ℕ → List ℕ → ℕ → ℕ → ℕ → ℕ → ℕ → List ℕ → Type 0
 PortsWrite u sets c bytes firsts ends uses masks old i d row digits word new =
-    (ch : Change) (f : Forest) (b : ℕ) (e : Tuple) → WalkReady u sets c firsts ends uses masks old ch
+    (ch : Change) (f : Forest) (b : ℕ) (e : Tuple) → WalkReady u sets c masks old ch
     → RowVisit u sets ch bytes firsts ends uses old i f b d e row digits word → treeCount f ≡ 1
     → Wrote u (configured u sets (inMasks masks)) ch f b (suc d) (Row u e) old new
 
 -- The same of a node's row, and of the rows of a forest's trees.
 unfoldable pub RowWrites : ℕ → ℕ → Changed → List ℕ → List ℕ → List ℕ → List ℕ → List ℕ → List ℕ → ℕ → ℕ → ℕ → ℕ → ℕ → List ℕ → Type 0
 RowWrites u sets c bytes firsts ends uses masks old i d row digits word new =
-    (ch : Change) (n : Node) (f s : Forest) (b : ℕ) (e : Tuple) → WalkReady u sets c firsts ends uses masks old ch
+    (ch : Change) (n : Node) (f s : Forest) (b : ℕ) (e : Tuple) → WalkReady u sets c masks old ch
     → RowVisit u sets ch bytes firsts ends uses old i (tree n f s) b d e row digits word
     → Wrote u (configured u sets (inMasks masks)) ch (tree n f none) b (suc d) (Row u e) old new
 
 unfoldable pub RowTreesWrite : ℕ → ℕ → Changed → List ℕ → List ℕ → List ℕ → List ℕ → List ℕ → List ℕ → ℕ → ℕ → ℕ → ℕ → ℕ → ℕ → List ℕ → Type 0
 RowTreesWrite u sets c bytes firsts ends uses masks old i until d row digits word new =
-    (ch : Change) (f : Forest) (b : ℕ) (e : Tuple) → WalkReady u sets c firsts ends uses masks old ch
+    (ch : Change) (f : Forest) (b : ℕ) (e : Tuple) → WalkReady u sets c masks old ch
     → RowVisit u sets ch bytes firsts ends uses old i f b d e row digits word → until ≡ i + nodeCount f
     → Wrote u (configured u sets (inMasks masks)) ch f b (suc d) (Row u e) old new
 

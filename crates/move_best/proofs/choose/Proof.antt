@@ -3,9 +3,14 @@ use Rattle.call_open.proofs.OpenPlan.{sets-fit}
 use borrow.Author.Needs.{needs}
 use Rattle.move_best.proofs.choose.Statement.{statement}
 use Rattle.move_best.proofs.choose.Tie as tie
+use Rattle.move_best.proofs.choose.Reads as reads
+use Rattle.move_best.proofs.choose.Lts as lts
+use Rattle.logic.proofs.own_masks.Reads as own-masks-reads
+use Rattle.move_best.proofs.search.Reads as search-reads
 
 own-masks-requires : tie.Need-own-masks-requires
-own-masks-requires c κs = sets-fit (c .before .before .before .before .before .before .before .pre .opened)
+own-masks-requires c κs =
+    sets-fit (c .before .before .before .before .pre .opened)
 
 sub-search : tie.Need-sub-search
 sub-search c = search needs
@@ -15,7 +20,7 @@ part-work-start c = search needs
 
 part-work-end : tie.Need-part-work-end
 part-work-end c =
-    omega (arith, sets-fit (c .before .before .before .before .before .before .before .before .pre .opened), c .own-masks .ensures)
+    omega (arith, sets-fit (c .before .before .before .before .before .pre .opened), c .own-masks .ensures)
 
 search-requires : tie.Need-search-requires
 search-requires c κs = search needs
@@ -29,4 +34,11 @@ returns c = search needs
 pub choose-spec : {M : Type 1} → statement M
 choose-spec =
     tie.close
-    (tie.spec own-masks-requires sub-search part-work-start part-work-end search-requires same-length returns)
+    (tie.spec
+    own-masks-requires
+    sub-search
+    part-work-start
+    part-work-end
+    search-requires
+    same-length
+    returns)

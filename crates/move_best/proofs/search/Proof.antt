@@ -8,22 +8,29 @@ use Rattle.move_best.proofs.Candidates.{sized-over}
 use Rattle.move_best.proofs.Searching.{left, Searching, search-starts, search-tries, search-few, search-place, search-begins, search-goes-on, search-less, search-ends}
 use Rattle.move_best.proofs.search.Statement.{statement}
 use Rattle.move_best.proofs.search.Tie as tie
+use Rattle.move_best.proofs.search.Reads as reads
+use Rattle.move_best.proofs.search.Lts as lts
+use Rattle.move_legal.proofs.narrow.Reads as narrow-reads
+use Rattle.move_order.proofs.first_candidate.Reads as first-candidate-reads
+use Rattle.move_order.proofs.next_candidate.Reads as next-candidate-reads
+use Rattle.move_rank.proofs.keep_place.Reads as keep-place-reads
+use Rattle.move_rank.proofs.none_yet.Reads as none-yet-reads
+use Rattle.move_rank.proofs.ranked.Reads as ranked-reads
+use Rattle.move_try.proofs.try_move.Reads as try-move-reads
 
 abbrev Inv-loop : tie.InvT-loop
-Inv-loop table firsts ends uses masks cells ports sets kinds work₀ places₀ u n best₀ at₀ work places best at =
-    Searching table masks cells kinds sets (length places₀) work places best at
+Inv-loop table firsts ends uses masks cells ports sets kinds work₀ places₀ u n best₀ at₀ work places best at = Searching table masks cells kinds sets (length places₀) work places best at
 
 abbrev μ-loop : tie.MeasureT-loop
-μ-loop table firsts ends uses masks cells ports sets kinds work₀ places₀ u n best₀ at₀ work places best at =
-    left (at .found) (place (at .m))
+μ-loop table firsts ends uses masks cells ports sets kinds work₀ places₀ u n best₀ at₀ work places best at = left (at .found) (place (at .m))
 
 narrow-requires : tie.Need-narrow-requires Inv-loop μ-loop
 narrow-requires c κs =
-    ports-fit (c .before .before .before .before .before .before .before .before .pre .ready .opened)
+    ports-fit (c .before .before .before .before .before .pre .ready .opened)
 
 narrow-requires-2 : tie.Need-narrow-requires-2 Inv-loop μ-loop
 narrow-requires-2 c κs =
-    let h = sets-fit (c .before .before .before .before .before .before .before .before .before .pre .ready .opened) in omega (arith, h)
+    let h = sets-fit (c .before .before .before .before .before .before .pre .ready .opened) in omega (arith, h)
 
 none-yet-requires : tie.Need-none-yet-requires Inv-loop μ-loop
 none-yet-requires c κs =
@@ -31,39 +38,39 @@ none-yet-requires c κs =
 
 first-candidate-requires : tie.Need-first-candidate-requires Inv-loop μ-loop
 first-candidate-requires c κs =
-    sized-over (c .before .before .before .before .before .before .before .before .before .before .before .pre .ready .opened) _ _ (c .before .before .narrow .ensures) (c .before .narrow2 .ensures)
+    sized-over (c .before .before .before .before .before .before .before .before .pre .ready .opened) _ _ (c .before .before .narrow .ensures) (c .before .narrow2 .ensures)
 
 loop-holds : tie.Need-loop-holds Inv-loop μ-loop
 loop-holds c =
-    search-starts _ _ _ _ _ _ _ _ (c .before .before .before .before .before .before .before .before .before .before .before .before .pre .ready) _ _ _ (c .before .before .before .narrow .ensures) (c .before .before .narrow2 .ensures) _ _ _ _ (c .before .before .before .before .before .before .before .before .before .before .before .before .pre .work-long) (c .before .none-yet .ensures) (c .first-candidate .ensures)
+    search-starts _ _ _ _ _ _ _ _ (c .before .before .before .before .before .before .before .before .before .pre .ready) _ _ _ (c .before .before .before .narrow .ensures) (c .before .before .narrow2 .ensures) _ _ _ _ (c .before .before .before .before .before .before .before .before .before .pre .work-long) (c .before .none-yet .ensures) (c .first-candidate .ensures)
 
 try-move-requires : tie.Need-try-move-requires Inv-loop μ-loop
 try-move-requires c κs =
-    search-tries _ _ _ _ _ _ _ _ (c .before .before .before .before .before .before .before .before .before .before .before .before .before .before .before .pre .ready) _ _ _ (c .before .before .before .before .before .before .narrow .ensures) (c .before .before .before .before .before .narrow2 .ensures) _ _ _ _ _ (c .before .before .loop .inv) (c .before .loop-test .taken)
+    search-tries _ _ _ _ _ _ _ _ (c .before .before .before .before .before .before .before .before .before .before .before .before .pre .ready) _ _ _ (c .before .before .before .before .before .before .narrow .ensures) (c .before .before .before .before .before .narrow2 .ensures) _ _ _ _ _ (c .before .before .loop .inv) (c .before .loop-test .taken)
 
 ranked-requires : tie.Need-ranked-requires Inv-loop μ-loop
 ranked-requires c κs =
-    search-few _ _ _ _ _ _ _ _ (c .before .before .before .before .before .before .before .before .before .before .before .before .before .before .before .before .before .before .pre .ready) _ _ _ (c .before .before .before .before .before .before .before .before .before .narrow .ensures) (c .before .before .before .before .before .before .before .before .narrow2 .ensures) _ _ _ _ _ (c .before .before .before .before .before .loop .inv) (c .before .before .before .before .loop-test .taken)
+    search-few _ _ _ _ _ _ _ _ (c .before .before .before .before .before .before .before .before .before .before .before .before .before .before .before .pre .ready) _ _ _ (c .before .before .before .before .before .before .before .before .before .narrow .ensures) (c .before .before .before .before .before .before .before .before .narrow2 .ensures) _ _ _ _ _ (c .before .before .before .before .before .loop .inv) (c .before .before .before .before .loop-test .taken)
 
 keep-place-requires : tie.Need-keep-place-requires Inv-loop μ-loop
 keep-place-requires c κs =
-    search-place _ _ _ _ _ _ _ _ (c .before .before .before .before .before .before .before .before .before .before .before .before .before .before .before .before .before .before .before .before .pre .ready) _ _ _ (c .before .before .before .before .before .before .before .before .before .before .before .narrow .ensures) (c .before .before .before .before .before .before .before .before .before .before .narrow2 .ensures) _ _ _ _ _ (c .before .before .before .before .before .before .before .loop .inv) (c .before .before .before .before .before .before .loop-test .taken) _ _ (c .before .before .before .before .try-move .ensures) (c .before .ranked .ensures)
+    search-place _ _ _ _ _ _ _ _ (c .before .before .before .before .before .before .before .before .before .before .before .before .before .before .before .before .before .pre .ready) _ _ _ (c .before .before .before .before .before .before .before .before .before .before .before .narrow .ensures) (c .before .before .before .before .before .before .before .before .before .before .narrow2 .ensures) _ _ _ _ _ (c .before .before .before .before .before .before .before .loop .inv) (c .before .before .before .before .before .before .loop-test .taken) _ _ (c .before .before .before .before .try-move .ensures) (c .before .ranked .ensures)
 
 next-candidate-requires : tie.Need-next-candidate-requires Inv-loop μ-loop
 next-candidate-requires c κs =
-    search-begins _ _ _ _ _ _ _ _ (c .before .before .before .before .before .before .before .before .before .before .before .before .before .before .before .before .before .before .before .before .before .before .before .pre .ready) _ _ _ (c .before .before .before .before .before .before .before .before .before .before .before .before .before .before .narrow .ensures) (c .before .before .before .before .before .before .before .before .before .before .before .before .before .narrow2 .ensures) _ _ _ _ _ (c .before .before .before .before .before .before .before .before .before .before .loop .inv) (c .before .before .before .before .before .before .before .before .before .loop-test .taken)
+    search-begins _ _ _ _ _ _ _ _ (c .before .before .before .before .before .before .before .before .before .before .before .before .before .before .before .before .before .before .before .before .pre .ready) _ _ _ (c .before .before .before .before .before .before .before .before .before .before .before .before .before .before .narrow .ensures) (c .before .before .before .before .before .before .before .before .before .before .before .before .before .narrow2 .ensures) _ _ _ _ _ (c .before .before .before .before .before .before .before .before .before .before .loop .inv) (c .before .before .before .before .before .before .before .before .before .loop-test .taken)
 
 loop-less : tie.Need-loop-less Inv-loop μ-loop
 loop-less c =
-    search-less _ _ _ _ _ _ _ _ (c .before .before .before .before .before .before .before .before .before .before .before .before .before .before .before .before .before .before .before .before .before .before .before .before .pre .ready) _ _ _ (c .before .before .before .before .before .before .before .before .before .before .before .before .before .before .before .narrow .ensures) (c .before .before .before .before .before .before .before .before .before .before .before .before .before .before .narrow2 .ensures) _ _ _ _ _ (c .before .before .before .before .before .before .before .before .before .before .before .loop .inv) (c .before .before .before .before .before .before .before .before .before .before .loop-test .taken) _ (c .next-candidate .ensures)
+    search-less _ _ _ _ _ _ _ _ (c .before .before .before .before .before .before .before .before .before .before .before .before .before .before .before .before .before .before .before .before .before .pre .ready) _ _ _ (c .before .before .before .before .before .before .before .before .before .before .before .before .before .before .before .narrow .ensures) (c .before .before .before .before .before .before .before .before .before .before .before .before .before .before .narrow2 .ensures) _ _ _ _ _ (c .before .before .before .before .before .before .before .before .before .before .before .loop .inv) (c .before .before .before .before .before .before .before .before .before .before .loop-test .taken) _ (c .next-candidate .ensures)
 
 loop-again : tie.Need-loop-again Inv-loop μ-loop
 loop-again c =
-    search-goes-on _ _ _ _ _ _ _ _ (c .before .before .before .before .before .before .before .before .before .before .before .before .before .before .before .before .before .before .before .before .before .before .before .before .pre .ready) _ _ _ (c .before .before .before .before .before .before .before .before .before .before .before .before .before .before .before .narrow .ensures) (c .before .before .before .before .before .before .before .before .before .before .before .before .before .before .narrow2 .ensures) _ _ _ _ _ (c .before .before .before .before .before .before .before .before .before .before .before .loop .inv) (c .before .before .before .before .before .before .before .before .before .before .loop-test .taken) _ _ _ _ _ (c .before .before .before .before .before .before .before .before .try-move .kept .1 .1 .1 .1 .1 .1 .1 .1 .1 .0) (c .before .before .before .before .before .before .before .before .try-move .ensures) (c .before .before .before .before .before .ranked .ensures) (c .before .before .before .keep-place .ensures) (c .next-candidate .ensures)
+    search-goes-on _ _ _ _ _ _ _ _ (c .before .before .before .before .before .before .before .before .before .before .before .before .before .before .before .before .before .before .before .before .before .pre .ready) _ _ _ (c .before .before .before .before .before .before .before .before .before .before .before .before .before .before .before .narrow .ensures) (c .before .before .before .before .before .before .before .before .before .before .before .before .before .before .narrow2 .ensures) _ _ _ _ _ (c .before .before .before .before .before .before .before .before .before .before .before .loop .inv) (c .before .before .before .before .before .before .before .before .before .before .loop-test .taken) _ _ _ _ _ (c .before .before .before .before .before .before .before .before .try-move .kept .1 .1 .1 .1 .1 .1 .1 .1 .1 .0) (c .before .before .before .before .before .before .before .before .try-move .ensures) (c .before .before .before .before .before .ranked .ensures) (c .before .before .before .keep-place .ensures) (c .next-candidate .ensures)
 
 same-length : tie.Need-same-length Inv-loop μ-loop
 same-length c =
-    c .before .loop .inv .work-long ∙ sym (c .before .before .before .before .before .before .before .before .before .before .before .before .before .before .pre .work-long)
+    c .before .loop .inv .work-long ∙ sym (c .before .before .before .before .before .before .before .before .before .before .before .pre .work-long)
 
 same-length-2 : tie.Need-same-length-2 Inv-loop μ-loop
 same-length-2 c =

@@ -4,39 +4,43 @@ use Prim.Native.Nat.{ℕ, _+_, _-_, _*_, _<_}
 use native.Mathlib.Omega.{arith}
 use borrow.Author.Needs.{needs}
 use borrow.Author.Tests.{not-true, not-false}
-use Rattle.cells_try.proofs.Walking.{node-low, firsts-room, ends-room, uses-room, cell-room, record-room, place-low, times-fits, literal-ready, touched-ready, ports-ready, trees-ready, gives-untouched, gives-literal, gives-ports, gives-trees, some-left, Onward, onward-first, onward-next, onward-last}
-use Rattle.cells_try.proofs.Rowing.{port-ready, first-ready, row-low, row-fits-64, digits-ready, row-within, part-room, part-old, port-gives, gives-literal-row, gives-joint-row, row-trees-ready, row-cells-ready, RowPassed, row-start, row-step, row-finished, joins-kept, joins-row, ports-row, any-row, ports-by-row, pair-of, pair-gives, pair-first, pair-next, pair-only, pair-second, pair-last, row-left, again, by-rows, RowsOnward, rows-onward-first, rows-onward-next, rows-onward-last}
+use Rattle.cells_try.proofs.Walking.{node-low, cell-room, record-room, place-low, times-fits, literal-ready, touched-ready, quantifier-ready, child-low, ports-ready, trees-ready, gives-untouched, gives-literal, quantifier-gives, gives-trees, some-left, Onward, onward-first, onward-next, onward-last}
+use Rattle.cells_try.proofs.Rowing.{port-ready, first-ready, row-low, row-fits-64, digits-ready, row-within, part-room, part-old, port-gives, gives-literal-row, gives-joint-row, row-trees-ready, row-cells-ready, RowPassed, row-start, row-step, row-finished, joins-kept, joins-row, ports-row, any-row, pair-of, ports-by-row, pair-first, pair-next, pair-only, pair-second, pair-last, row-left, again, by-rows, RowsOnward, rows-onward-first, rows-onward-next, rows-onward-last}
 use Rattle.cells_sum.specs.declared.Sum.{Sum}
 use Rattle.cells_sum.specs.inner.Walk.{Joined}
+use Prim.Native.Nat.{ℕ, _<_}
 use borrow.Fn.Kinds.{In}
 use borrow.Fn.PlainCycle.{Measures, is, falls, and}
+use Rattle.cells_try.proofs.all_ports_after.Reads as all-ports-after
+use Rattle.cells_try.proofs.all_ports_after.Kinds as all-ports-after-kinds
+use Rattle.cells_try.proofs.+all_ports_after+cell_after+pair_after+ports_after+row_after+row_cells_after+row_tree_after+row_trees_after+tree_after+trees_after.Lts-all_ports_after as all-ports-after-lts
 use Rattle.cells_try.proofs.cell_after.Reads as cell-after
 use Rattle.cells_try.proofs.cell_after.Kinds as cell-after-kinds
-use Rattle.cells_try.proofs.+cell_after+pair_after+ports_after+row_after+row_cells_after+row_tree_after+row_trees_after+tree_after+trees_after.Lts-cell_after as cell-after-lts
+use Rattle.cells_try.proofs.+all_ports_after+cell_after+pair_after+ports_after+row_after+row_cells_after+row_tree_after+row_trees_after+tree_after+trees_after.Lts-cell_after as cell-after-lts
 use Rattle.cells_try.proofs.pair_after.Reads as pair-after
 use Rattle.cells_try.proofs.pair_after.Kinds as pair-after-kinds
-use Rattle.cells_try.proofs.+cell_after+pair_after+ports_after+row_after+row_cells_after+row_tree_after+row_trees_after+tree_after+trees_after.Lts-pair_after as pair-after-lts
+use Rattle.cells_try.proofs.+all_ports_after+cell_after+pair_after+ports_after+row_after+row_cells_after+row_tree_after+row_trees_after+tree_after+trees_after.Lts-pair_after as pair-after-lts
 use Rattle.cells_try.proofs.ports_after.Reads as ports-after
 use Rattle.cells_try.proofs.ports_after.Kinds as ports-after-kinds
-use Rattle.cells_try.proofs.+cell_after+pair_after+ports_after+row_after+row_cells_after+row_tree_after+row_trees_after+tree_after+trees_after.Lts-ports_after as ports-after-lts
+use Rattle.cells_try.proofs.+all_ports_after+cell_after+pair_after+ports_after+row_after+row_cells_after+row_tree_after+row_trees_after+tree_after+trees_after.Lts-ports_after as ports-after-lts
 use Rattle.cells_try.proofs.row_after.Reads as row-after
 use Rattle.cells_try.proofs.row_after.Kinds as row-after-kinds
-use Rattle.cells_try.proofs.+cell_after+pair_after+ports_after+row_after+row_cells_after+row_tree_after+row_trees_after+tree_after+trees_after.Lts-row_after as row-after-lts
+use Rattle.cells_try.proofs.+all_ports_after+cell_after+pair_after+ports_after+row_after+row_cells_after+row_tree_after+row_trees_after+tree_after+trees_after.Lts-row_after as row-after-lts
 use Rattle.cells_try.proofs.row_cells_after.Reads as row-cells-after
 use Rattle.cells_try.proofs.row_cells_after.Kinds as row-cells-after-kinds
-use Rattle.cells_try.proofs.+cell_after+pair_after+ports_after+row_after+row_cells_after+row_tree_after+row_trees_after+tree_after+trees_after.Lts-row_cells_after as row-cells-after-lts
+use Rattle.cells_try.proofs.+all_ports_after+cell_after+pair_after+ports_after+row_after+row_cells_after+row_tree_after+row_trees_after+tree_after+trees_after.Lts-row_cells_after as row-cells-after-lts
 use Rattle.cells_try.proofs.row_tree_after.Reads as row-tree-after
 use Rattle.cells_try.proofs.row_tree_after.Kinds as row-tree-after-kinds
-use Rattle.cells_try.proofs.+cell_after+pair_after+ports_after+row_after+row_cells_after+row_tree_after+row_trees_after+tree_after+trees_after.Lts-row_tree_after as row-tree-after-lts
+use Rattle.cells_try.proofs.+all_ports_after+cell_after+pair_after+ports_after+row_after+row_cells_after+row_tree_after+row_trees_after+tree_after+trees_after.Lts-row_tree_after as row-tree-after-lts
 use Rattle.cells_try.proofs.row_trees_after.Reads as row-trees-after
 use Rattle.cells_try.proofs.row_trees_after.Kinds as row-trees-after-kinds
-use Rattle.cells_try.proofs.+cell_after+pair_after+ports_after+row_after+row_cells_after+row_tree_after+row_trees_after+tree_after+trees_after.Lts-row_trees_after as row-trees-after-lts
+use Rattle.cells_try.proofs.+all_ports_after+cell_after+pair_after+ports_after+row_after+row_cells_after+row_tree_after+row_trees_after+tree_after+trees_after.Lts-row_trees_after as row-trees-after-lts
 use Rattle.cells_try.proofs.tree_after.Reads as tree-after
 use Rattle.cells_try.proofs.tree_after.Kinds as tree-after-kinds
-use Rattle.cells_try.proofs.+cell_after+pair_after+ports_after+row_after+row_cells_after+row_tree_after+row_trees_after+tree_after+trees_after.Lts-tree_after as tree-after-lts
+use Rattle.cells_try.proofs.+all_ports_after+cell_after+pair_after+ports_after+row_after+row_cells_after+row_tree_after+row_trees_after+tree_after+trees_after.Lts-tree_after as tree-after-lts
 use Rattle.cells_try.proofs.trees_after.Reads as trees-after
 use Rattle.cells_try.proofs.trees_after.Kinds as trees-after-kinds
-use Rattle.cells_try.proofs.+cell_after+pair_after+ports_after+row_after+row_cells_after+row_tree_after+row_trees_after+tree_after+trees_after.Lts-trees_after as trees-after-lts
+use Rattle.cells_try.proofs.+all_ports_after+cell_after+pair_after+ports_after+row_after+row_cells_after+row_tree_after+row_trees_after+tree_after+trees_after.Lts-trees_after as trees-after-lts
 use Rattle.cells_row.proofs.begin_row.Reads as begin-row-reads
 use Rattle.cells_row.proofs.cells_from.Reads as cells-from-reads
 use Rattle.cells_row.proofs.copy_row.Reads as copy-row-reads
@@ -56,7 +60,6 @@ use Rattle.cells_touch.proofs.rest_word.Reads as rest-word-reads
 use Rattle.cells_walk.proofs.by_cells.Reads as by-cells-reads
 use Rattle.cells_walk.proofs.cell_at.Reads as cell-at-reads
 use Rattle.cells_walk.proofs.end_at.Reads as end-at-reads
-use Rattle.cells_walk.proofs.every_port.Reads as every-port-reads
 use Rattle.cells_walk.proofs.first_port.Reads as first-port-reads
 use Rattle.cells_walk.proofs.is_quantifier.Reads as is-quantifier-reads
 use Rattle.cells_walk.proofs.kept.Reads as kept-reads
@@ -68,39 +71,58 @@ use Rattle.cells_walk.proofs.place_at.Reads as place-at-reads
 use Rattle.cells_walk.proofs.uses_at.Reads as uses-at-reads
 use Rattle.cells_walk.proofs.with_port.Reads as with-port-reads
 use Rattle.std.proofs.num.wrapping_add_u32.Reads as wrapping-add-u32-reads
-use Rattle.cells_try.proofs.+cell_after+pair_after+ports_after+row_after+row_cells_after+row_tree_after+row_trees_after+tree_after+trees_after.{
+use Rattle.cells_try.proofs.+all_ports_after+cell_after+pair_after+ports_after+row_after+row_cells_after+row_tree_after+row_trees_after+tree_after+trees_after.{
   statement,
 }
-use Rattle.cells_try.proofs.+cell_after+pair_after+ports_after+row_after+row_cells_after+row_tree_after+row_trees_after+tree_after+trees_after.Tie.{
+use Rattle.cells_try.proofs.+all_ports_after+cell_after+pair_after+ports_after+row_after+row_cells_after+row_tree_after+row_trees_after+tree_after+trees_after.Tie.{
   close,
 }
 
+abbrev μ-all-ports-after : Measures 6 all-ports-after-kinds.ps ℕ
+μ-all-ports-after κs a = 8 * (512 - a .1 .1 .1 .1 .1 .1 .1 .1 .1 .0)
+
 abbrev μ-cell-after : Measures 6 cell-after-kinds.ps ℕ
-μ-cell-after κs a = 8 * (512 - a .1 .1 .1 .1 .1 .1 .1 .1 .1 .0) + 1
+μ-cell-after κs a = 8 * (512 - a .1 .1 .1 .1 .1 .1 .1 .1 .1 .0) + 2
 
 abbrev μ-pair-after : Measures 6 pair-after-kinds.ps ℕ
-μ-pair-after κs a = 8 * (512 - a .1 .1 .1 .1 .1 .1 .1 .1 .1 .0) + 2
+μ-pair-after κs a = 8 * (512 - a .1 .1 .1 .1 .1 .1 .1 .1 .1 .0) + 3
 
 abbrev μ-ports-after : Measures 6 ports-after-kinds.ps ℕ
-μ-ports-after κs a = 8 * (512 - a .1 .1 .1 .1 .1 .1 .1 .1 .1 .0) + 6
+μ-ports-after κs a = 8 * (512 - a .1 .1 .1 .1 .1 .1 .1 .1 .1 .0) + 1
 
 abbrev μ-row-after : Measures 7 row-after-kinds.ps ℕ
-μ-row-after κs a = 8 * (512 - a .1 .1 .1 .1 .1 .1 .1 .1 .1 .0) + 3
+μ-row-after κs a = 8 * (512 - a .1 .1 .1 .1 .1 .1 .1 .1 .1 .0) + 4
 
 abbrev μ-row-cells-after : Measures 7 row-cells-after-kinds.ps ℕ
-μ-row-cells-after κs a = 8 * (512 - a .1 .1 .1 .1 .1 .1 .1 .1 .1 .0) + 2
+μ-row-cells-after κs a = 8 * (512 - a .1 .1 .1 .1 .1 .1 .1 .1 .1 .0) + 3
 
 abbrev μ-row-tree-after : Measures 7 row-tree-after-kinds.ps ℕ
-μ-row-tree-after κs a = 8 * (512 - a .1 .1 .1 .1 .1 .1 .1 .1 .1 .0) + 4
+μ-row-tree-after κs a = 8 * (512 - a .1 .1 .1 .1 .1 .1 .1 .1 .1 .0) + 5
 
 abbrev μ-row-trees-after : Measures 7 row-trees-after-kinds.ps ℕ
-μ-row-trees-after κs a = 8 * (512 - a .1 .1 .1 .1 .1 .1 .1 .1 .1 .0) + 5
+μ-row-trees-after κs a = 8 * (512 - a .1 .1 .1 .1 .1 .1 .1 .1 .1 .0) + 6
 
 abbrev μ-tree-after : Measures 6 tree-after-kinds.ps ℕ
-μ-tree-after κs a = 8 * (512 - a .1 .1 .1 .1 .1 .1 .1 .1 .1 .0) + 2
+μ-tree-after κs a = 8 * (512 - a .1 .1 .1 .1 .1 .1 .1 .1 .1 .0) + 3
 
 abbrev μ-trees-after : Measures 6 trees-after-kinds.ps ℕ
-μ-trees-after κs a = 8 * (512 - a .1 .1 .1 .1 .1 .1 .1 .1 .1 .0) + 3
+μ-trees-after κs a = 8 * (512 - a .1 .1 .1 .1 .1 .1 .1 .1 .1 .0) + 4
+
+abbrev all-ports-after-at : ℕ → In 6 all-ports-after-kinds.ps
+all-ports-after-at t =
+    and
+    6
+    all-ports-after-kinds.ps
+    (is 6 all-ports-after-kinds.ps μ-all-ports-after t)
+    all-ports-after.Pre
+
+abbrev all-ports-after-below : ℕ → In 6 all-ports-after-kinds.ps
+all-ports-after-below t =
+    and
+    6
+    all-ports-after-kinds.ps
+    (falls 6 all-ports-after-kinds.ps _<_ μ-all-ports-after t)
+    all-ports-after.Pre
 
 abbrev cell-after-at : ℕ → In 6 cell-after-kinds.ps
 cell-after-at t =
@@ -197,9 +219,13 @@ abbrev trees-after-below : ℕ → In 6 trees-after-kinds.ps
 trees-after-below t =
     and 6 trees-after-kinds.ps (falls 6 trees-after-kinds.ps _<_ μ-trees-after t) trees-after.Pre
 
+-- what the callees of `all-ports-after` ask and give
+abbrev all-ports-after-claims : ℕ → all-ports-after-lts.Claims
+all-ports-after-claims t = (cell-at-reads.Asked, cell-at-reads.Learnt, kind-at-reads.Asked, kind-at-reads.Learnt, adds-of-reads.Asked, adds-of-reads.Learnt, begin-reads.Asked, begin-reads.Learnt, row-after-below t, row-after.Post, place-at-reads.Asked, place-at-reads.Learnt, cells-from-reads.Asked, cells-from-reads.Learnt, gather-row-reads.Asked, gather-row-reads.Learnt, wrapping-add-u32-reads.Asked, wrapping-add-u32-reads.Learnt, outcome-reads.Asked, outcome-reads.Learnt)
+
 -- what the callees of `cell-after` ask and give
 abbrev cell-after-claims : ℕ → cell-after-lts.Claims
-cell-after-claims t = (cell-at-reads.Asked, cell-at-reads.Learnt, uses-at-reads.Asked, uses-at-reads.Learnt, meet-reads.Asked, meet-reads.Learnt, kept-reads.Asked, kept-reads.Learnt, kind-at-reads.Asked, kind-at-reads.Learnt, literal-outcome-reads.Asked, literal-outcome-reads.Learnt, adds-of-reads.Asked, adds-of-reads.Learnt, begin-reads.Asked, begin-reads.Learnt, end-at-reads.Asked, end-at-reads.Learnt, is-quantifier-reads.Asked, is-quantifier-reads.Learnt, ports-after-below t, ports-after.Post, outcome-reads.Asked, outcome-reads.Learnt, trees-after-below t, trees-after.Post)
+cell-after-claims t = (cell-at-reads.Asked, cell-at-reads.Learnt, uses-at-reads.Asked, uses-at-reads.Learnt, meet-reads.Asked, meet-reads.Learnt, kept-reads.Asked, kept-reads.Learnt, kind-at-reads.Asked, kind-at-reads.Learnt, literal-outcome-reads.Asked, literal-outcome-reads.Learnt, is-quantifier-reads.Asked, is-quantifier-reads.Learnt, ports-after-below t, ports-after.Post, adds-of-reads.Asked, adds-of-reads.Learnt, end-at-reads.Asked, end-at-reads.Learnt, begin-reads.Asked, begin-reads.Learnt, trees-after-below t, trees-after.Post, outcome-reads.Asked, outcome-reads.Learnt)
 
 -- what the callees of `pair-after` ask and give
 abbrev pair-after-claims : ℕ → pair-after-lts.Claims
@@ -207,7 +233,7 @@ pair-after-claims t = (with-port-reads.Asked, with-port-reads.Learnt, port-word-
 
 -- what the callees of `ports-after` ask and give
 abbrev ports-after-claims : ℕ → ports-after-lts.Claims
-ports-after-claims t = (uses-at-reads.Asked, uses-at-reads.Learnt, every-port-reads.Asked, every-port-reads.Learnt, pair-after-below t, pair-after.Post, row-after-below t, row-after.Post, place-at-reads.Asked, place-at-reads.Learnt, cells-from-reads.Asked, cells-from-reads.Learnt, gather-row-reads.Asked, gather-row-reads.Learnt, wrapping-add-u32-reads.Asked, wrapping-add-u32-reads.Learnt)
+ports-after-claims t = (kind-at-reads.Asked, kind-at-reads.Learnt, adds-of-reads.Asked, adds-of-reads.Learnt, all-ports-after-below t, all-ports-after.Post, uses-at-reads.Asked, uses-at-reads.Learnt, rest-word-reads.Asked, rest-word-reads.Learnt, meet-reads.Asked, meet-reads.Learnt, cell-at-reads.Asked, cell-at-reads.Learnt, begin-reads.Asked, begin-reads.Learnt, pair-after-below t, pair-after.Post, outcome-reads.Asked, outcome-reads.Learnt)
 
 -- what the callees of `row-after` ask and give
 abbrev row-after-claims : ℕ → row-after-lts.Claims
@@ -233,13 +259,80 @@ tree-after-claims t = (kind-at-reads.Asked, kind-at-reads.Learnt, cell-at-reads.
 abbrev trees-after-claims : ℕ → trees-after-lts.Claims
 trees-after-claims t = (uses-at-reads.Asked, uses-at-reads.Learnt, meet-reads.Asked, meet-reads.Learnt, tree-after-below t, tree-after.Post, join-reads.Asked, join-reads.Learnt, kept-reads.Asked, kept-reads.Learnt, end-at-reads.Asked, end-at-reads.Learnt)
 
+all-ports-after-cell-at-requires : (t : ℕ) → all-ports-after-lts.Need-cell-at-requires (all-ports-after-claims t) (all-ports-after-at t) all-ports-after.Post
+all-ports-after-cell-at-requires t c κs =
+    (node-low _ _ _ _ _ _ _ _ _ _ _ _ _ _ (c .before .before .before .pre .1 .cell .begins), cell-room _ _ _ _ _ _ _ _ _ _ _ _ _ _ (c .before .before .before .pre .1 .cell .begins))
+
+all-ports-after-kind-at-requires : (t : ℕ) → all-ports-after-lts.Need-kind-at-requires (all-ports-after-claims t) (all-ports-after-at t) all-ports-after.Post
+all-ports-after-kind-at-requires t c κs =
+    record-room _ _ _ _ _ _ _ _ _ _ _ _ _ _ (c .before .before .before .before .pre .1 .cell .begins)
+
+all-ports-after-adds-of-requires : (t : ℕ) → all-ports-after-lts.Need-adds-of-requires (all-ports-after-claims t) (all-ports-after-at t) all-ports-after.Post
+all-ports-after-adds-of-requires t c κs =
+    search needs
+
+all-ports-after-begin-requires : (t : ℕ) → all-ports-after-lts.Need-begin-requires (all-ports-after-claims t) (all-ports-after-at t) all-ports-after.Post
+all-ports-after-begin-requires t c κs =
+    search needs
+
+all-ports-after-mul-row : (t : ℕ) → all-ports-after-lts.Need-mul-row (all-ports-after-claims t) (all-ports-after-at t) all-ports-after.Post
+all-ports-after-mul-row t c =
+    record { fits = times-fits _ _ (place-low _ _ _ _ _ _ _ _ _ _ _ _ _ _ (c .before .before .before .before .before .before .before .pre .1 .cell .begins)) }
+
+all-ports-after-add-row-after : (t : ℕ) → all-ports-after-lts.Need-add-row-after (all-ports-after-claims t) (all-ports-after-at t) all-ports-after.Post
+all-ports-after-add-row-after t c =
+    omega (arith, child-low _ _ _ _ _ _ _ _ _ _ _ _ _ _ (c .before .before .before .before .before .before .before .pre .1))
+
+all-ports-after-slice-aggregate-row-after :
+    (t : ℕ) → all-ports-after-lts.Need-slice-aggregate-row-after (all-ports-after-claims t) (all-ports-after-at t) all-ports-after.Post
+all-ports-after-slice-aggregate-row-after t c =
+    search needs
+
+all-ports-after-row-after-requires : (t : ℕ) → all-ports-after-lts.Need-row-after-requires (all-ports-after-claims t) (all-ports-after-at t) all-ports-after.Post
+all-ports-after-row-after-requires t c κs =
+    (omega (arith, c .before .before .before .before .before .before .before .before .pre .0, child-low _ _ _ _ _ _ _ _ _ _ _ _ _ _ (c .before .before .before .before .before .before .before .before .pre .1)), ports-row _ _ _ _ _ _ _ _ _ _ _ _ _ _ _ (ports-ready _ _ _ _ _ _ _ _ _ _ _ _ _ _ (c .before .before .before .before .before .before .before .before .pre .1) _ _ _ (c .before .before .before .before .cell-at .ensures) (c .before .begin .ensures)) _ (c .before .before .before .before .before .before .before .before .pre .1 .cell .begins .ready .masks-settled .ports64))
+
+all-ports-after-add-place-at : (t : ℕ) → all-ports-after-lts.Need-add-place-at (all-ports-after-claims t) (all-ports-after-at t) all-ports-after.Post
+all-ports-after-add-place-at t c =
+    omega (arith, child-low _ _ _ _ _ _ _ _ _ _ _ _ _ _ (c .before .before .before .before .before .before .before .before .before .before .pre .1))
+
+all-ports-after-place-at-requires : (t : ℕ) → all-ports-after-lts.Need-place-at-requires (all-ports-after-claims t) (all-ports-after-at t) all-ports-after.Post
+all-ports-after-place-at-requires t c κs =
+    (child-low _ _ _ _ _ _ _ _ _ _ _ _ _ _ (c .before .before .before .before .before .before .before .before .before .before .pre .1), row-low _ _ _ _ _ _ _ _ _ _ _ _ _ _ _ (any-row _ _ _ _ _ _ _ _ _ _ _ _ _ _ _ (ports-ready _ _ _ _ _ _ _ _ _ _ _ _ _ _ (c .before .before .before .before .before .before .before .before .before .before .pre .1) _ _ _ (c .before .before .before .before .before .before .cell-at .ensures) (c .before .before .before .begin .ensures))))
+
+all-ports-after-cells-from-requires : (t : ℕ) → all-ports-after-lts.Need-cells-from-requires (all-ports-after-claims t) (all-ports-after-at t) all-ports-after.Post
+all-ports-after-cells-from-requires t c κs =
+    omega (arith, row-within _ _ _ _ _ _ _ _ _ _ _ _ _ _ _ (any-row _ _ _ _ _ _ _ _ _ _ _ _ _ _ _ (ports-ready _ _ _ _ _ _ _ _ _ _ _ _ _ _ (c .before .before .before .before .before .before .before .before .before .before .before .pre .1) _ _ _ (c .before .before .before .before .before .before .before .cell-at .ensures) (c .before .before .before .before .begin .ensures))) _ (c .place-at .ensures))
+
+all-ports-after-slice-aggregate-gather-row :
+    (t : ℕ) → all-ports-after-lts.Need-slice-aggregate-gather-row (all-ports-after-claims t) (all-ports-after-at t) all-ports-after.Post
+all-ports-after-slice-aggregate-gather-row t c =
+    search needs
+
+all-ports-after-gather-row-requires : (t : ℕ) → all-ports-after-lts.Need-gather-row-requires (all-ports-after-claims t) (all-ports-after-at t) all-ports-after.Post
+all-ports-after-gather-row-requires t c κs =
+    (omega (arith, c .before .before .before .before .row-after .kept .1 .1 .1 .1 .1 .1 .1 .1 .1 .1 .1 .1 .1 .1 .0, c .before .before .before .before .before .before .before .before .before .before .before .before .before .pre .1 .cell .begins .ready .masks-settled .ports64), part-room _ _ _ _ _ _ _ _ _ _ _ _ _ _ _ (any-row _ _ _ _ _ _ _ _ _ _ _ _ _ _ _ (ports-ready _ _ _ _ _ _ _ _ _ _ _ _ _ _ (c .before .before .before .before .before .before .before .before .before .before .before .before .before .pre .1) _ _ _ (c .before .before .before .before .before .before .before .before .before .cell-at .ensures) (c .before .before .before .before .before .before .begin .ensures))) _ _ (c .before .before .place-at .ensures) (c .before .cells-from .ensures))
+
+all-ports-after-wrapping-add-u32-requires :
+    (t : ℕ) → all-ports-after-lts.Need-wrapping-add-u32-requires (all-ports-after-claims t) (all-ports-after-at t) all-ports-after.Post
+all-ports-after-wrapping-add-u32-requires t c κs =
+    search needs
+
+all-ports-after-outcome-requires : (t : ℕ) → all-ports-after-lts.Need-outcome-requires (all-ports-after-claims t) (all-ports-after-at t) all-ports-after.Post
+all-ports-after-outcome-requires t c κs =
+    search needs
+
+all-ports-after-returns : (t : ℕ) → all-ports-after-lts.Need-returns (all-ports-after-claims t) (all-ports-after-at t) all-ports-after.Post
+all-ports-after-returns t c =
+    quantifier-gives _ _ _ _ _ _ _ _ _ _ _ _ _ _ (c .before .before .before .before .before .before .before .before .before .before .before .before .before .before .before .before .pre .1) _ _ _ _ _ _ (c .before .before .before .before .before .before .before .before .before .before .before .before .cell-at .ensures) (c .before .before .before .before .before .before .before .before .before .before .before .kind-at .ensures) (c .before .before .before .before .before .before .before .before .before .before .adds-of .ensures) (c .before .before .before .before .before .before .before .before .before .begin .ensures) (c .outcome .ensures) (ports-by-row _ _ _ _ _ _ _ _ _ _ _ _ _ _ _ _ _ _ _ _ (part-old _ _ _ _ _ _ _ (c .before .before .before .before .before .place-at .ensures) (c .before .before .before .before .cells-from .ensures)) (c .before .before .before .before .before .before .before .row-after .ensures) (c .before .before .gather-row .ensures) (c .before .wrapping-add-u32 .ensures))
+
 cell-after-cell-at-requires : (t : ℕ) → cell-after-lts.Need-cell-at-requires (cell-after-claims t) (cell-after-at t) cell-after.Post
 cell-after-cell-at-requires t c κs =
-    (firsts-room _ _ _ _ _ _ _ _ _ _ _ _ _ _ (c .before .before .before .before .before .before .pre .1), cell-room _ _ _ _ _ _ _ _ _ _ _ _ _ _ (c .before .before .before .before .before .before .pre .1))
+    (node-low _ _ _ _ _ _ _ _ _ _ _ _ _ _ (c .before .before .before .pre .1), cell-room _ _ _ _ _ _ _ _ _ _ _ _ _ _ (c .before .before .before .pre .1))
 
 cell-after-uses-at-requires : (t : ℕ) → cell-after-lts.Need-uses-at-requires (cell-after-claims t) (cell-after-at t) cell-after.Post
 cell-after-uses-at-requires t c κs =
-    uses-room _ _ _ _ _ _ _ _ _ _ _ _ _ _ (c .before .before .before .before .before .before .before .pre .1)
+    node-low _ _ _ _ _ _ _ _ _ _ _ _ _ _ (c .before .before .before .before .pre .1)
 
 cell-after-meet-requires : (t : ℕ) → cell-after-lts.Need-meet-requires (cell-after-claims t) (cell-after-at t) cell-after.Post
 cell-after-meet-requires t c κs =
@@ -247,7 +340,7 @@ cell-after-meet-requires t c κs =
 
 cell-after-kept-requires : (t : ℕ) → cell-after-lts.Need-kept-requires (cell-after-claims t) (cell-after-at t) cell-after.Post
 cell-after-kept-requires t c κs =
-    (firsts-room _ _ _ _ _ _ _ _ _ _ _ _ _ _ (c .before .before .before .before .before .before .before .before .before .before .pre .1), cell-room _ _ _ _ _ _ _ _ _ _ _ _ _ _ (c .before .before .before .before .before .before .before .before .before .before .pre .1))
+    (node-low _ _ _ _ _ _ _ _ _ _ _ _ _ _ (c .before .before .before .before .before .before .before .pre .1), cell-room _ _ _ _ _ _ _ _ _ _ _ _ _ _ (c .before .before .before .before .before .before .before .pre .1))
 
 cell-after-returns : (t : ℕ) → cell-after-lts.Need-returns (cell-after-claims t) (cell-after-at t) cell-after.Post
 cell-after-returns t c =
@@ -255,79 +348,67 @@ cell-after-returns t c =
 
 cell-after-kind-at-requires : (t : ℕ) → cell-after-lts.Need-kind-at-requires (cell-after-claims t) (cell-after-at t) cell-after.Post
 cell-after-kind-at-requires t c κs =
-    record-room _ _ _ _ _ _ _ _ _ _ _ _ _ _ (c .before .before .before .before .before .before .before .before .before .before .pre .1)
+    record-room _ _ _ _ _ _ _ _ _ _ _ _ _ _ (c .before .before .before .before .before .before .before .pre .1)
 
 cell-after-literal-outcome-requires : (t : ℕ) → cell-after-lts.Need-literal-outcome-requires (cell-after-claims t) (cell-after-at t) cell-after.Post
 cell-after-literal-outcome-requires t c κs =
-    literal-ready _ _ _ _ _ _ _ _ _ _ _ _ _ _ (c .before .before .before .before .before .before .before .before .before .before .before .before .pre .1) _ (c .before .kind-at .ensures) (c .if2 .taken)
+    literal-ready _ _ _ _ _ _ _ _ _ _ _ _ _ _ (c .before .before .before .before .before .before .before .before .before .pre .1) _ (c .before .kind-at .ensures) (c .if2 .taken)
 
 cell-after-returns-2 : (t : ℕ) → cell-after-lts.Need-returns-2 (cell-after-claims t) (cell-after-at t) cell-after.Post
 cell-after-returns-2 t c =
     gives-literal _ _ _ _ _ _ _ _ _ _ _ _ _ _ _ _ (c .before .before .before .before .before .before .cell-at .ensures) (c .before .before .before .before .before .uses-at .ensures) _ (sym (c .before .before .before .before .meet .ensures) ∙ not-false _ (c .before .before .before .if1 .left)) (c .before .before .kind-at .ensures) _ _ (c .before .if2 .taken) (c .literal-outcome .ensures .0) (c .literal-outcome .ensures .1, refl, c .literal-outcome .ensures .2)
 
+cell-after-is-quantifier-requires : (t : ℕ) → cell-after-lts.Need-is-quantifier-requires (cell-after-claims t) (cell-after-at t) cell-after.Post
+cell-after-is-quantifier-requires t c κs =
+    search needs
+
+cell-after-ports-after-requires : (t : ℕ) → cell-after-lts.Need-ports-after-requires (cell-after-claims t) (cell-after-at t) cell-after.Post
+cell-after-ports-after-requires t c κs =
+    (omega (arith, c .before .before .before .before .before .before .before .before .before .before .before .pre .0), quantifier-ready _ _ _ _ _ _ _ _ _ _ _ _ _ _ (c .before .before .before .before .before .before .before .before .before .before .before .pre .1) _ _ _ (c .before .before .before .before .before .before .uses-at .ensures) (c .before .before .before .before .before .meet .ensures) (not-false _ (c .before .before .before .before .if1 .left)) (c .before .before .before .kind-at .ensures) (sym (c .before .is-quantifier .ensures) ∙ c .if3 .taken))
+
+cell-after-returns-3 : (t : ℕ) → cell-after-lts.Need-returns-3 (cell-after-claims t) (cell-after-at t) cell-after.Post
+cell-after-returns-3 t c =
+    c .ports-after .ensures
+
 cell-after-adds-of-requires : (t : ℕ) → cell-after-lts.Need-adds-of-requires (cell-after-claims t) (cell-after-at t) cell-after.Post
 cell-after-adds-of-requires t c κs =
     search needs
+
+cell-after-add-trees-after : (t : ℕ) → cell-after-lts.Need-add-trees-after (cell-after-claims t) (cell-after-at t) cell-after.Post
+cell-after-add-trees-after t c =
+    omega (arith, node-low _ _ _ _ _ _ _ _ _ _ _ _ _ _ (c .before .before .before .before .before .before .before .before .before .before .before .before .pre .1))
+
+cell-after-end-at-requires : (t : ℕ) → cell-after-lts.Need-end-at-requires (cell-after-claims t) (cell-after-at t) cell-after.Post
+cell-after-end-at-requires t c κs =
+    node-low _ _ _ _ _ _ _ _ _ _ _ _ _ _ (c .before .before .before .before .before .before .before .before .before .before .before .before .pre .1)
 
 cell-after-begin-requires : (t : ℕ) → cell-after-lts.Need-begin-requires (cell-after-claims t) (cell-after-at t) cell-after.Post
 cell-after-begin-requires t c κs =
     search needs
 
-cell-after-end-at-requires : (t : ℕ) → cell-after-lts.Need-end-at-requires (cell-after-claims t) (cell-after-at t) cell-after.Post
-cell-after-end-at-requires t c κs =
-    ends-room _ _ _ _ _ _ _ _ _ _ _ _ _ _ (c .before .before .before .before .before .before .before .before .before .before .before .before .before .before .pre .1)
-
-cell-after-is-quantifier-requires : (t : ℕ) → cell-after-lts.Need-is-quantifier-requires (cell-after-claims t) (cell-after-at t) cell-after.Post
-cell-after-is-quantifier-requires t c κs =
-    search needs
-
-cell-after-add-ports-after : (t : ℕ) → cell-after-lts.Need-add-ports-after (cell-after-claims t) (cell-after-at t) cell-after.Post
-cell-after-add-ports-after t c =
-    omega (arith, node-low _ _ _ _ _ _ _ _ _ _ _ _ _ _ (c .before .before .before .before .before .before .before .before .before .before .before .before .before .before .before .before .before .pre .1))
-
-cell-after-mul-ports-after : (t : ℕ) → cell-after-lts.Need-mul-ports-after (cell-after-claims t) (cell-after-at t) cell-after.Post
-cell-after-mul-ports-after t c =
-    record { fits = times-fits _ _ (place-low _ _ _ _ _ _ _ _ _ _ _ _ _ _ (c .before .before .before .before .before .before .before .before .before .before .before .before .before .before .before .before .before .pre .1)) }
-
-cell-after-ports-after-requires : (t : ℕ) → cell-after-lts.Need-ports-after-requires (cell-after-claims t) (cell-after-at t) cell-after.Post
-cell-after-ports-after-requires t c κs =
-    (omega (arith, c .before .before .before .before .before .before .before .before .before .before .before .before .before .before .before .before .before .pre .0, node-low _ _ _ _ _ _ _ _ _ _ _ _ _ _ (c .before .before .before .before .before .before .before .before .before .before .before .before .before .before .before .before .before .pre .1)), ports-ready _ _ _ _ _ _ _ _ _ _ _ _ _ _ (c .before .before .before .before .before .before .before .before .before .before .before .before .before .before .before .before .before .pre .1) _ _ _ _ _ (c .before .before .before .before .before .before .before .before .before .before .cell-at .ensures) (c .before .before .before .before .before .before .kind-at .ensures) (c .before .before .end-at .ensures) (c .before .before .before .before .adds-of .ensures) (c .before .before .before .begin .ensures) (sym (c .before .is-quantifier .ensures) ∙ c .if3 .taken))
+cell-after-trees-after-requires : (t : ℕ) → cell-after-lts.Need-trees-after-requires (cell-after-claims t) (cell-after-at t) cell-after.Post
+cell-after-trees-after-requires t c κs =
+    (omega (arith, c .before .before .before .before .before .before .before .before .before .before .before .before .before .before .pre .0, node-low _ _ _ _ _ _ _ _ _ _ _ _ _ _ (c .before .before .before .before .before .before .before .before .before .before .before .before .before .before .pre .1)), trees-ready _ _ _ _ _ _ _ _ _ _ _ _ _ _ (c .before .before .before .before .before .before .before .before .before .before .before .before .before .before .pre .1) _ _ _ _ (c .before .before .before .before .before .before .kind-at .ensures) (c .begin .ensures) _ (c .before .end-at .ensures) (c .before .before .before .before .before .if2 .left) (sym (c .before .before .before .before .is-quantifier .ensures) ∙ c .before .before .before .if3 .left))
 
 cell-after-outcome-requires : (t : ℕ) → cell-after-lts.Need-outcome-requires (cell-after-claims t) (cell-after-at t) cell-after.Post
 cell-after-outcome-requires t c κs =
     search needs
 
-cell-after-returns-3 : (t : ℕ) → cell-after-lts.Need-returns-3 (cell-after-claims t) (cell-after-at t) cell-after.Post
-cell-after-returns-3 t c =
-    gives-ports _ _ _ _ _ _ _ _ _ _ _ _ _ _ _ _ (c .before .before .before .before .before .before .before .before .before .before .before .before .cell-at .ensures) (c .before .before .before .before .before .before .before .before .before .before .before .uses-at .ensures) _ (sym (c .before .before .before .before .before .before .before .before .before .before .meet .ensures) ∙ not-false _ (c .before .before .before .before .before .before .before .before .before .if1 .left)) (c .before .before .before .before .before .before .before .before .kind-at .ensures) _ _ _ _ _ (c .before .before .before .before .end-at .ensures) (c .before .before .before .before .before .before .adds-of .ensures) (c .before .before .before .before .before .before .before .if2 .left) (c .before .before .before .before .before .begin .ensures) (c .outcome .ensures) (sym (c .before .before .before .is-quantifier .ensures) ∙ c .before .before .if3 .taken) (c .before .ports-after .ensures)
-
-cell-after-add-trees-after : (t : ℕ) → cell-after-lts.Need-add-trees-after (cell-after-claims t) (cell-after-at t) cell-after.Post
-cell-after-add-trees-after t c =
-    omega (arith, node-low _ _ _ _ _ _ _ _ _ _ _ _ _ _ (c .before .before .before .before .before .before .before .before .before .before .before .before .before .before .before .before .before .pre .1))
-
-cell-after-trees-after-requires : (t : ℕ) → cell-after-lts.Need-trees-after-requires (cell-after-claims t) (cell-after-at t) cell-after.Post
-cell-after-trees-after-requires t c κs =
-    (omega (arith, c .before .before .before .before .before .before .before .before .before .before .before .before .before .before .before .before .before .pre .0, node-low _ _ _ _ _ _ _ _ _ _ _ _ _ _ (c .before .before .before .before .before .before .before .before .before .before .before .before .before .before .before .before .before .pre .1)), trees-ready _ _ _ _ _ _ _ _ _ _ _ _ _ _ (c .before .before .before .before .before .before .before .before .before .before .before .before .before .before .before .before .before .pre .1) _ _ _ _ _ (c .before .before .before .before .before .before .before .before .before .before .cell-at .ensures) (c .before .before .before .before .before .before .kind-at .ensures) (c .before .before .end-at .ensures) (c .before .before .before .before .adds-of .ensures) (c .before .before .before .begin .ensures) (c .before .before .before .before .before .if2 .left) (sym (c .before .is-quantifier .ensures) ∙ c .if3 .left))
-
-cell-after-outcome-requires-2 : (t : ℕ) → cell-after-lts.Need-outcome-requires-2 (cell-after-claims t) (cell-after-at t) cell-after.Post
-cell-after-outcome-requires-2 t c κs =
-    search needs
-
 cell-after-returns-4 : (t : ℕ) → cell-after-lts.Need-returns-4 (cell-after-claims t) (cell-after-at t) cell-after.Post
 cell-after-returns-4 t c =
-    gives-trees _ _ _ _ _ _ _ _ _ _ _ _ _ _ _ _ (c .before .before .before .before .before .before .before .before .before .before .before .before .cell-at .ensures) (c .before .before .before .before .before .before .before .before .before .before .before .uses-at .ensures) _ (sym (c .before .before .before .before .before .before .before .before .before .before .meet .ensures) ∙ not-false _ (c .before .before .before .before .before .before .before .before .before .if1 .left)) (c .before .before .before .before .before .before .before .before .kind-at .ensures) _ _ _ _ _ (c .before .before .before .before .end-at .ensures) (c .before .before .before .before .before .before .adds-of .ensures) (c .before .before .before .before .before .before .before .if2 .left) (c .before .before .before .before .before .begin .ensures) (c .outcome2 .ensures) (sym (c .before .before .before .is-quantifier .ensures) ∙ c .before .before .if3 .left) (c .before .trees-after .ensures)
+    gives-trees _ _ _ _ _ _ _ _ _ _ _ _ _ _ _ _ (c .before .before .before .before .before .before .before .before .before .before .before .before .cell-at .ensures) (c .before .before .before .before .before .before .before .before .before .before .before .uses-at .ensures) _ (sym (c .before .before .before .before .before .before .before .before .before .before .meet .ensures) ∙ not-false _ (c .before .before .before .before .before .before .before .before .before .if1 .left)) (c .before .before .before .before .before .before .before .before .kind-at .ensures) _ _ _ _ (c .before .before .before .before .adds-of .ensures) (c .before .before .begin .ensures) (c .outcome .ensures) _ (c .before .before .before .end-at .ensures) (c .before .before .before .before .before .before .before .if2 .left) (sym (c .before .before .before .before .before .before .is-quantifier .ensures) ∙ c .before .before .before .before .before .if3 .left) (c .before .trees-after .ensures)
 
 pair-after-add-cell-after : (t : ℕ) → pair-after-lts.Need-add-cell-after (pair-after-claims t) (pair-after-at t) pair-after.Post
 pair-after-add-cell-after t c =
-    omega (arith, c .before .before .before .before .before .before .pre .1 .ports .visit .depth)
+    omega (arith, c .before .before .before .pre .1 .ports .visit .depth)
 
 pair-after-add-cell-after-2 : (t : ℕ) → pair-after-lts.Need-add-cell-after-2 (pair-after-claims t) (pair-after-at t) pair-after.Post
 pair-after-add-cell-after-2 t c =
-    record { fits = row-fits-64 _ _ _ _ _ _ _ _ _ _ _ _ _ _ _ (any-row _ _ _ _ _ _ _ _ _ _ _ _ _ _ _ (c .before .before .before .before .before .before .before .pre .1 .ports)) _ (omega (arith, c .before .before .before .before .before .before .before .pre .1 .ports .ready .says .order, c .before .before .before .before .before .before .before .pre .1 .ports .ready .says .below)) }
+    record { fits = row-fits-64 _ _ _ _ _ _ _ _ _ _ _ _ _ _ _ (any-row _ _ _ _ _ _ _ _ _ _ _ _ _ _ _ (c .before .before .before .before .pre .1 .ports)) _ (omega (arith, c .before .before .before .before .pre .1 .ports .ready .says .order, c .before .before .before .before .pre .1 .ports .ready .says .below)) }
 
 pair-after-with-port-requires : (t : ℕ) → pair-after-lts.Need-with-port-requires (pair-after-claims t) (pair-after-at t) pair-after.Post
 pair-after-with-port-requires t c κs =
-    digits-ready _ _ _ _ _ _ _ _ _ _ _ _ _ _ _ (any-row _ _ _ _ _ _ _ _ _ _ _ _ _ _ _ (c .before .before .before .before .before .before .before .pre .1 .ports)) _ (omega (arith, c .before .before .before .before .before .before .before .pre .1 .ports .ready .says .order, c .before .before .before .before .before .before .before .pre .1 .ports .ready .says .below))
+    digits-ready _ _ _ _ _ _ _ _ _ _ _ _ _ _ _ (any-row _ _ _ _ _ _ _ _ _ _ _ _ _ _ _ (c .before .before .before .before .pre .1 .ports)) _ (omega (arith, c .before .before .before .before .pre .1 .ports .ready .says .order, c .before .before .before .before .pre .1 .ports .ready .says .below))
 
 pair-after-port-word-requires : (t : ℕ) → pair-after-lts.Need-port-word-requires (pair-after-claims t) (pair-after-at t) pair-after.Post
 pair-after-port-word-requires t c κs =
@@ -335,7 +416,7 @@ pair-after-port-word-requires t c κs =
 
 pair-after-cell-after-requires : (t : ℕ) → pair-after-lts.Need-cell-after-requires (pair-after-claims t) (pair-after-at t) pair-after.Post
 pair-after-cell-after-requires t c κs =
-    (omega (arith, c .before .before .before .before .before .before .before .before .before .pre .0), port-ready _ _ _ _ _ _ _ _ _ _ _ _ _ _ _ (any-row _ _ _ _ _ _ _ _ _ _ _ _ _ _ _ (c .before .before .before .before .before .before .before .before .before .pre .1 .ports)) _ _ _ (omega (arith, c .before .before .before .before .before .before .before .before .before .pre .1 .ports .ready .says .order, c .before .before .before .before .before .before .before .before .before .pre .1 .ports .ready .says .below)) (c .before .with-port .ensures) (c .port-word .ensures))
+    (omega (arith, c .before .before .before .before .before .before .pre .0), port-ready _ _ _ _ _ _ _ _ _ _ _ _ _ _ _ (any-row _ _ _ _ _ _ _ _ _ _ _ _ _ _ _ (c .before .before .before .before .before .before .pre .1 .ports)) _ _ _ (omega (arith, c .before .before .before .before .before .before .pre .1 .ports .ready .says .order, c .before .before .before .before .before .before .pre .1 .ports .ready .says .below)) (c .before .with-port .ensures) (c .port-word .ensures))
 
 pair-after-join-requires : (t : ℕ) → pair-after-lts.Need-join-requires (pair-after-claims t) (pair-after-at t) pair-after.Post
 pair-after-join-requires t c κs =
@@ -343,19 +424,19 @@ pair-after-join-requires t c κs =
 
 pair-after-returns : (t : ℕ) → pair-after-lts.Need-returns (pair-after-claims t) (pair-after-at t) pair-after.Post
 pair-after-returns t c =
-    pair-only _ _ _ _ _ _ _ _ _ _ _ _ _ _ _ (c .before .before .before .before .before .before .before .before .before .before .before .before .before .pre .1) _ (c .if1 .taken) (pair-next _ _ _ _ _ _ _ _ _ _ _ _ _ _ _ _ _ _ _ (pair-first _ _ _ _ _ _ _ _ _ _ _ _ _ _ _ (c .before .before .before .before .before .before .before .before .before .before .before .before .before .pre .1)) (port-gives _ _ _ _ _ _ _ _ _ _ _ _ _ _ _ _ _ _ (omega (arith, c .before .before .before .before .before .before .before .before .before .before .before .before .before .pre .1 .ports .ready .says .order, c .before .before .before .before .before .before .before .before .before .before .before .before .before .pre .1 .ports .ready .says .below)) (c .before .before .before .before .before .with-port .ensures) (c .before .before .before .before .port-word .ensures) (c .before .before .before .cell-after .ensures)) (c .before .before .join .ensures))
+    pair-only _ _ _ _ _ _ _ _ _ _ _ _ _ _ _ (c .before .before .before .before .before .before .before .before .before .before .pre .1) _ (c .if1 .taken) (pair-next _ _ _ _ _ _ _ _ _ _ _ _ _ _ _ _ _ _ _ (pair-first _ _ _ _ _ _ _ _ _ _ _ _ _ _ _ (c .before .before .before .before .before .before .before .before .before .before .pre .1)) (port-gives _ _ _ _ _ _ _ _ _ _ _ _ _ _ _ _ _ _ (omega (arith, c .before .before .before .before .before .before .before .before .before .before .pre .1 .ports .ready .says .order, c .before .before .before .before .before .before .before .before .before .before .pre .1 .ports .ready .says .below)) (c .before .before .before .before .before .with-port .ensures) (c .before .before .before .before .port-word .ensures) (c .before .before .before .cell-after .ensures)) (c .before .before .join .ensures))
 
 pair-after-add-cell-after-3 : (t : ℕ) → pair-after-lts.Need-add-cell-after-3 (pair-after-claims t) (pair-after-at t) pair-after.Post
 pair-after-add-cell-after-3 t c =
-    omega (arith, c .before .before .before .before .before .before .before .before .before .before .before .before .before .pre .1 .ports .visit .depth)
+    omega (arith, c .before .before .before .before .before .before .before .before .before .before .pre .1 .ports .visit .depth)
 
 pair-after-add-cell-after-4 : (t : ℕ) → pair-after-lts.Need-add-cell-after-4 (pair-after-claims t) (pair-after-at t) pair-after.Post
 pair-after-add-cell-after-4 t c =
-    record { fits = row-fits-64 _ _ _ _ _ _ _ _ _ _ _ _ _ _ _ (any-row _ _ _ _ _ _ _ _ _ _ _ _ _ _ _ (c .before .before .before .before .before .before .before .before .before .before .before .before .before .before .pre .1 .ports)) _ (c .before .before .before .before .before .before .before .before .before .before .before .before .before .before .pre .1 .ports .ready .says .below) }
+    record { fits = row-fits-64 _ _ _ _ _ _ _ _ _ _ _ _ _ _ _ (any-row _ _ _ _ _ _ _ _ _ _ _ _ _ _ _ (c .before .before .before .before .before .before .before .before .before .before .before .pre .1 .ports)) _ (c .before .before .before .before .before .before .before .before .before .before .before .pre .1 .ports .ready .says .below) }
 
 pair-after-with-port-requires-2 : (t : ℕ) → pair-after-lts.Need-with-port-requires-2 (pair-after-claims t) (pair-after-at t) pair-after.Post
 pair-after-with-port-requires-2 t c κs =
-    digits-ready _ _ _ _ _ _ _ _ _ _ _ _ _ _ _ (any-row _ _ _ _ _ _ _ _ _ _ _ _ _ _ _ (c .before .before .before .before .before .before .before .before .before .before .before .before .before .before .pre .1 .ports)) _ (c .before .before .before .before .before .before .before .before .before .before .before .before .before .before .pre .1 .ports .ready .says .below)
+    digits-ready _ _ _ _ _ _ _ _ _ _ _ _ _ _ _ (any-row _ _ _ _ _ _ _ _ _ _ _ _ _ _ _ (c .before .before .before .before .before .before .before .before .before .before .before .pre .1 .ports)) _ (c .before .before .before .before .before .before .before .before .before .before .before .pre .1 .ports .ready .says .below)
 
 pair-after-port-word-requires-2 : (t : ℕ) → pair-after-lts.Need-port-word-requires-2 (pair-after-claims t) (pair-after-at t) pair-after.Post
 pair-after-port-word-requires-2 t c κs =
@@ -363,7 +444,7 @@ pair-after-port-word-requires-2 t c κs =
 
 pair-after-cell-after-requires-2 : (t : ℕ) → pair-after-lts.Need-cell-after-requires-2 (pair-after-claims t) (pair-after-at t) pair-after.Post
 pair-after-cell-after-requires-2 t c κs =
-    (omega (arith, c .before .before .before .before .before .before .before .before .before .before .before .before .before .before .before .before .pre .0), port-ready _ _ _ _ _ _ _ _ _ _ _ _ _ _ _ (any-row _ _ _ _ _ _ _ _ _ _ _ _ _ _ _ (c .before .before .before .before .before .before .before .before .before .before .before .before .before .before .before .before .pre .1 .ports)) _ _ _ (c .before .before .before .before .before .before .before .before .before .before .before .before .before .before .before .before .pre .1 .ports .ready .says .below) (c .before .with-port2 .ensures) (c .port-word2 .ensures))
+    (omega (arith, c .before .before .before .before .before .before .before .before .before .before .before .before .before .pre .0), port-ready _ _ _ _ _ _ _ _ _ _ _ _ _ _ _ (any-row _ _ _ _ _ _ _ _ _ _ _ _ _ _ _ (c .before .before .before .before .before .before .before .before .before .before .before .before .before .pre .1 .ports)) _ _ _ (c .before .before .before .before .before .before .before .before .before .before .before .before .before .pre .1 .ports .ready .says .below) (c .before .with-port2 .ensures) (c .port-word2 .ensures))
 
 pair-after-join-requires-2 : (t : ℕ) → pair-after-lts.Need-join-requires-2 (pair-after-claims t) (pair-after-at t) pair-after.Post
 pair-after-join-requires-2 t c κs =
@@ -371,71 +452,91 @@ pair-after-join-requires-2 t c κs =
 
 pair-after-returns-2 : (t : ℕ) → pair-after-lts.Need-returns-2 (pair-after-claims t) (pair-after-at t) pair-after.Post
 pair-after-returns-2 t c =
-    pair-last _ _ _ _ _ _ _ _ _ _ _ _ _ _ _ (c .before .before .before .before .before .before .before .before .before .before .before .before .before .before .before .before .before .before .pre .1) _ (c .before .before .before .before .before .if1 .left) (pair-next _ _ _ _ _ _ _ _ _ _ _ _ _ _ _ _ _ _ _ (pair-second _ _ _ _ _ _ _ _ _ _ _ _ _ _ _ (c .before .before .before .before .before .before .before .before .before .before .before .before .before .before .before .before .before .before .pre .1) _ (c .before .before .before .before .before .if1 .left) (pair-next _ _ _ _ _ _ _ _ _ _ _ _ _ _ _ _ _ _ _ (pair-first _ _ _ _ _ _ _ _ _ _ _ _ _ _ _ (c .before .before .before .before .before .before .before .before .before .before .before .before .before .before .before .before .before .before .pre .1)) (port-gives _ _ _ _ _ _ _ _ _ _ _ _ _ _ _ _ _ _ (omega (arith, c .before .before .before .before .before .before .before .before .before .before .before .before .before .before .before .before .before .before .pre .1 .ports .ready .says .order, c .before .before .before .before .before .before .before .before .before .before .before .before .before .before .before .before .before .before .pre .1 .ports .ready .says .below)) (c .before .before .before .before .before .before .before .before .before .before .with-port .ensures) (c .before .before .before .before .before .before .before .before .before .port-word .ensures) (c .before .before .before .before .before .before .before .before .cell-after .ensures)) (c .before .before .before .before .before .before .before .join .ensures))) (port-gives _ _ _ _ _ _ _ _ _ _ _ _ _ _ _ _ _ _ (c .before .before .before .before .before .before .before .before .before .before .before .before .before .before .before .before .before .before .pre .1 .ports .ready .says .below) (c .before .before .before .with-port2 .ensures) (c .before .before .port-word2 .ensures) (c .before .cell-after2 .ensures)) (c .join2 .ensures))
+    pair-last _ _ _ _ _ _ _ _ _ _ _ _ _ _ _ (c .before .before .before .before .before .before .before .before .before .before .before .before .before .before .before .pre .1) _ (c .before .before .before .before .before .if1 .left) (pair-next _ _ _ _ _ _ _ _ _ _ _ _ _ _ _ _ _ _ _ (pair-second _ _ _ _ _ _ _ _ _ _ _ _ _ _ _ (c .before .before .before .before .before .before .before .before .before .before .before .before .before .before .before .pre .1) _ (c .before .before .before .before .before .if1 .left) (pair-next _ _ _ _ _ _ _ _ _ _ _ _ _ _ _ _ _ _ _ (pair-first _ _ _ _ _ _ _ _ _ _ _ _ _ _ _ (c .before .before .before .before .before .before .before .before .before .before .before .before .before .before .before .pre .1)) (port-gives _ _ _ _ _ _ _ _ _ _ _ _ _ _ _ _ _ _ (omega (arith, c .before .before .before .before .before .before .before .before .before .before .before .before .before .before .before .pre .1 .ports .ready .says .order, c .before .before .before .before .before .before .before .before .before .before .before .before .before .before .before .pre .1 .ports .ready .says .below)) (c .before .before .before .before .before .before .before .before .before .before .with-port .ensures) (c .before .before .before .before .before .before .before .before .before .port-word .ensures) (c .before .before .before .before .before .before .before .before .cell-after .ensures)) (c .before .before .before .before .before .before .before .join .ensures))) (port-gives _ _ _ _ _ _ _ _ _ _ _ _ _ _ _ _ _ _ (c .before .before .before .before .before .before .before .before .before .before .before .before .before .before .before .pre .1 .ports .ready .says .below) (c .before .before .before .with-port2 .ensures) (c .before .before .port-word2 .ensures) (c .before .cell-after2 .ensures)) (c .join2 .ensures))
+
+ports-after-kind-at-requires : (t : ℕ) → ports-after-lts.Need-kind-at-requires (ports-after-claims t) (ports-after-at t) ports-after.Post
+ports-after-kind-at-requires t c κs =
+    record-room _ _ _ _ _ _ _ _ _ _ _ _ _ _ (c .before .before .before .pre .1 .cell .begins)
+
+ports-after-adds-of-requires : (t : ℕ) → ports-after-lts.Need-adds-of-requires (ports-after-claims t) (ports-after-at t) ports-after.Post
+ports-after-adds-of-requires t c κs =
+    search needs
+
+ports-after-all-ports-after-requires : (t : ℕ) → ports-after-lts.Need-all-ports-after-requires (ports-after-claims t) (ports-after-at t) ports-after.Post
+ports-after-all-ports-after-requires t c κs =
+    (omega (arith, c .before .before .before .before .before .before .pre .0), c .before .before .before .before .before .before .pre .1)
+
+ports-after-returns : (t : ℕ) → ports-after-lts.Need-returns (ports-after-claims t) (ports-after-at t) ports-after.Post
+ports-after-returns t c =
+    c .all-ports-after .ensures
+
+ports-after-add-uses-at : (t : ℕ) → ports-after-lts.Need-add-uses-at (ports-after-claims t) (ports-after-at t) ports-after.Post
+ports-after-add-uses-at t c =
+    omega (arith, child-low _ _ _ _ _ _ _ _ _ _ _ _ _ _ (c .before .before .before .before .before .before .pre .1))
 
 ports-after-uses-at-requires : (t : ℕ) → ports-after-lts.Need-uses-at-requires (ports-after-claims t) (ports-after-at t) ports-after.Post
 ports-after-uses-at-requires t c κs =
-    uses-room _ _ _ _ _ _ _ _ _ _ _ _ _ _ (first-ready _ _ _ _ _ _ _ _ _ _ _ _ _ _ _ (any-row _ _ _ _ _ _ _ _ _ _ _ _ _ _ _ (c .before .before .before .before .before .before .pre .1)))
+    child-low _ _ _ _ _ _ _ _ _ _ _ _ _ _ (c .before .before .before .before .before .before .pre .1)
 
-ports-after-every-port-requires : (t : ℕ) → ports-after-lts.Need-every-port-requires (ports-after-claims t) (ports-after-at t) ports-after.Post
-ports-after-every-port-requires t c κs =
+ports-after-rest-word-requires : (t : ℕ) → ports-after-lts.Need-rest-word-requires (ports-after-claims t) (ports-after-at t) ports-after.Post
+ports-after-rest-word-requires t c κs =
+    search needs
+
+ports-after-meet-requires : (t : ℕ) → ports-after-lts.Need-meet-requires (ports-after-claims t) (ports-after-at t) ports-after.Post
+ports-after-meet-requires t c κs =
+    search needs
+
+ports-after-all-ports-after-requires-2 : (t : ℕ) → ports-after-lts.Need-all-ports-after-requires-2 (ports-after-claims t) (ports-after-at t) ports-after.Post
+ports-after-all-ports-after-requires-2 t c κs =
+    (omega (arith, c .before .before .before .before .before .before .before .before .before .before .pre .0), c .before .before .before .before .before .before .before .before .before .before .pre .1)
+
+ports-after-returns-2 : (t : ℕ) → ports-after-lts.Need-returns-2 (ports-after-claims t) (ports-after-at t) ports-after.Post
+ports-after-returns-2 t c =
+    c .all-ports-after2 .ensures
+
+ports-after-cell-at-requires : (t : ℕ) → ports-after-lts.Need-cell-at-requires (ports-after-claims t) (ports-after-at t) ports-after.Post
+ports-after-cell-at-requires t c κs =
+    (node-low _ _ _ _ _ _ _ _ _ _ _ _ _ _ (c .before .before .before .before .before .before .before .before .before .before .pre .1 .cell .begins), cell-room _ _ _ _ _ _ _ _ _ _ _ _ _ _ (c .before .before .before .before .before .before .before .before .before .before .pre .1 .cell .begins))
+
+ports-after-add-pair-after : (t : ℕ) → ports-after-lts.Need-add-pair-after (ports-after-claims t) (ports-after-at t) ports-after.Post
+ports-after-add-pair-after t c =
+    omega (arith, child-low _ _ _ _ _ _ _ _ _ _ _ _ _ _ (c .before .before .before .before .before .before .before .before .before .before .before .pre .1))
+
+ports-after-mul-pair-after : (t : ℕ) → ports-after-lts.Need-mul-pair-after (ports-after-claims t) (ports-after-at t) ports-after.Post
+ports-after-mul-pair-after t c =
+    record { fits = times-fits _ _ (place-low _ _ _ _ _ _ _ _ _ _ _ _ _ _ (c .before .before .before .before .before .before .before .before .before .before .before .pre .1 .cell .begins)) }
+
+ports-after-begin-requires : (t : ℕ) → ports-after-lts.Need-begin-requires (ports-after-claims t) (ports-after-at t) ports-after.Post
+ports-after-begin-requires t c κs =
     search needs
 
 ports-after-pair-after-requires : (t : ℕ) → ports-after-lts.Need-pair-after-requires (ports-after-claims t) (ports-after-at t) ports-after.Post
 ports-after-pair-after-requires t c κs =
-    (omega (arith, c .before .before .before .before .before .before .before .before .before .pre .0), pair-of _ _ _ _ _ _ _ _ _ _ _ _ _ _ _ _ (c .before .before .before .before .before .before .before .before .before .args .add) _ (c .before .before .before .before .before .before .before .before .before .pre .1) (c .before .before .uses-at .ensures) (c .before .every-port .ensures) (not-true _ (c .if1 .taken)))
+    (omega (arith, c .before .before .before .before .before .before .before .before .before .before .before .before .pre .0, child-low _ _ _ _ _ _ _ _ _ _ _ _ _ _ (c .before .before .before .before .before .before .before .before .before .before .before .before .pre .1)), pair-of _ _ _ _ _ _ _ _ _ _ _ _ _ _ _ _ _ _ (ports-ready _ _ _ _ _ _ _ _ _ _ _ _ _ _ (c .before .before .before .before .before .before .before .before .before .before .before .before .pre .1) _ _ _ (c .before .cell-at .ensures) (c .begin .ensures)) (c .before .before .before .before .before .uses-at .ensures) (c .before .before .before .before .rest-word .ensures) (c .before .before .before .meet .ensures) (c .before .before .if2 .left))
 
-ports-after-returns : (t : ℕ) → ports-after-lts.Need-returns (ports-after-claims t) (ports-after-at t) ports-after.Post
-ports-after-returns t c =
-    pair-gives _ _ _ _ _ _ _ _ _ _ _ _ _ _ _ _ _ (c .before .before .before .before .before .before .before .before .before .before .args .add) _ (c .before .before .every-port .ensures) (not-true _ (c .before .if1 .taken)) (c .pair-after .ensures)
-
-ports-after-slice-aggregate-row-after : (t : ℕ) → ports-after-lts.Need-slice-aggregate-row-after (ports-after-claims t) (ports-after-at t) ports-after.Post
-ports-after-slice-aggregate-row-after t c =
+ports-after-outcome-requires : (t : ℕ) → ports-after-lts.Need-outcome-requires (ports-after-claims t) (ports-after-at t) ports-after.Post
+ports-after-outcome-requires t c κs =
     search needs
 
-ports-after-row-after-requires : (t : ℕ) → ports-after-lts.Need-row-after-requires (ports-after-claims t) (ports-after-at t) ports-after.Post
-ports-after-row-after-requires t c κs =
-    (omega (arith, c .before .before .before .before .before .before .before .before .before .before .pre .0), ports-row _ _ _ _ _ _ _ _ _ _ _ _ _ _ _ (c .before .before .before .before .before .before .before .before .before .before .pre .1) _ (c .before .before .before .before .before .before .before .before .before .before .pre .1 .ready .masks-settled .ports64))
-
-ports-after-place-at-requires : (t : ℕ) → ports-after-lts.Need-place-at-requires (ports-after-claims t) (ports-after-at t) ports-after.Post
-ports-after-place-at-requires t c κs =
-    (firsts-room _ _ _ _ _ _ _ _ _ _ _ _ _ _ (first-ready _ _ _ _ _ _ _ _ _ _ _ _ _ _ _ (any-row _ _ _ _ _ _ _ _ _ _ _ _ _ _ _ (c .before .before .before .before .before .before .before .before .before .before .before .before .pre .1))), row-low _ _ _ _ _ _ _ _ _ _ _ _ _ _ _ (any-row _ _ _ _ _ _ _ _ _ _ _ _ _ _ _ (c .before .before .before .before .before .before .before .before .before .before .before .before .pre .1)))
-
-ports-after-cells-from-requires : (t : ℕ) → ports-after-lts.Need-cells-from-requires (ports-after-claims t) (ports-after-at t) ports-after.Post
-ports-after-cells-from-requires t c κs =
-    omega (arith, row-within _ _ _ _ _ _ _ _ _ _ _ _ _ _ _ (any-row _ _ _ _ _ _ _ _ _ _ _ _ _ _ _ (c .before .before .before .before .before .before .before .before .before .before .before .before .before .pre .1)) _ (c .place-at .ensures))
-
-ports-after-slice-aggregate-gather-row : (t : ℕ) → ports-after-lts.Need-slice-aggregate-gather-row (ports-after-claims t) (ports-after-at t) ports-after.Post
-ports-after-slice-aggregate-gather-row t c =
-    search needs
-
-ports-after-gather-row-requires : (t : ℕ) → ports-after-lts.Need-gather-row-requires (ports-after-claims t) (ports-after-at t) ports-after.Post
-ports-after-gather-row-requires t c κs =
-    (omega (arith, c .before .before .before .before .row-after .kept .1 .1 .1 .1 .1 .1 .1 .1 .1 .1 .1 .1 .1 .1 .0, c .before .before .before .before .before .before .before .before .before .before .before .before .before .before .before .pre .1 .ready .masks-settled .ports64), part-room _ _ _ _ _ _ _ _ _ _ _ _ _ _ _ (any-row _ _ _ _ _ _ _ _ _ _ _ _ _ _ _ (c .before .before .before .before .before .before .before .before .before .before .before .before .before .before .before .pre .1)) _ _ (c .before .before .place-at .ensures) (c .before .cells-from .ensures))
-
-ports-after-wrapping-add-u32-requires : (t : ℕ) → ports-after-lts.Need-wrapping-add-u32-requires (ports-after-claims t) (ports-after-at t) ports-after.Post
-ports-after-wrapping-add-u32-requires t c κs =
-    search needs
-
-ports-after-returns-2 : (t : ℕ) → ports-after-lts.Need-returns-2 (ports-after-claims t) (ports-after-at t) ports-after.Post
-ports-after-returns-2 t c =
-    ports-by-row _ _ _ _ _ _ _ _ _ _ _ _ _ _ _ _ _ _ _ _ (part-old _ _ _ _ _ _ _ (c .before .before .before .before .place-at .ensures) (c .before .before .before .cells-from .ensures)) (c .before .before .before .before .before .before .row-after .ensures) (c .before .gather-row .ensures) (c .wrapping-add-u32 .ensures)
+ports-after-returns-3 : (t : ℕ) → ports-after-lts.Need-returns-3 (ports-after-claims t) (ports-after-at t) ports-after.Post
+ports-after-returns-3 t c =
+    quantifier-gives _ _ _ _ _ _ _ _ _ _ _ _ _ _ (c .before .before .before .before .before .before .before .before .before .before .before .before .before .before .pre .1) _ _ _ _ _ _ (c .before .before .before .cell-at .ensures) (c .before .before .before .before .before .before .before .before .before .before .kind-at .ensures) (sym (not-false _ (c .before .before .before .before .before .before .before .before .if1 .left)) ∙ c .before .before .before .before .before .before .before .before .before .adds-of .ensures) (c .before .before .begin .ensures) (c .outcome .ensures) (c .before .pair-after .ensures)
 
 row-after-place-at-requires : (t : ℕ) → row-after-lts.Need-place-at-requires (row-after-claims t) (row-after-at t) row-after.Post
 row-after-place-at-requires t c κs =
-    (firsts-room _ _ _ _ _ _ _ _ _ _ _ _ _ _ (first-ready _ _ _ _ _ _ _ _ _ _ _ _ _ _ _ (c .before .before .before .before .before .before .before .pre .1)), row-low _ _ _ _ _ _ _ _ _ _ _ _ _ _ _ (c .before .before .before .before .before .before .before .pre .1))
+    (node-low _ _ _ _ _ _ _ _ _ _ _ _ _ _ (first-ready _ _ _ _ _ _ _ _ _ _ _ _ _ _ _ (c .before .before .before .before .pre .1)), row-low _ _ _ _ _ _ _ _ _ _ _ _ _ _ _ (c .before .before .before .before .pre .1))
 
 row-after-cells-from-requires : (t : ℕ) → row-after-lts.Need-cells-from-requires (row-after-claims t) (row-after-at t) row-after.Post
 row-after-cells-from-requires t c κs =
-    omega (arith, row-within _ _ _ _ _ _ _ _ _ _ _ _ _ _ _ (c .before .before .before .before .before .before .before .before .pre .1) _ (c .place-at .ensures))
+    omega (arith, row-within _ _ _ _ _ _ _ _ _ _ _ _ _ _ _ (c .before .before .before .before .before .pre .1) _ (c .place-at .ensures))
 
 row-after-kind-at-requires : (t : ℕ) → row-after-lts.Need-kind-at-requires (row-after-claims t) (row-after-at t) row-after.Post
 row-after-kind-at-requires t c κs =
-    record-room _ _ _ _ _ _ _ _ _ _ _ _ _ _ (first-ready _ _ _ _ _ _ _ _ _ _ _ _ _ _ _ (c .before .before .before .before .before .before .before .before .before .pre .1))
+    record-room _ _ _ _ _ _ _ _ _ _ _ _ _ _ (first-ready _ _ _ _ _ _ _ _ _ _ _ _ _ _ _ (c .before .before .before .before .before .before .pre .1))
 
 row-after-uses-at-requires : (t : ℕ) → row-after-lts.Need-uses-at-requires (row-after-claims t) (row-after-at t) row-after.Post
 row-after-uses-at-requires t c κs =
-    uses-room _ _ _ _ _ _ _ _ _ _ _ _ _ _ (first-ready _ _ _ _ _ _ _ _ _ _ _ _ _ _ _ (c .before .before .before .before .before .before .before .before .before .before .pre .1))
+    node-low _ _ _ _ _ _ _ _ _ _ _ _ _ _ (first-ready _ _ _ _ _ _ _ _ _ _ _ _ _ _ _ (c .before .before .before .before .before .before .before .pre .1))
 
 row-after-rest-word-requires : (t : ℕ) → row-after-lts.Need-rest-word-requires (row-after-claims t) (row-after-at t) row-after.Post
 row-after-rest-word-requires t c κs =
@@ -451,11 +552,11 @@ row-after-by-cells-requires t c κs =
 
 row-after-copy-row-requires : (t : ℕ) → row-after-lts.Need-copy-row-requires (row-after-claims t) (row-after-at t) row-after.Post
 row-after-copy-row-requires t c κs =
-    (part-room _ _ _ _ _ _ _ _ _ _ _ _ _ _ _ (c .before .before .before .before .before .before .before .before .before .before .before .before .before .before .before .before .pre .1) _ _ (c .before .before .before .before .before .before .before .before .place-at .ensures) (c .before .before .before .before .before .before .before .cells-from .ensures), c .before .before .before .before .before .before .before .before .before .before .before .before .before .before .before .before .pre .1 .room)
+    (part-room _ _ _ _ _ _ _ _ _ _ _ _ _ _ _ (c .before .before .before .before .before .before .before .before .before .before .before .before .before .pre .1) _ _ (c .before .before .before .before .before .before .before .before .place-at .ensures) (c .before .before .before .before .before .before .before .cells-from .ensures), c .before .before .before .before .before .before .before .before .before .before .before .before .before .pre .1 .room)
 
 row-after-row-cells-after-requires : (t : ℕ) → row-after-lts.Need-row-cells-after-requires (row-after-claims t) (row-after-at t) row-after.Post
 row-after-row-cells-after-requires t c κs =
-    (omega (arith, c .before .before .before .before .before .before .before .before .before .before .before .before .before .before .before .before .before .before .before .before .pre .0), row-cells-ready _ _ _ _ _ _ _ _ _ _ _ _ _ _ _ _ (c .before .before .before .before .before .before .before .before .before .before .before .before .before .before .before .before .before .before .before .before .pre .1) _ (part-old _ _ _ _ _ _ _ (c .before .before .before .before .before .before .before .before .before .before .before .before .place-at .ensures) (c .before .before .before .before .before .before .before .before .before .before .before .cells-from .ensures)) _ _ _ (c .before .before .before .before .before .before .before .before .before .uses-at .ensures) (c .before .before .before .before .before .before .before .before .rest-word .ensures) (c .before .before .before .before .before .before .before .meet .ensures) omega (arith, c .before .before .before .copy-row .kept .1 .1 .0, c .before .before .before .before .before .before .before .before .before .before .before .before .before .before .before .before .before .before .before .before .pre .1 .room) (c .before .before .before .copy-row .ensures))
+    (omega (arith, c .before .before .before .before .before .before .before .before .before .before .before .before .before .before .before .before .before .pre .0), row-cells-ready _ _ _ _ _ _ _ _ _ _ _ _ _ _ _ _ (c .before .before .before .before .before .before .before .before .before .before .before .before .before .before .before .before .before .pre .1) _ (part-old _ _ _ _ _ _ _ (c .before .before .before .before .before .before .before .before .before .before .before .before .place-at .ensures) (c .before .before .before .before .before .before .before .before .before .before .before .cells-from .ensures)) _ _ _ (c .before .before .before .before .before .before .before .before .before .uses-at .ensures) (c .before .before .before .before .before .before .before .before .rest-word .ensures) (c .before .before .before .before .before .before .before .meet .ensures) omega (arith, c .before .before .before .copy-row .kept .1 .1 .0, c .before .before .before .before .before .before .before .before .before .before .before .before .before .before .before .before .before .pre .1 .room) (c .before .before .before .copy-row .ensures))
 
 row-after-same-length : (t : ℕ) → row-after-lts.Need-same-length (row-after-claims t) (row-after-at t) row-after.Post
 row-after-same-length t c =
@@ -467,19 +568,19 @@ row-after-returns t c =
 
 row-after-add-literal-at : (t : ℕ) → row-after-lts.Need-add-literal-at (row-after-claims t) (row-after-at t) row-after.Post
 row-after-add-literal-at t c =
-    omega (arith, c .before .before .before .before .before .before .before .before .before .before .before .before .before .before .before .before .pre .1 .visit .depth)
+    omega (arith, c .before .before .before .before .before .before .before .before .before .before .before .before .before .pre .1 .visit .depth)
 
 row-after-literal-at-requires : (t : ℕ) → row-after-lts.Need-literal-at-requires (row-after-claims t) (row-after-at t) row-after.Post
 row-after-literal-at-requires t c κs =
-    literal-ready _ _ _ _ _ _ _ _ _ _ _ _ _ _ (first-ready _ _ _ _ _ _ _ _ _ _ _ _ _ _ _ (c .before .before .before .before .before .before .before .before .before .before .before .before .before .before .before .before .pre .1)) _ (c .before .before .before .before .before .before .kind-at .ensures) (c .if2 .taken)
+    literal-ready _ _ _ _ _ _ _ _ _ _ _ _ _ _ (first-ready _ _ _ _ _ _ _ _ _ _ _ _ _ _ _ (c .before .before .before .before .before .before .before .before .before .before .before .before .before .pre .1)) _ (c .before .before .before .before .before .before .kind-at .ensures) (c .if2 .taken)
 
 row-after-fill-row-requires : (t : ℕ) → row-after-lts.Need-fill-row-requires (row-after-claims t) (row-after-at t) row-after.Post
 row-after-fill-row-requires t c κs =
-    c .before .before .before .before .before .before .before .before .before .before .before .before .before .before .before .before .before .before .pre .1 .room
+    c .before .before .before .before .before .before .before .before .before .before .before .before .before .before .before .pre .1 .room
 
 row-after-count-row-requires : (t : ℕ) → row-after-lts.Need-count-row-requires (row-after-claims t) (row-after-at t) row-after.Post
 row-after-count-row-requires t c κs =
-    (omega (arith, c .before .before .before .fill-row .kept .1 .1 .0, c .before .before .before .before .before .before .before .before .before .before .before .before .before .before .before .before .before .before .before .before .before .before .pre .1 .room), part-room _ _ _ _ _ _ _ _ _ _ _ _ _ _ _ (c .before .before .before .before .before .before .before .before .before .before .before .before .before .before .before .before .before .before .before .before .before .before .pre .1) _ _ (c .before .before .before .before .before .before .before .before .before .before .before .before .before .before .place-at .ensures) (c .before .before .before .before .before .before .before .before .before .before .before .before .before .cells-from .ensures))
+    (omega (arith, c .before .before .before .fill-row .kept .1 .1 .0, c .before .before .before .before .before .before .before .before .before .before .before .before .before .before .before .before .before .before .before .pre .1 .room), part-room _ _ _ _ _ _ _ _ _ _ _ _ _ _ _ (c .before .before .before .before .before .before .before .before .before .before .before .before .before .before .before .before .before .before .before .pre .1) _ _ (c .before .before .before .before .before .before .before .before .before .before .before .before .before .before .place-at .ensures) (c .before .before .before .before .before .before .before .before .before .before .before .before .before .cells-from .ensures))
 
 row-after-same-length-2 : (t : ℕ) → row-after-lts.Need-same-length-2 (row-after-claims t) (row-after-at t) row-after.Post
 row-after-same-length-2 t c =
@@ -495,23 +596,23 @@ row-after-adds-of-requires t c κs =
 
 row-after-begin-row-requires : (t : ℕ) → row-after-lts.Need-begin-row-requires (row-after-claims t) (row-after-at t) row-after.Post
 row-after-begin-row-requires t c κs =
-    (part-room _ _ _ _ _ _ _ _ _ _ _ _ _ _ _ (c .before .before .before .before .before .before .before .before .before .before .before .before .before .before .before .before .before .before .pre .1) _ _ (c .before .before .before .before .before .before .before .before .before .before .place-at .ensures) (c .before .before .before .before .before .before .before .before .before .cells-from .ensures), c .before .before .before .before .before .before .before .before .before .before .before .before .before .before .before .before .before .before .pre .1 .room)
+    (part-room _ _ _ _ _ _ _ _ _ _ _ _ _ _ _ (c .before .before .before .before .before .before .before .before .before .before .before .before .before .before .before .pre .1) _ _ (c .before .before .before .before .before .before .before .before .before .before .place-at .ensures) (c .before .before .before .before .before .before .before .before .before .cells-from .ensures), c .before .before .before .before .before .before .before .before .before .before .before .before .before .before .before .pre .1 .room)
 
 row-after-add-row-trees-after : (t : ℕ) → row-after-lts.Need-add-row-trees-after (row-after-claims t) (row-after-at t) row-after.Post
 row-after-add-row-trees-after t c =
-    omega (arith, node-low _ _ _ _ _ _ _ _ _ _ _ _ _ _ (first-ready _ _ _ _ _ _ _ _ _ _ _ _ _ _ _ (c .before .before .before .before .before .before .before .before .before .before .before .before .before .before .before .before .before .before .before .before .before .pre .1)))
+    omega (arith, node-low _ _ _ _ _ _ _ _ _ _ _ _ _ _ (first-ready _ _ _ _ _ _ _ _ _ _ _ _ _ _ _ (c .before .before .before .before .before .before .before .before .before .before .before .before .before .before .before .before .before .before .pre .1)))
 
 row-after-end-at-requires : (t : ℕ) → row-after-lts.Need-end-at-requires (row-after-claims t) (row-after-at t) row-after.Post
 row-after-end-at-requires t c κs =
-    ends-room _ _ _ _ _ _ _ _ _ _ _ _ _ _ (first-ready _ _ _ _ _ _ _ _ _ _ _ _ _ _ _ (c .before .before .before .before .before .before .before .before .before .before .before .before .before .before .before .before .before .before .before .before .before .pre .1))
+    node-low _ _ _ _ _ _ _ _ _ _ _ _ _ _ (first-ready _ _ _ _ _ _ _ _ _ _ _ _ _ _ _ (c .before .before .before .before .before .before .before .before .before .before .before .before .before .before .before .before .before .before .pre .1))
 
 row-after-row-trees-after-requires : (t : ℕ) → row-after-lts.Need-row-trees-after-requires (row-after-claims t) (row-after-at t) row-after.Post
 row-after-row-trees-after-requires t c κs =
-    (omega (arith, c .before .before .before .before .before .before .before .before .before .before .before .before .before .before .before .before .before .before .before .before .before .before .before .pre .0, node-low _ _ _ _ _ _ _ _ _ _ _ _ _ _ (first-ready _ _ _ _ _ _ _ _ _ _ _ _ _ _ _ (c .before .before .before .before .before .before .before .before .before .before .before .before .before .before .before .before .before .before .before .before .before .before .before .pre .1))), row-trees-ready _ _ _ _ _ _ _ _ _ _ _ _ _ _ _ _ (c .before .before .before .before .before .before .before .before .before .before .before .before .before .before .before .before .before .before .before .before .before .before .before .pre .1) _ _ _ _ (part-old _ _ _ _ _ _ _ (c .before .before .before .before .before .before .before .before .before .before .before .before .before .before .before .place-at .ensures) (c .before .before .before .before .before .before .before .before .before .before .before .before .before .before .cells-from .ensures)) (c .before .before .before .before .before .before .before .before .before .before .before .before .before .kind-at .ensures) (c .before .before .before .before .before .before .before .if2 .left) ((by-rows (c .before .before .before .before .before .before .before .before .before .before .meet .result) (c .before .before .before .before .before .before .before .before .before .before .before .before .before .kind-at .result) _ (c .before .before .before .before .before .before .before .before .before .by-cells .ensures) (c .before .before .before .before .before .before .before .before .if1 .left)) .1) (c .before .end-at .ensures) omega (arith, c .before .before .before .before .begin-row .kept .1 .1 .1 .0, c .before .before .before .before .before .before .before .before .before .before .before .before .before .before .before .before .before .before .before .before .before .before .before .pre .1 .room) (c .before .before .before .before .begin-row .ensures))
+    (omega (arith, c .before .before .before .before .before .before .before .before .before .before .before .before .before .before .before .before .before .before .before .before .pre .0, node-low _ _ _ _ _ _ _ _ _ _ _ _ _ _ (first-ready _ _ _ _ _ _ _ _ _ _ _ _ _ _ _ (c .before .before .before .before .before .before .before .before .before .before .before .before .before .before .before .before .before .before .before .before .pre .1))), row-trees-ready _ _ _ _ _ _ _ _ _ _ _ _ _ _ _ _ (c .before .before .before .before .before .before .before .before .before .before .before .before .before .before .before .before .before .before .before .before .pre .1) _ _ _ _ (part-old _ _ _ _ _ _ _ (c .before .before .before .before .before .before .before .before .before .before .before .before .before .before .before .place-at .ensures) (c .before .before .before .before .before .before .before .before .before .before .before .before .before .before .cells-from .ensures)) (c .before .before .before .before .before .before .before .before .before .before .before .before .before .kind-at .ensures) (c .before .before .before .before .before .before .before .if2 .left) ((by-rows (c .before .before .before .before .before .before .before .before .before .before .meet .result) (c .before .before .before .before .before .before .before .before .before .before .before .before .before .kind-at .result) _ (c .before .before .before .before .before .before .before .before .before .by-cells .ensures) (c .before .before .before .before .before .before .before .before .if1 .left)) .1) (c .before .end-at .ensures) omega (arith, c .before .before .before .before .begin-row .kept .1 .1 .1 .0, c .before .before .before .before .before .before .before .before .before .before .before .before .before .before .before .before .before .before .before .before .pre .1 .room) (c .before .before .before .before .begin-row .ensures))
 
 row-after-count-row-requires-2 : (t : ℕ) → row-after-lts.Need-count-row-requires-2 (row-after-claims t) (row-after-at t) row-after.Post
 row-after-count-row-requires-2 t c κs =
-    (omega (arith, c .before .before .before .row-trees-after .kept .1 .1 .1 .1 .1 .1 .1 .1 .1 .1 .1 .1 .1 .1 .1 .1 .0, c .before .before .before .before .before .before .before .before .begin-row .kept .1 .1 .1 .0, c .before .before .before .before .before .before .before .before .before .before .before .before .before .before .before .before .before .before .before .before .before .before .before .before .before .before .before .pre .1 .room), part-room _ _ _ _ _ _ _ _ _ _ _ _ _ _ _ (c .before .before .before .before .before .before .before .before .before .before .before .before .before .before .before .before .before .before .before .before .before .before .before .before .before .before .before .pre .1) _ _ (c .before .before .before .before .before .before .before .before .before .before .before .before .before .before .before .before .before .before .before .place-at .ensures) (c .before .before .before .before .before .before .before .before .before .before .before .before .before .before .before .before .before .before .cells-from .ensures))
+    (omega (arith, c .before .before .before .row-trees-after .kept .1 .1 .1 .1 .1 .1 .1 .1 .1 .1 .1 .1 .1 .1 .1 .1 .0, c .before .before .before .before .before .before .before .before .begin-row .kept .1 .1 .1 .0, c .before .before .before .before .before .before .before .before .before .before .before .before .before .before .before .before .before .before .before .before .before .before .before .before .pre .1 .room), part-room _ _ _ _ _ _ _ _ _ _ _ _ _ _ _ (c .before .before .before .before .before .before .before .before .before .before .before .before .before .before .before .before .before .before .before .before .before .before .before .before .pre .1) _ _ (c .before .before .before .before .before .before .before .before .before .before .before .before .before .before .before .before .before .before .before .place-at .ensures) (c .before .before .before .before .before .before .before .before .before .before .before .before .before .before .before .before .before .before .cells-from .ensures))
 
 row-after-wrapping-add-u32-requires : (t : ℕ) → row-after-lts.Need-wrapping-add-u32-requires (row-after-claims t) (row-after-at t) row-after.Post
 row-after-wrapping-add-u32-requires t c κs =
@@ -537,19 +638,19 @@ row-cells-after-first-port-requires t c κs =
 
 row-cells-after-loop-holds : (t : ℕ) → row-cells-after-lts.Need-loop-holds (row-cells-after-claims t) (row-cells-after-at t) row-cells-after.Post row-cells-after-Inv-loop row-cells-after-μ-loop
 row-cells-after-loop-holds t c =
-    row-start _ _ _ _ _ _ _ _ _ _ _ _ _ _ _ _ (c .before .before .before .before .before .before .before .before .pre .1) _ (c .first-port .ensures)
+    row-start _ _ _ _ _ _ _ _ _ _ _ _ _ _ _ _ (c .before .before .before .before .before .pre .1) _ (c .first-port .ensures)
 
 row-cells-after-add-cell-after : (t : ℕ) → row-cells-after-lts.Need-add-cell-after (row-cells-after-claims t) (row-cells-after-at t) row-cells-after.Post row-cells-after-Inv-loop row-cells-after-μ-loop
 row-cells-after-add-cell-after t c =
-    omega (arith, c .before .before .before .before .before .before .before .before .before .before .pre .1 .begins .visit .depth)
+    omega (arith, c .before .before .before .before .before .before .before .pre .1 .begins .visit .depth)
 
 row-cells-after-add-cell-after-2 : (t : ℕ) → row-cells-after-lts.Need-add-cell-after-2 (row-cells-after-claims t) (row-cells-after-at t) row-cells-after.Post row-cells-after-Inv-loop row-cells-after-μ-loop
 row-cells-after-add-cell-after-2 t c =
-    record { fits = row-fits-64 _ _ _ _ _ _ _ _ _ _ _ _ _ _ _ (c .before .before .before .before .before .before .before .before .before .before .pre .1 .begins) _ (c .loop-test .taken) }
+    record { fits = row-fits-64 _ _ _ _ _ _ _ _ _ _ _ _ _ _ _ (c .before .before .before .before .before .before .before .pre .1 .begins) _ (c .loop-test .taken) }
 
 row-cells-after-with-port-requires : (t : ℕ) → row-cells-after-lts.Need-with-port-requires (row-cells-after-claims t) (row-cells-after-at t) row-cells-after.Post row-cells-after-Inv-loop row-cells-after-μ-loop
 row-cells-after-with-port-requires t c κs =
-    digits-ready _ _ _ _ _ _ _ _ _ _ _ _ _ _ _ (c .before .before .before .before .before .before .before .before .before .before .pre .1 .begins) _ (c .loop-test .taken)
+    digits-ready _ _ _ _ _ _ _ _ _ _ _ _ _ _ _ (c .before .before .before .before .before .before .before .pre .1 .begins) _ (c .loop-test .taken)
 
 row-cells-after-port-word-requires : (t : ℕ) → row-cells-after-lts.Need-port-word-requires (row-cells-after-claims t) (row-cells-after-at t) row-cells-after.Post row-cells-after-Inv-loop row-cells-after-μ-loop
 row-cells-after-port-word-requires t c κs =
@@ -557,11 +658,11 @@ row-cells-after-port-word-requires t c κs =
 
 row-cells-after-cell-after-requires : (t : ℕ) → row-cells-after-lts.Need-cell-after-requires (row-cells-after-claims t) (row-cells-after-at t) row-cells-after.Post row-cells-after-Inv-loop row-cells-after-μ-loop
 row-cells-after-cell-after-requires t c κs =
-    (omega (arith, c .before .before .before .before .before .before .before .before .before .before .before .before .pre .0), port-ready _ _ _ _ _ _ _ _ _ _ _ _ _ _ _ (c .before .before .before .before .before .before .before .before .before .before .before .before .pre .1 .begins) _ _ _ (c .before .before .loop-test .taken) (c .before .with-port .ensures) (c .port-word .ensures))
+    (omega (arith, c .before .before .before .before .before .before .before .before .before .pre .0), port-ready _ _ _ _ _ _ _ _ _ _ _ _ _ _ _ (c .before .before .before .before .before .before .before .before .before .pre .1 .begins) _ _ _ (c .before .before .loop-test .taken) (c .before .with-port .ensures) (c .port-word .ensures))
 
 row-cells-after-put-port-requires : (t : ℕ) → row-cells-after-lts.Need-put-port-requires (row-cells-after-claims t) (row-cells-after-at t) row-cells-after.Post row-cells-after-Inv-loop row-cells-after-μ-loop
 row-cells-after-put-port-requires t c κs =
-    omega (arith, c .before .before .before .before .loop-test .taken, c .before .before .before .before .before .loop .inv .same-length, c .before .before .before .before .before .before .before .before .before .before .before .before .before .before .pre .1 .begins .room)
+    omega (arith, c .before .before .before .before .loop-test .taken, c .before .before .before .before .before .loop .inv .same-length, c .before .before .before .before .before .before .before .before .before .before .before .pre .1 .begins .room)
 
 row-cells-after-wrapping-add-u32-requires :
     (t : ℕ) → row-cells-after-lts.Need-wrapping-add-u32-requires (row-cells-after-claims t) (row-cells-after-at t) row-cells-after.Post row-cells-after-Inv-loop row-cells-after-μ-loop
@@ -574,11 +675,11 @@ row-cells-after-next-port-requires t c κs =
 
 row-cells-after-loop-less : (t : ℕ) → row-cells-after-lts.Need-loop-less (row-cells-after-claims t) (row-cells-after-at t) row-cells-after.Post row-cells-after-Inv-loop row-cells-after-μ-loop
 row-cells-after-loop-less t c =
-    let n = row-step _ _ _ _ _ _ _ _ _ _ _ _ _ _ _ _ (c .before .before .before .before .before .before .before .before .before .before .before .before .before .before .before .before .before .before .before .pre .1) _ _ _ _ _ _ _ (c .before .before .before .before .before .before .before .before .before .before .loop .inv) (c .before .before .before .before .before .before .before .before .before .loop-test .taken) (port-gives _ _ _ _ _ _ _ _ _ _ _ _ _ _ _ _ _ _ (c .before .before .before .before .before .before .before .before .before .loop-test .taken) (c .before .before .before .before .before .before .before .before .with-port .ensures) (c .before .before .before .before .before .before .before .port-word .ensures) (c .before .before .before .before .before .before .cell-after .ensures)) (c .before .wrapping-add-u32 .ensures) (c .next-port .ensures) (c .before .before .before .before .put-port .ensures) in omega (arith, n .0, c .before .before .before .before .before .before .before .before .before .loop-test .taken)
+    let n = row-step _ _ _ _ _ _ _ _ _ _ _ _ _ _ _ _ (c .before .before .before .before .before .before .before .before .before .before .before .before .before .before .before .before .pre .1) _ _ _ _ _ _ _ (c .before .before .before .before .before .before .before .before .before .before .loop .inv) (c .before .before .before .before .before .before .before .before .before .loop-test .taken) (port-gives _ _ _ _ _ _ _ _ _ _ _ _ _ _ _ _ _ _ (c .before .before .before .before .before .before .before .before .before .loop-test .taken) (c .before .before .before .before .before .before .before .before .with-port .ensures) (c .before .before .before .before .before .before .before .port-word .ensures) (c .before .before .before .before .before .before .cell-after .ensures)) (c .before .wrapping-add-u32 .ensures) (c .next-port .ensures) (c .before .before .before .before .put-port .ensures) in omega (arith, n .0, c .before .before .before .before .before .before .before .before .before .loop-test .taken)
 
 row-cells-after-loop-again : (t : ℕ) → row-cells-after-lts.Need-loop-again (row-cells-after-claims t) (row-cells-after-at t) row-cells-after.Post row-cells-after-Inv-loop row-cells-after-μ-loop
 row-cells-after-loop-again t c =
-    row-step _ _ _ _ _ _ _ _ _ _ _ _ _ _ _ _ (c .before .before .before .before .before .before .before .before .before .before .before .before .before .before .before .before .before .before .before .pre .1) _ _ _ _ _ _ _ (c .before .before .before .before .before .before .before .before .before .before .loop .inv) (c .before .before .before .before .before .before .before .before .before .loop-test .taken) (port-gives _ _ _ _ _ _ _ _ _ _ _ _ _ _ _ _ _ _ (c .before .before .before .before .before .before .before .before .before .loop-test .taken) (c .before .before .before .before .before .before .before .before .with-port .ensures) (c .before .before .before .before .before .before .before .port-word .ensures) (c .before .before .before .before .before .before .cell-after .ensures)) (c .before .wrapping-add-u32 .ensures) (c .next-port .ensures) (c .before .before .before .before .put-port .ensures) .1
+    row-step _ _ _ _ _ _ _ _ _ _ _ _ _ _ _ _ (c .before .before .before .before .before .before .before .before .before .before .before .before .before .before .before .before .pre .1) _ _ _ _ _ _ _ (c .before .before .before .before .before .before .before .before .before .before .loop .inv) (c .before .before .before .before .before .before .before .before .before .loop-test .taken) (port-gives _ _ _ _ _ _ _ _ _ _ _ _ _ _ _ _ _ _ (c .before .before .before .before .before .before .before .before .before .loop-test .taken) (c .before .before .before .before .before .before .before .before .with-port .ensures) (c .before .before .before .before .before .before .before .port-word .ensures) (c .before .before .before .before .before .before .cell-after .ensures)) (c .before .wrapping-add-u32 .ensures) (c .next-port .ensures) (c .before .before .before .before .put-port .ensures) .1
 
 row-cells-after-same-length : (t : ℕ) → row-cells-after-lts.Need-same-length (row-cells-after-claims t) (row-cells-after-at t) row-cells-after.Post row-cells-after-Inv-loop row-cells-after-μ-loop
 row-cells-after-same-length t c =
@@ -586,19 +687,19 @@ row-cells-after-same-length t c =
 
 row-cells-after-returns : (t : ℕ) → row-cells-after-lts.Need-returns (row-cells-after-claims t) (row-cells-after-at t) row-cells-after.Post row-cells-after-Inv-loop row-cells-after-μ-loop
 row-cells-after-returns t c =
-    row-finished _ _ _ _ _ _ _ _ _ _ _ _ _ _ _ _ (c .before .before .before .before .before .before .before .before .before .before .pre .1) _ _ _ (c .before .loop .inv) (c .loop-test .left)
+    row-finished _ _ _ _ _ _ _ _ _ _ _ _ _ _ _ _ (c .before .before .before .before .before .before .before .pre .1) _ _ _ (c .before .loop .inv) (c .loop-test .left)
 
 row-tree-after-place-at-requires : (t : ℕ) → row-tree-after-lts.Need-place-at-requires (row-tree-after-claims t) (row-tree-after-at t) row-tree-after.Post
 row-tree-after-place-at-requires t c κs =
-    (firsts-room _ _ _ _ _ _ _ _ _ _ _ _ _ _ (first-ready _ _ _ _ _ _ _ _ _ _ _ _ _ _ _ (c .before .before .before .before .before .before .before .pre .1 .begins)), row-low _ _ _ _ _ _ _ _ _ _ _ _ _ _ _ (c .before .before .before .before .before .before .before .pre .1 .begins))
+    (node-low _ _ _ _ _ _ _ _ _ _ _ _ _ _ (first-ready _ _ _ _ _ _ _ _ _ _ _ _ _ _ _ (c .before .before .before .before .pre .1 .begins)), row-low _ _ _ _ _ _ _ _ _ _ _ _ _ _ _ (c .before .before .before .before .pre .1 .begins))
 
 row-tree-after-cells-from-requires : (t : ℕ) → row-tree-after-lts.Need-cells-from-requires (row-tree-after-claims t) (row-tree-after-at t) row-tree-after.Post
 row-tree-after-cells-from-requires t c κs =
-    omega (arith, row-within _ _ _ _ _ _ _ _ _ _ _ _ _ _ _ (c .before .before .before .before .before .before .before .before .pre .1 .begins) _ (c .place-at .ensures))
+    omega (arith, row-within _ _ _ _ _ _ _ _ _ _ _ _ _ _ _ (c .before .before .before .before .before .pre .1 .begins) _ (c .place-at .ensures))
 
 row-tree-after-uses-at-requires : (t : ℕ) → row-tree-after-lts.Need-uses-at-requires (row-tree-after-claims t) (row-tree-after-at t) row-tree-after.Post
 row-tree-after-uses-at-requires t c κs =
-    uses-room _ _ _ _ _ _ _ _ _ _ _ _ _ _ (first-ready _ _ _ _ _ _ _ _ _ _ _ _ _ _ _ (c .before .before .before .before .before .before .before .before .before .pre .1 .begins))
+    node-low _ _ _ _ _ _ _ _ _ _ _ _ _ _ (first-ready _ _ _ _ _ _ _ _ _ _ _ _ _ _ _ (c .before .before .before .before .before .before .pre .1 .begins))
 
 row-tree-after-meet-requires : (t : ℕ) → row-tree-after-lts.Need-meet-requires (row-tree-after-claims t) (row-tree-after-at t) row-tree-after.Post
 row-tree-after-meet-requires t c κs =
@@ -606,7 +707,7 @@ row-tree-after-meet-requires t c κs =
 
 row-tree-after-keep-row-requires : (t : ℕ) → row-tree-after-lts.Need-keep-row-requires (row-tree-after-claims t) (row-tree-after-at t) row-tree-after.Post
 row-tree-after-keep-row-requires t c κs =
-    (part-room _ _ _ _ _ _ _ _ _ _ _ _ _ _ _ (c .before .before .before .before .before .before .before .before .before .before .before .before .before .pre .1 .begins) _ _ (c .before .before .before .before .before .place-at .ensures) (c .before .before .before .before .cells-from .ensures), c .before .before .before .before .before .before .before .before .before .before .before .before .before .pre .1 .begins .room)
+    (part-room _ _ _ _ _ _ _ _ _ _ _ _ _ _ _ (c .before .before .before .before .before .before .before .before .before .before .pre .1 .begins) _ _ (c .before .before .before .before .before .place-at .ensures) (c .before .before .before .before .cells-from .ensures), c .before .before .before .before .before .before .before .before .before .before .pre .1 .begins .room)
 
 row-tree-after-same-length : (t : ℕ) → row-tree-after-lts.Need-same-length (row-tree-after-claims t) (row-tree-after-at t) row-tree-after.Post
 row-tree-after-same-length t c =
@@ -614,7 +715,7 @@ row-tree-after-same-length t c =
 
 row-tree-after-returns : (t : ℕ) → row-tree-after-lts.Need-returns (row-tree-after-claims t) (row-tree-after-at t) row-tree-after.Post
 row-tree-after-returns t c =
-    joins-kept _ _ _ _ _ _ _ _ _ _ _ _ _ _ _ _ _ (part-old _ _ _ _ _ _ _ (c .before .before .before .before .before .before .before .before .place-at .ensures) (c .before .before .before .before .before .before .before .cells-from .ensures)) _ _ (c .before .before .before .before .before .before .before .before .before .before .before .before .before .before .before .before .pre .1) (c .before .before .before .before .before .before .uses-at .ensures) (sym (c .before .before .before .before .before .meet .ensures) ∙ not-true _ (c .before .before .before .before .if1 .taken)) (c .before .before .keep-row .ensures)
+    joins-kept _ _ _ _ _ _ _ _ _ _ _ _ _ _ _ _ _ (part-old _ _ _ _ _ _ _ (c .before .before .before .before .before .before .before .before .place-at .ensures) (c .before .before .before .before .before .before .before .cells-from .ensures)) _ _ (c .before .before .before .before .before .before .before .before .before .before .before .before .before .pre .1) (c .before .before .before .before .before .before .uses-at .ensures) (sym (c .before .before .before .before .before .meet .ensures) ∙ not-true _ (c .before .before .before .before .if1 .taken)) (c .before .before .keep-row .ensures)
 
 row-tree-after-slice-aggregate-row-after :
     (t : ℕ) → row-tree-after-lts.Need-slice-aggregate-row-after (row-tree-after-claims t) (row-tree-after-at t) row-tree-after.Post
@@ -623,7 +724,7 @@ row-tree-after-slice-aggregate-row-after t c =
 
 row-tree-after-row-after-requires : (t : ℕ) → row-tree-after-lts.Need-row-after-requires (row-tree-after-claims t) (row-tree-after-at t) row-tree-after.Post
 row-tree-after-row-after-requires t c κs =
-    (omega (arith, c .before .before .before .before .before .before .before .before .before .before .before .before .before .pre .0), again _ _ _ _ _ _ _ _ _ _ _ _ _ _ _ _ (c .before .before .before .before .before .before .before .before .before .before .before .before .before .pre .1 .begins) (c .before .before .before .before .before .before .before .before .before .before .before .before .before .pre .1 .begins .ready .masks-settled .ports64))
+    (omega (arith, c .before .before .before .before .before .before .before .before .before .before .pre .0), again _ _ _ _ _ _ _ _ _ _ _ _ _ _ _ _ (c .before .before .before .before .before .before .before .before .before .before .pre .1 .begins) (c .before .before .before .before .before .before .before .before .before .before .pre .1 .begins .ready .masks-settled .ports64))
 
 row-tree-after-slice-aggregate-join-row :
     (t : ℕ) → row-tree-after-lts.Need-slice-aggregate-join-row (row-tree-after-claims t) (row-tree-after-at t) row-tree-after.Post
@@ -632,7 +733,7 @@ row-tree-after-slice-aggregate-join-row t c =
 
 row-tree-after-join-row-requires : (t : ℕ) → row-tree-after-lts.Need-join-row-requires (row-tree-after-claims t) (row-tree-after-at t) row-tree-after.Post
 row-tree-after-join-row-requires t c κs =
-    (omega (arith, c .before .before .before .row-after .kept .1 .1 .1 .1 .1 .1 .1 .1 .1 .1 .1 .1 .1 .1 .0, c .before .before .before .before .before .before .before .before .before .before .before .before .before .before .before .before .before .pre .1 .begins .ready .masks-settled .ports64), part-room _ _ _ _ _ _ _ _ _ _ _ _ _ _ _ (c .before .before .before .before .before .before .before .before .before .before .before .before .before .before .before .before .before .pre .1 .begins) _ _ (c .before .before .before .before .before .before .before .before .before .place-at .ensures) (c .before .before .before .before .before .before .before .before .cells-from .ensures), c .before .before .before .before .before .before .before .before .before .before .before .before .before .before .before .before .before .pre .1 .begins .room)
+    (omega (arith, c .before .before .before .row-after .kept .1 .1 .1 .1 .1 .1 .1 .1 .1 .1 .1 .1 .1 .1 .0, c .before .before .before .before .before .before .before .before .before .before .before .before .before .before .pre .1 .begins .ready .masks-settled .ports64), part-room _ _ _ _ _ _ _ _ _ _ _ _ _ _ _ (c .before .before .before .before .before .before .before .before .before .before .before .before .before .before .pre .1 .begins) _ _ (c .before .before .before .before .before .before .before .before .before .place-at .ensures) (c .before .before .before .before .before .before .before .before .cells-from .ensures), c .before .before .before .before .before .before .before .before .before .before .before .before .before .before .pre .1 .begins .room)
 
 row-tree-after-same-length-2 : (t : ℕ) → row-tree-after-lts.Need-same-length-2 (row-tree-after-claims t) (row-tree-after-at t) row-tree-after.Post
 row-tree-after-same-length-2 t c =
@@ -650,12 +751,12 @@ row-trees-after-μ-loop table firsts ends uses masks cells ports sets c i until 
 
 row-trees-after-loop-holds : (t : ℕ) → row-trees-after-lts.Need-loop-holds (row-trees-after-claims t) (row-trees-after-at t) row-trees-after.Post row-trees-after-Inv-loop row-trees-after-μ-loop
 row-trees-after-loop-holds t c =
-    rows-onward-first _ _ _ _ _ _ _ _ _ _ _ _ _ _ _ _ _ (c .before .before .before .before .before .before .before .pre .1)
+    rows-onward-first _ _ _ _ _ _ _ _ _ _ _ _ _ _ _ _ _ (c .before .before .before .before .pre .1)
 
 row-trees-after-row-tree-after-requires :
     (t : ℕ) → row-trees-after-lts.Need-row-tree-after-requires (row-trees-after-claims t) (row-trees-after-at t) row-trees-after.Post row-trees-after-Inv-loop row-trees-after-μ-loop
 row-trees-after-row-tree-after-requires t c κs =
-    (omega (arith, c .before .before .before .before .before .before .before .before .before .before .pre .0, c .before .before .loop .inv .late), row-left _ _ _ _ _ _ _ _ _ _ _ _ _ _ _ _ _ (c .before .before .loop .inv .ready .0) (c .before .loop-test .taken))
+    (omega (arith, c .before .before .before .before .before .before .before .pre .0, c .before .before .loop .inv .late), row-left _ _ _ _ _ _ _ _ _ _ _ _ _ _ _ _ _ (c .before .before .loop .inv .ready .0) (c .before .loop-test .taken))
 
 row-trees-after-wrapping-add-u32-requires :
     (t : ℕ) → row-trees-after-lts.Need-wrapping-add-u32-requires (row-trees-after-claims t) (row-trees-after-at t) row-trees-after.Post row-trees-after-Inv-loop row-trees-after-μ-loop
@@ -664,7 +765,7 @@ row-trees-after-wrapping-add-u32-requires t c κs =
 
 row-trees-after-end-at-requires : (t : ℕ) → row-trees-after-lts.Need-end-at-requires (row-trees-after-claims t) (row-trees-after-at t) row-trees-after.Post row-trees-after-Inv-loop row-trees-after-μ-loop
 row-trees-after-end-at-requires t c κs =
-    ends-room _ _ _ _ _ _ _ _ _ _ _ _ _ _ (first-ready _ _ _ _ _ _ _ _ _ _ _ _ _ _ _ ((row-left _ _ _ _ _ _ _ _ _ _ _ _ _ _ _ _ _ (c .before .before .before .before .before .before .loop .inv .ready .0) (c .before .before .before .before .before .loop-test .taken)) .begins))
+    node-low _ _ _ _ _ _ _ _ _ _ _ _ _ _ (first-ready _ _ _ _ _ _ _ _ _ _ _ _ _ _ _ ((row-left _ _ _ _ _ _ _ _ _ _ _ _ _ _ _ _ _ (c .before .before .before .before .before .before .loop .inv .ready .0) (c .before .before .before .before .before .loop-test .taken)) .begins))
 
 row-trees-after-loop-less : (t : ℕ) → row-trees-after-lts.Need-loop-less (row-trees-after-claims t) (row-trees-after-at t) row-trees-after.Post row-trees-after-Inv-loop row-trees-after-μ-loop
 row-trees-after-loop-less t c =
@@ -684,23 +785,23 @@ row-trees-after-returns t c =
 
 tree-after-kind-at-requires : (t : ℕ) → tree-after-lts.Need-kind-at-requires (tree-after-claims t) (tree-after-at t) tree-after.Post
 tree-after-kind-at-requires t c κs =
-    record-room _ _ _ _ _ _ _ _ _ _ _ _ _ _ (c .before .before .before .before .before .before .pre .1 .begins)
+    record-room _ _ _ _ _ _ _ _ _ _ _ _ _ _ (c .before .before .before .pre .1 .begins)
 
 tree-after-cell-at-requires : (t : ℕ) → tree-after-lts.Need-cell-at-requires (tree-after-claims t) (tree-after-at t) tree-after.Post
 tree-after-cell-at-requires t c κs =
-    (firsts-room _ _ _ _ _ _ _ _ _ _ _ _ _ _ (c .before .before .before .before .before .before .before .before .pre .1 .begins), cell-room _ _ _ _ _ _ _ _ _ _ _ _ _ _ (c .before .before .before .before .before .before .before .before .pre .1 .begins))
+    (node-low _ _ _ _ _ _ _ _ _ _ _ _ _ _ (c .before .before .before .before .before .pre .1 .begins), cell-room _ _ _ _ _ _ _ _ _ _ _ _ _ _ (c .before .before .before .before .before .pre .1 .begins))
 
 tree-after-literal-outcome-requires : (t : ℕ) → tree-after-lts.Need-literal-outcome-requires (tree-after-claims t) (tree-after-at t) tree-after.Post
 tree-after-literal-outcome-requires t c κs =
-    literal-ready _ _ _ _ _ _ _ _ _ _ _ _ _ _ (c .before .before .before .before .before .before .before .before .before .pre .1 .begins) _ (c .before .before .kind-at .ensures) (c .before .if1 .taken)
+    literal-ready _ _ _ _ _ _ _ _ _ _ _ _ _ _ (c .before .before .before .before .before .before .pre .1 .begins) _ (c .before .before .kind-at .ensures) (c .before .if1 .taken)
 
 tree-after-returns : (t : ℕ) → tree-after-lts.Need-returns (tree-after-claims t) (tree-after-at t) tree-after.Post
 tree-after-returns t c =
-    gives-literal _ _ _ _ _ _ _ _ _ _ _ _ _ _ _ _ (c .before .cell-at .ensures) refl _ (c .before .before .before .before .before .before .before .before .before .before .pre .1 .touched) (c .before .before .before .kind-at .ensures) _ _ (c .before .before .if1 .taken) (c .literal-outcome .ensures .0) (c .literal-outcome .ensures .1, refl, c .literal-outcome .ensures .2)
+    gives-literal _ _ _ _ _ _ _ _ _ _ _ _ _ _ _ _ (c .before .cell-at .ensures) refl _ (c .before .before .before .before .before .before .before .pre .1 .touched) (c .before .before .before .kind-at .ensures) _ _ (c .before .before .if1 .taken) (c .literal-outcome .ensures .0) (c .literal-outcome .ensures .1, refl, c .literal-outcome .ensures .2)
 
 tree-after-cell-after-requires : (t : ℕ) → tree-after-lts.Need-cell-after-requires (tree-after-claims t) (tree-after-at t) tree-after.Post
 tree-after-cell-after-requires t c κs =
-    (omega (arith, c .before .before .before .before .before .before .before .before .pre .0), c .before .before .before .before .before .before .before .before .pre .1 .begins)
+    (omega (arith, c .before .before .before .before .before .pre .0), c .before .before .before .before .before .pre .1 .begins)
 
 tree-after-returns-2 : (t : ℕ) → tree-after-lts.Need-returns-2 (tree-after-claims t) (tree-after-at t) tree-after.Post
 tree-after-returns-2 t c =
@@ -714,11 +815,11 @@ trees-after-μ-loop table firsts ends uses masks cells ports sets c i until dept
 
 trees-after-loop-holds : (t : ℕ) → trees-after-lts.Need-loop-holds (trees-after-claims t) (trees-after-at t) trees-after.Post trees-after-Inv-loop trees-after-μ-loop
 trees-after-loop-holds t c =
-    onward-first _ _ _ _ _ _ _ _ _ _ _ _ _ _ _ _ _ (c .before .before .before .before .before .before .pre .1)
+    onward-first _ _ _ _ _ _ _ _ _ _ _ _ _ _ _ _ _ (c .before .before .before .pre .1)
 
 trees-after-uses-at-requires : (t : ℕ) → trees-after-lts.Need-uses-at-requires (trees-after-claims t) (trees-after-at t) trees-after.Post trees-after-Inv-loop trees-after-μ-loop
 trees-after-uses-at-requires t c κs =
-    uses-room _ _ _ _ _ _ _ _ _ _ _ _ _ _ (some-left _ _ _ _ _ _ _ _ _ _ _ _ _ _ _ _ (c .before .loop .inv .ready) (c .loop-test .taken))
+    node-low _ _ _ _ _ _ _ _ _ _ _ _ _ _ (some-left _ _ _ _ _ _ _ _ _ _ _ _ _ _ _ _ (c .before .loop .inv .ready) (c .loop-test .taken))
 
 trees-after-meet-requires : (t : ℕ) → trees-after-lts.Need-meet-requires (trees-after-claims t) (trees-after-at t) trees-after.Post trees-after-Inv-loop trees-after-μ-loop
 trees-after-meet-requires t c κs =
@@ -726,7 +827,7 @@ trees-after-meet-requires t c κs =
 
 trees-after-tree-after-requires : (t : ℕ) → trees-after-lts.Need-tree-after-requires (trees-after-claims t) (trees-after-at t) trees-after.Post trees-after-Inv-loop trees-after-μ-loop
 trees-after-tree-after-requires t c κs =
-    (omega (arith, c .before .before .before .before .before .before .before .before .before .before .before .pre .0, c .before .before .before .before .loop .inv .late), touched-ready _ _ _ _ _ _ _ _ _ _ _ _ _ _ (some-left _ _ _ _ _ _ _ _ _ _ _ _ _ _ _ _ (c .before .before .before .before .loop .inv .ready) (c .before .before .before .loop-test .taken)) _ _ (c .before .before .uses-at .ensures) (c .before .meet .ensures) (c .if1 .taken))
+    (omega (arith, c .before .before .before .before .before .before .before .before .pre .0, c .before .before .before .before .loop .inv .late), touched-ready _ _ _ _ _ _ _ _ _ _ _ _ _ _ (some-left _ _ _ _ _ _ _ _ _ _ _ _ _ _ _ _ (c .before .before .before .before .loop .inv .ready) (c .before .before .before .loop-test .taken)) _ _ (c .before .before .uses-at .ensures) (c .before .meet .ensures) (c .if1 .taken))
 
 trees-after-join-requires : (t : ℕ) → trees-after-lts.Need-join-requires (trees-after-claims t) (trees-after-at t) trees-after.Post trees-after-Inv-loop trees-after-μ-loop
 trees-after-join-requires t c κs =
@@ -734,7 +835,7 @@ trees-after-join-requires t c κs =
 
 trees-after-kept-requires : (t : ℕ) → trees-after-lts.Need-kept-requires (trees-after-claims t) (trees-after-at t) trees-after.Post trees-after-Inv-loop trees-after-μ-loop
 trees-after-kept-requires t c κs =
-    let r = some-left _ _ _ _ _ _ _ _ _ _ _ _ _ _ _ _ (c .before .before .before .before .loop .inv .ready) (c .before .before .before .loop-test .taken) in (firsts-room _ _ _ _ _ _ _ _ _ _ _ _ _ _ r, cell-room _ _ _ _ _ _ _ _ _ _ _ _ _ _ r)
+    let r = some-left _ _ _ _ _ _ _ _ _ _ _ _ _ _ _ _ (c .before .before .before .before .loop .inv .ready) (c .before .before .before .loop-test .taken) in (node-low _ _ _ _ _ _ _ _ _ _ _ _ _ _ r, cell-room _ _ _ _ _ _ _ _ _ _ _ _ _ _ r)
 
 trees-after-join-requires-2 : (t : ℕ) → trees-after-lts.Need-join-requires-2 (trees-after-claims t) (trees-after-at t) trees-after.Post trees-after-Inv-loop trees-after-μ-loop
 trees-after-join-requires-2 t c κs =
@@ -742,7 +843,7 @@ trees-after-join-requires-2 t c κs =
 
 trees-after-end-at-requires : (t : ℕ) → trees-after-lts.Need-end-at-requires (trees-after-claims t) (trees-after-at t) trees-after.Post trees-after-Inv-loop trees-after-μ-loop
 trees-after-end-at-requires t c κs =
-    ends-room _ _ _ _ _ _ _ _ _ _ _ _ _ _ (some-left _ _ _ _ _ _ _ _ _ _ _ _ _ _ _ _ (c .before .before .before .before .loop .inv .ready) (c .before .before .before .loop-test .taken))
+    node-low _ _ _ _ _ _ _ _ _ _ _ _ _ _ (some-left _ _ _ _ _ _ _ _ _ _ _ _ _ _ _ _ (c .before .before .before .before .loop .inv .ready) (c .before .before .before .loop-test .taken))
 
 trees-after-loop-less : (t : ℕ) → trees-after-lts.Need-loop-less (trees-after-claims t) (trees-after-at t) trees-after.Post trees-after-Inv-loop trees-after-μ-loop
 trees-after-loop-less t c =
@@ -756,10 +857,11 @@ trees-after-returns : (t : ℕ) → trees-after-lts.Need-returns (trees-after-cl
 trees-after-returns t c =
     onward-last _ _ _ _ _ _ _ _ _ _ _ _ _ _ _ _ _ _ _ (c .before .loop .inv) (c .loop-test .left)
 
-pub +cell-after+pair-after+ports-after+row-after+row-cells-after+row-tree-after+row-trees-after+tree-after+trees-after-spec :
+pub +all-ports-after+cell-after+pair-after+ports-after+row-after+row-cells-after+row-tree-after+row-trees-after+tree-after+trees-after-spec :
     {M : Type 1} → statement M
-+cell-after+pair-after+ports-after+row-after+row-cells-after+row-tree-after+row-trees-after+tree-after+trees-after-spec =
++all-ports-after+cell-after+pair-after+ports-after+row-after+row-cells-after+row-tree-after+row-trees-after+tree-after+trees-after-spec =
     close
+    μ-all-ports-after
     μ-cell-after
     μ-pair-after
     μ-ports-after
@@ -769,6 +871,25 @@ pub +cell-after+pair-after+ports-after+row-after+row-cells-after+row-tree-after+
     μ-row-trees-after
     μ-tree-after
     μ-trees-after
+    (λ t. all-ports-after-lts.spec (all-ports-after-claims t)
+    (all-ports-after-at t)
+    all-ports-after.Post
+    (all-ports-after-cell-at-requires t)
+    (all-ports-after-kind-at-requires t)
+    (all-ports-after-adds-of-requires t)
+    (all-ports-after-begin-requires t)
+    (all-ports-after-mul-row t)
+    (all-ports-after-add-row-after t)
+    (all-ports-after-slice-aggregate-row-after t)
+    (all-ports-after-row-after-requires t)
+    (all-ports-after-add-place-at t)
+    (all-ports-after-place-at-requires t)
+    (all-ports-after-cells-from-requires t)
+    (all-ports-after-slice-aggregate-gather-row t)
+    (all-ports-after-gather-row-requires t)
+    (all-ports-after-wrapping-add-u32-requires t)
+    (all-ports-after-outcome-requires t)
+    (all-ports-after-returns t))
     (λ t. cell-after-lts.spec (cell-after-claims t)
     (cell-after-at t)
     cell-after.Post
@@ -780,18 +901,15 @@ pub +cell-after+pair-after+ports-after+row-after+row-cells-after+row-tree-after+
     (cell-after-kind-at-requires t)
     (cell-after-literal-outcome-requires t)
     (cell-after-returns-2 t)
-    (cell-after-adds-of-requires t)
-    (cell-after-begin-requires t)
-    (cell-after-end-at-requires t)
     (cell-after-is-quantifier-requires t)
-    (cell-after-add-ports-after t)
-    (cell-after-mul-ports-after t)
     (cell-after-ports-after-requires t)
-    (cell-after-outcome-requires t)
     (cell-after-returns-3 t)
+    (cell-after-adds-of-requires t)
     (cell-after-add-trees-after t)
+    (cell-after-end-at-requires t)
+    (cell-after-begin-requires t)
     (cell-after-trees-after-requires t)
-    (cell-after-outcome-requires-2 t)
+    (cell-after-outcome-requires t)
     (cell-after-returns-4 t))
     (λ t. pair-after-lts.spec (pair-after-claims t)
     (pair-after-at t)
@@ -813,18 +931,23 @@ pub +cell-after+pair-after+ports-after+row-after+row-cells-after+row-tree-after+
     (λ t. ports-after-lts.spec (ports-after-claims t)
     (ports-after-at t)
     ports-after.Post
-    (ports-after-uses-at-requires t)
-    (ports-after-every-port-requires t)
-    (ports-after-pair-after-requires t)
+    (ports-after-kind-at-requires t)
+    (ports-after-adds-of-requires t)
+    (ports-after-all-ports-after-requires t)
     (ports-after-returns t)
-    (ports-after-slice-aggregate-row-after t)
-    (ports-after-row-after-requires t)
-    (ports-after-place-at-requires t)
-    (ports-after-cells-from-requires t)
-    (ports-after-slice-aggregate-gather-row t)
-    (ports-after-gather-row-requires t)
-    (ports-after-wrapping-add-u32-requires t)
-    (ports-after-returns-2 t))
+    (ports-after-add-uses-at t)
+    (ports-after-uses-at-requires t)
+    (ports-after-rest-word-requires t)
+    (ports-after-meet-requires t)
+    (ports-after-all-ports-after-requires-2 t)
+    (ports-after-returns-2 t)
+    (ports-after-cell-at-requires t)
+    (ports-after-add-pair-after t)
+    (ports-after-mul-pair-after t)
+    (ports-after-begin-requires t)
+    (ports-after-pair-after-requires t)
+    (ports-after-outcome-requires t)
+    (ports-after-returns-3 t))
     (λ t. row-after-lts.spec (row-after-claims t)
     (row-after-at t)
     row-after.Post
