@@ -1,7 +1,7 @@
 //! The binding's own part: each ground by its name, moves and kinds with any fields, and answers that no version gives today.
 use vuyekhang::raw::{CountAnswer, ImproveAnswer, LoadAnswer, MoveAnswer, ReadAnswer};
 use vuyekhang::{best_moves, improve, load, make_move, read, test_begin, test_end, trial, undo, write};
-use vuyekhang::{Improved, Kinds, Loaded, Move, Moved, Read, Refusal, MOST_RECORDS, MOST_TABLE, MOST_TEXT, READ_STACK};
+use vuyekhang::{Improved, Kinds, Loaded, Move, Moved, Read, Refusal, MOST_RECORDS, MOST_STACK, MOST_TABLE, MOST_TEXT};
 
 const PLAN_A: &[u8] = b"[STI] @x (x:I <-> x:S & x:T) & #I <= 1";
 const CELLS: usize = 34;
@@ -216,14 +216,14 @@ fn a_table_may_be_cut_to_its_length() {
     assert_eq!(load(&table[..120], &[3, 7, 1, 0], &mut [0; CELLS]), Err(Refusal::BrokenTable));
 }
 
-/// The deepest texts of each sign, on a thread that has only the stack that `read` asks for.
+/// The deepest texts of each sign, on a thread that has little more stack than a call may take.
 #[test]
 fn stack_for_any_text() {
     let closed = |open: &str, n: usize, close: &str| format!("[S]{}#S<1{}", open.repeat(n), close.repeat(n));
     let open = |sign: &str| format!("[S]{}", sign.repeat(4093 / sign.len()));
     let texts = [closed("(", 2044, ")"), closed("~", 4089, ""), closed("@x", 2044, ""), open("("), open("~"), open("@x"), open("~(")];
     let reading = move || texts.map(|text| refused(3, &text));
-    let thread = std::thread::Builder::new().stack_size(READ_STACK).spawn(reading).expect("a thread can be started");
+    let thread = std::thread::Builder::new().stack_size(MOST_STACK + (64 << 10)).spawn(reading).expect("a thread can be started");
     let answers = thread.join().expect("the stack is enough");
     assert_eq!(answers[..3], [Refusal::NestedTooDeep; 3]);
     assert_eq!(answers[3..], [Refusal::OutsideGrammar; 4]);

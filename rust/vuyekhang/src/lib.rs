@@ -38,8 +38,7 @@
 //! ```
 //!
 //! Any value of any argument is answered, by numbers or by a [`Refusal`]. What the C functions ask of their caller, that lengths
-//! are true and that a table which is written is lent once, Rust's references give. All that is left to see to is the stack that
-//! [`read`] may need.
+//! are true and that a table which is written is lent once, Rust's references give. No call takes more than [`MOST_STACK`] of stack.
 //!
 //! To link, the archive `target/staticlib/libvuyekhang.a` must be there: `rt staticlib vuyekhang` proves and writes it.
 #![deny(missing_docs)]
@@ -68,26 +67,13 @@ pub const MOST_MOVES: usize = 21_504;
 /// A journal is full at this many records, however long it is.
 pub const MOST_RECORDS: usize = 1_024;
 
-/// The stack of a thread on which [`read`] may be called with any text.
-pub const READ_STACK: usize = 8 << 20;
+/// No call takes more bytes of stack than this, whatever it is given: measured, over texts and tables that are made to take much
+/// (docs/PERFORMANCE.md, Stack). A thread that Rust starts has 2 MB.
+pub const MOST_STACK: usize = 320 << 10;
 
 /// Reads a plan text over `u` ports and writes its plan table, [`Read::table_len`] bytes.
 ///
 /// Tries ground 10, then 1 to 9, each over the whole text, then 12: `table` is shorter than the plan's.
-///
-/// # Stack
-///
-/// A text of 4,096 bytes may nest so deep that reading it takes 4 MB of stack; where there is less, the program is aborted. A
-/// thread that Rust starts has 2 MB. One on which texts of any origin are read is given [`READ_STACK`]:
-///
-/// ```
-/// use vuyekhang::{read, Refusal, MOST_TABLE, READ_STACK};
-///
-/// let text = format!("[S]{}", "(".repeat(4093));
-/// let reading = move || read(3, text.as_bytes(), &mut [0; MOST_TABLE]);
-/// let thread = std::thread::Builder::new().stack_size(READ_STACK).spawn(reading).unwrap();
-/// assert_eq!(thread.join().unwrap(), Err(Refusal::OutsideGrammar));
-/// ```
 pub fn read(u: u64, text: &[u8], table: &mut [u8]) -> Result<Read, Refusal> {
     raw::read(u, text, table).typed()
 }
