@@ -8,6 +8,7 @@ use super::clock::{medians, now, timed};
 use super::plans::{opposite, Plan, KINDS};
 use super::state::State;
 use crate::calls::{Improved, Move, Numbers, Read, Test};
+use crate::plain::Way;
 use crate::{archive, plain};
 
 /// Times in nanoseconds; zero where a call has no such time.
@@ -261,4 +262,34 @@ fn improving(state: &State, kinds: u32, name: &str) -> Line {
     let times = medians([&mut archive, &mut plain]);
     let changed = if let Ok(Improved::Made(_, numbers)) = answer { numbers.changed } else { 0 };
     Line { changed, ..line(format!("improve {name}"), times) }
+}
+
+/// The plain engine's improve: each candidate walked, work shared among them, and as it chooses between the two.
+pub struct Ways {
+    pub kinds: &'static str,
+    pub candidates: usize,
+    pub walks: f64,
+    pub shared: f64,
+    pub chosen: f64,
+}
+
+pub fn improve_ways(state: &State) -> Vec<Ways> {
+    let kinds = KINDS.into_iter().enumerate().map(|(i, name)| (1 << i, name));
+    kinds.chain([(15, "all kinds")]).map(|(kinds, name)| ways_of(state, kinds, name)).collect()
+}
+
+fn ways_of(state: &State, kinds: u32, name: &'static str) -> Ways {
+    let in_way = |way: Way| move |s: &mut State| plain::improve_in(way, &s.table, &mut s.masks, &mut s.cells, &s.scratch, kinds);
+    let (mut by_walks, mut by_shares) = (in_way(Way::Walks), in_way(Way::Shared));
+    let mut by_choice = |s: &mut State| plain::improve(&s.table, &mut s.masks, &mut s.cells, &s.scratch, kinds);
+    let [mut a, mut b, mut c] = [state.clone(), state.clone(), state.clone()];
+    assert_eq!(by_walks(&mut a), by_shares(&mut b));
+    a.same(&b);
+    let roots = plain::roots(Way::Shared, &state.table, &state.masks, &state.cells, kinds).expect("the tables are sound");
+    [a, b] = [state.clone(), state.clone()];
+    let mut walks = |times| improved(&mut a, times, &mut by_walks);
+    let mut shared = |times| improved(&mut b, times, &mut by_shares);
+    let mut chosen = |times| improved(&mut c, times, &mut by_choice);
+    let [walks, shared, chosen] = medians([&mut walks, &mut shared, &mut chosen]);
+    Ways { kinds: name, candidates: roots.len(), walks, shared, chosen }
 }

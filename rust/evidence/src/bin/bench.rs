@@ -1,6 +1,6 @@
 //! `bench [PLAN..]`: times of the archive beside the plain engine, as tables in markdown. Answers are compared; times are only
-//! printed. With names (B1 to B6, and `deep` for the deep texts), only the calls on these.
-use evidence::bench::calls::{measure, parts, read_times, Line};
+//! printed. With names (B1 to B6, `deep` for the deep texts, `improve` for the plain engine's two ways to improve), only these.
+use evidence::bench::calls::{improve_ways, measure, parts, read_times, Line};
 use evidence::bench::deep::{deep_texts, PORTS};
 use evidence::bench::growth::{larger, more_touched, ADD};
 use evidence::bench::plans::{plans, Plan};
@@ -19,6 +19,9 @@ fn main() {
         }
         if asked("deep") {
             print_deep();
+        }
+        if asked("improve") {
+            print_improve();
         }
         if names.is_empty() {
             print_growth("The plan grows, the touched cells do not", &larger());
@@ -63,6 +66,18 @@ fn print_deep() {
         let answer = answer.map_or_else(|number| format!("refused ({number})"), |a| format!("{} nodes", a.nodes));
         let times = format!("{} | {} | {}", time(archive), time(plain), ratio(archive / plain));
         println!("| {} | {} | {answer} | {times} |", deep.name, deep.text.len());
+    }
+}
+
+fn print_improve() {
+    println!("\n| plan | improve | candidates | plain: walks | shared | walks/shared | as chosen | walks/chosen |");
+    println!("|---|---|---|---|---|---|---|---|");
+    for plan in plans() {
+        for w in improve_ways(&State::of(&plan).1) {
+            let times = format!("{} | {} | {}", time(w.walks), time(w.shared), ratio(w.walks / w.shared));
+            let chosen = format!("{} | {}", time(w.chosen), ratio(w.walks / w.chosen));
+            println!("| {} | {} | {} | {times} | {chosen} |", plan.name, w.kinds, w.candidates);
+        }
     }
 }
 

@@ -3,6 +3,7 @@
 //! `compare --short [TOKENS]`: reads some beginnings of texts, each with every choice of at most so many tokens behind it, with both.
 //! `compare --lists [CALLS [SEED]]`: compares lists of calls, every answer, mask, cell, record and listed move after every call.
 //! `compare --lists-damage [LISTS [SEED]]`: changes one bit after one call of each list, and fails unless each change is reported.
+//! `compare --improve [PLANS [SEED]]`: compares improve and the list of best moves of the plain engine with both, over random plans.
 use std::process::ExitCode;
 
 use evidence::archive::Archive;
@@ -10,6 +11,7 @@ use evidence::best::told_ties;
 use evidence::compare::{missed, one_round, short_texts};
 use evidence::counts::Counts;
 use evidence::damage::{Damage, Target};
+use evidence::improving;
 use evidence::list_damage::{damaged_list, HITS};
 use evidence::lists;
 use evidence::random::Random;
@@ -22,6 +24,7 @@ const QUICK_TOKENS: u64 = 3;
 const QUICK_CALLS: u64 = 30_000;
 const QUICK_LISTS: u64 = 150;
 const QUICK_DAMAGES: u64 = 1_000;
+const QUICK_PLANS: u64 = 3_000;
 
 fn main() -> ExitCode {
     let words: Vec<String> = std::env::args().skip(1).collect();
@@ -31,6 +34,7 @@ fn main() -> ExitCode {
         "" => (rounds_fail, QUICK_ROUNDS),
         "--damage" => (damage_unseen, QUICK_DAMAGES),
         "--short" => (short_fail, QUICK_TOKENS),
+        "--improve" => (improves_fail, QUICK_PLANS),
         "--lists" => (lists_fail, QUICK_CALLS),
         "--lists-damage" => (list_damage_unseen, QUICK_LISTS),
         _ => panic!("unknown mode {mode}"),
@@ -99,6 +103,20 @@ fn short_fail(tokens: u64, _seed: u64) -> bool {
         Err(ref difference) => println!("difference: {difference}"),
     }
     result.is_err()
+}
+
+/// Each plan has its own seed: `compare --improve 1 SEED`.
+fn improves_fail(plans: u64, seed: u64) -> bool {
+    let mut counts = Counts::default();
+    for own in (0..plans).map(|plan| seed.wrapping_add(plan)) {
+        if let Err(difference) = improving::one_plan(&mut Random::new(own), &mut counts) {
+            println!("difference, seed {own}: {difference}");
+            return true;
+        }
+    }
+    print(&counts);
+    println!("{} improves: no difference", counts.of("improves"));
+    too_seldom(&improving::missed(&counts))
 }
 
 fn lists_fail(calls: u64, seed: u64) -> bool {

@@ -71,7 +71,7 @@ impl Change {
 }
 
 /// The ports of a mask, rising.
-fn ports(mut mask: u64) -> impl Iterator<Item = u32> {
+pub fn ports(mut mask: u64) -> impl Iterator<Item = u32> {
     std::iter::from_fn(move || {
         let port = mask.trailing_zeros();
         mask &= mask.wrapping_sub(1);

@@ -29,7 +29,7 @@ pub struct Node {
 }
 
 impl Node {
-    fn is_quantifier(&self) -> bool {
+    pub fn is_quantifier(&self) -> bool {
         self.kind() == ALL || self.kind() == SOME
     }
 

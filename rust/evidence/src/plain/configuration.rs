@@ -1,7 +1,7 @@
 //! The sets and the ports in test, as the walks read them.
 use crate::calls::Move;
 
-const MOST_SETS: usize = 16;
+pub const MOST_SETS: usize = 16;
 
 #[derive(Clone, Copy)]
 pub struct Configuration {

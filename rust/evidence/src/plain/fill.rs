@@ -194,7 +194,7 @@ const BITS: [u32; 32] = {
 };
 
 /// A row of a membership literal by the innermost variable; the two halves of the mask apart, so that it is done by vectors.
-fn member_row(mask: u64, inside: u32, own: &mut [u32]) {
+pub fn member_row(mask: u64, inside: u32, own: &mut [u32]) {
     let halves = [mask as u32, (mask >> 32) as u32];
     for (half, part) in halves.into_iter().zip(own.chunks_mut(32)) {
         part.iter_mut().zip(BITS).for_each(|(o, bit)| *o = u32::from(half & bit == 0) ^ inside);

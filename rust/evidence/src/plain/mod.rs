@@ -9,6 +9,7 @@ mod check;
 mod configuration;
 mod definition;
 mod fill;
+mod improve;
 mod links;
 mod literal;
 mod parse;
@@ -22,9 +23,11 @@ mod walk;
 use crate::calls::{Improved, Loaded, Move, Numbers, Test};
 pub use read::read;
 
-use change::{candidates, Change};
+use change::Change;
 use check::Tables;
 use configuration::Configuration;
+pub use improve::Way;
+use improve::{each_root, quicker};
 use links::link;
 use store::{Counts, Reads, Store, Writes};
 use walk::Walk;
@@ -143,31 +146,67 @@ fn counted(tables: &Tables, masks: &[u64], change: &Change, cells: &[u32]) -> us
     walked(tables, &Configuration::of(masks, tables.n), change, Counts { cells, touched: 0 }).1.touched
 }
 
-/// The first of the best candidates in the order kind, S, T, p, q, made if it leaves a smaller root than now.
-pub fn improve(table: &[u8], masks: &mut [u64], cells: &mut [u32], scratch: &[u32], kinds: u32) -> Result<Improved, u32> {
-    let mut tables = open(table, masks, cells.len().min(scratch.len()))?;
+/// The tables of a call that goes through the moves of some kinds: grounds 11 to 14.
+fn open_kinds(table: &[u8], masks: &[u64], shortest: usize, kinds: u32) -> Result<Tables, u32> {
+    let tables = open(table, masks, shortest)?;
     if kinds == 0 || kinds > 15 {
         return Err(14);
     }
+    Ok(tables)
+}
+
+/// The first of the best candidates in the order kind, S, T, p, q, made if it leaves a smaller root than now.
+pub fn improve(table: &[u8], masks: &mut [u64], cells: &mut [u32], scratch: &[u32], kinds: u32) -> Result<Improved, u32> {
+    let tables = open_kinds(table, masks, cells.len().min(scratch.len()), kinds)?;
+    let way = quicker(&tables, masks, kinds);
+    Ok(improve_by(tables, masks, cells, kinds, way))
+}
+
+/// Improve in a given way, so that the two can be compared.
+pub fn improve_in(way: Way, table: &[u8], masks: &mut [u64], cells: &mut [u32], scratch: &[u32], kinds: u32) -> Result<Improved, u32> {
+    let tables = open_kinds(table, masks, cells.len().min(scratch.len()), kinds)?;
+    Ok(improve_by(tables, masks, cells, kinds, way))
+}
+
+/// Every candidate in the order kind, S, T, p, q, with the root that it would leave.
+pub fn roots(way: Way, table: &[u8], masks: &[u64], cells: &[u32], kinds: u32) -> Result<Vec<(Move, u32)>, u32> {
+    let mut tables = open_kinds(table, masks, cells.len(), kinds)?;
+    let mut all = Vec::new();
+    each_root(&mut tables, masks, cells, kinds, way, |m, left| all.push((m, left)));
+    Ok(all)
+}
+
+fn improve_by(mut tables: Tables, masks: &mut [u64], cells: &mut [u32], kinds: u32, way: Way) -> Improved {
     let root = cells[0];
     let (mut least, mut chosen) = (root, None);
-    // Candidates of the same sets touch the same nodes.
-    let mut word = 0;
-    candidates(kinds, tables.u, tables.n, masks, |m| {
-        let change = Change::by(&m);
-        if change.word != word {
-            word = change.word;
-            link(&mut tables.nodes, word, 0);
-        }
-        let left = walked(&tables, &Configuration::after(masks, tables.n, &m), &change, Reads(cells)).0.after;
+    each_root(&mut tables, masks, cells, kinds, way, |m, left| {
         if left < least {
             (least, chosen) = (left, Some(m));
         }
     });
     let Some(m) = chosen else {
-        return Ok(Improved::NoBetter(root));
+        return Improved::NoBetter(root);
     };
     let change = Change::by(&m);
     link(&mut tables.nodes, change.word, 0);
-    Ok(Improved::Made(m, make(&tables, &change, masks, cells, &m)))
+    Improved::Made(m, make(&tables, &change, masks, cells, &m))
+}
+
+/// Every candidate that leaves the least root, in the same order, even if that root is not smaller than now; 16 where the list has
+/// no room for them.
+pub fn best_moves(table: &[u8], masks: &[u64], cells: &[u32], scratch: &[u32], kinds: u32, list: &mut [Move]) -> Result<usize, u32> {
+    let mut tables = open_kinds(table, masks, cells.len().min(scratch.len()), kinds)?;
+    let way = quicker(&tables, masks, kinds);
+    let (mut least, mut best) = (u32::MAX, Vec::new());
+    each_root(&mut tables, masks, cells, kinds, way, |m, left| {
+        if left < least {
+            least = left;
+            best.clear();
+        }
+        if left == least {
+            best.push(m);
+        }
+    });
+    list.get_mut(..best.len()).ok_or(16u32)?.copy_from_slice(&best);
+    Ok(best.len())
 }
