@@ -2,7 +2,7 @@
 //! touch the same cells; and what of this a plan has.
 use crate::random::{Random, Text};
 use crate::second::formula::RELATIONS;
-use crate::second::plan::{Plan, ALL, AND, IN, NOT_IN, OR, ROOT, SIZE, SOME};
+use crate::second::plan::{Node, Plan, ALL, AND, IN, NOT_IN, OR, ROOT, SIZE, SOME};
 
 struct Clauses<'a> {
     r: &'a mut Random,
@@ -114,38 +114,56 @@ impl Clauses<'_> {
 
 /// The trees above which stand only the root, "and" and for all.
 fn atoms(plan: &Plan) -> Vec<usize> {
-    let above =
-        |node: usize| std::iter::successors(Some(node), |i| Some(usize::from(plan.nodes[*i].parent)).filter(|i| *i < plan.nodes.len()));
+    let parent = |node: &usize| Some(usize::from(plan.nodes[*node].parent)).filter(|above| *above < plan.nodes.len());
+    let above = |node: usize| std::iter::successors(parent(&node), parent);
     let sum = |node: usize| [ROOT, AND, ALL].contains(&plan.nodes[node].kind);
-    (0..plan.nodes.len()).filter(|node| !sum(*node) && above(*node).skip(1).all(sum)).collect()
+    (0..plan.nodes.len()).filter(|node| !sum(*node) && above(*node).all(sum)).collect()
 }
 
-/// What of improve's cases a plan has.
+/// What improve, where candidates share work, can get wrong in a plan.
+pub const CASES: [&str; 12] = [
+    "two sets in one atom by one variable",
+    "two sets in one atom by two variables",
+    "one set in one atom by two variables",
+    "one set by a variable above the atom and one in it",
+    "a size beside members of the same set",
+    "a minimum under for all",
+    "an exists within an atom",
+    "a for all within an atom",
+    "an atom that is an exists",
+    "an atom that is a literal",
+    "u 1",
+    "u 64",
+];
+
+/// Those of them that a plan has.
 pub fn cases(plan: &Plan) -> Vec<&'static str> {
-    let mut all = Vec::new();
+    let mut met = [false; CASES.len()];
     for atom in atoms(plan) {
-        let below = &plan.nodes[atom..usize::from(plan.nodes[atom].end)];
-        let depth = plan.depth(atom);
-        let literals = || below.iter().filter(|n| [IN, NOT_IN].contains(&n.kind));
-        let two = |fits: &dyn Fn(u8, u8, u8, u8) -> bool| literals().any(|f| literals().any(|g| fits(f.a, f.b, g.a, g.b)));
-        let above = |variable: u8| usize::from(variable) < depth;
-        let met = [
-            ("two sets in one atom by one variable", two(&|v, s, w, t| v == w && above(v) && s != t)),
-            ("two sets in one atom by two variables", two(&|v, s, w, t| v != w && above(v) && above(w) && s != t)),
-            ("one set in one atom by two variables", two(&|v, s, w, t| v != w && above(v) && above(w) && s == t)),
-            ("one set by a variable above the atom and one in it", two(&|v, s, w, t| above(v) && !above(w) && s == t)),
-            ("a size beside members of the same set", below.iter().any(|n| n.kind == SIZE && literals().any(|f| f.b == n.a))),
-            ("a minimum under for all", depth > 0 && [OR, SOME].contains(&below[0].kind)),
-            ("an exists within an atom", below[1..].iter().any(|n| n.kind == SOME)),
-            ("a for all within an atom", below.iter().any(|n| n.kind == ALL)),
-            ("an atom that is an exists", below[0].kind == SOME),
-            ("an atom that is a literal", below.len() == 1),
-        ];
-        all.extend(met.iter().filter(|(_, holds)| *holds).map(|(case, _)| *case));
+        met.iter_mut().zip(of_atom(plan, atom)).for_each(|(met, holds)| *met |= holds);
     }
-    all.extend((plan.u == 1).then_some("u 1"));
-    all.extend((plan.u == 64).then_some("u 64"));
-    all.sort_unstable();
-    all.dedup();
-    all
+    [met[10], met[11]] = [plan.u == 1, plan.u == 64];
+    CASES.into_iter().zip(met).filter(|(_, met)| *met).map(|(case, _)| case).collect()
+}
+
+/// Those of the first ten that an atom has.
+fn of_atom(plan: &Plan, atom: usize) -> [bool; 10] {
+    let below = &plan.nodes[atom..usize::from(plan.nodes[atom].end)];
+    let depth = plan.depth(atom);
+    let above = |n: &Node| usize::from(n.a) < depth;
+    let members = || below.iter().filter(|n| [IN, NOT_IN].contains(&n.kind));
+    let two = |fits: &dyn Fn(&Node, &Node) -> bool| members().any(|f| members().any(|g| fits(f, g)));
+    let both_above = |f: &Node, g: &Node| above(f) && above(g);
+    [
+        two(&|f, g| both_above(f, g) && f.a == g.a && f.b != g.b),
+        two(&|f, g| both_above(f, g) && f.a != g.a && f.b != g.b),
+        two(&|f, g| both_above(f, g) && f.a != g.a && f.b == g.b),
+        two(&|f, g| above(f) && !above(g) && f.b == g.b),
+        below.iter().any(|n| n.kind == SIZE && members().any(|f| f.b == n.a)),
+        depth > 0 && [OR, SOME].contains(&below[0].kind),
+        below[1..].iter().any(|n| n.kind == SOME),
+        below.iter().any(|n| n.kind == ALL),
+        below[0].kind == SOME,
+        below.len() == 1,
+    ]
 }

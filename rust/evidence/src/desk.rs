@@ -1,5 +1,6 @@
 //! The tables of a list of calls, and what is asked of them: moves, scratch, damage done to them.
 use crate::calls::{Journal, Move};
+use crate::clauses::clauses;
 use crate::forest::damage_plan;
 use crate::journals;
 use crate::random::{damage_table, masks as random_masks, put_outside, spare, text, too_few_masks, twin, Random};
@@ -28,6 +29,9 @@ pub struct Desk {
 pub const MOST_CELLS: usize = 600;
 pub const MOST_LARGE: usize = 20_000;
 
+/// How many of a hundred plans are clauses over few sets, in which the parts of a transfer or a swap touch the same cells.
+const CLAUSES: usize = 25;
+
 /// How many of a hundred plans have two sets that occur alike.
 const TWINS: usize = 40;
 
@@ -43,7 +47,7 @@ impl Desk {
 pub fn desk(r: &mut Random, sizes: std::ops::RangeInclusive<usize>) -> Desk {
     let least = r.below(5).saturating_sub(1);
     loop {
-        let mut made = text(r);
+        let mut made = if r.chance(CLAUSES) { clauses(r) } else { text(r) };
         let twins = if r.chance(TWINS) { twin(&mut made, r) } else { None };
         if twins.is_some() && r.chance(50) {
             spare(&mut made);
@@ -90,7 +94,8 @@ pub fn any_move(plan: &Plan, masks: &[u64], r: &mut Random) -> Move {
             return m;
         }
     }
-    let field = |r: &mut Random, most: usize| if r.chance(3) { r.word() as u32 } else { r.below(most + 1) as u32 };
+    let past = usize::from(r.chance(50));
+    let field = |r: &mut Random, most: usize| if r.chance(3) { r.word() as u32 } else { r.below(most + past) as u32 };
     let kind = field(r, 5);
     let t = if kind == 3 || r.chance(5) { field(r, plan.n) } else { 0 };
     let q = if kind == 4 || r.chance(5) { field(r, plan.u) } else { 0 };

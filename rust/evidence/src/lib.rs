@@ -2,8 +2,8 @@
 //!
 //! `second` and `plain` do not use the binding and share no code; `calls` has the records in which all three answer. `compare` and
 //! `lists` compare the archive with `second`, call by call and in lists of calls; `reading` and `writing` are texts in the first,
-//! `best` is the list of best moves in both, and `in_test` a port put in test. `random`, `deep` and `forest` make what they are given,
-//! `desk` and `journals` what a list is.
+//! `best` is the list of best moves in both, and `in_test` a port put in test. `improving` compares improve of all three. `random`,
+//! `deep`, `forest` and `clauses` make what they are given, `desk` and `journals` what a list is.
 //! `damage` and `list_damage` see to it that a wrong bit is reported. `bench` measures the archive beside `plain`, and `stack` how much
 //! stack each call takes.
 pub mod archive;

@@ -5,6 +5,7 @@
 //! Definition 5; `tests/lists.rs` puts mistakes there, and `list_damage` damages what a call leaves: each must be reported.
 use crate::best::{compare_best, wanted_ties, Given};
 use crate::calls::{Calls, Improved, Journal, Move, Numbers, Test};
+use crate::clauses::{cases, CASES};
 use crate::counts::Counts;
 use crate::desk::{any_move, damaged, desk, lend_foreign, lend_scratch, with_foreign_journal, Desk, MOST_CELLS, MOST_LARGE};
 use crate::in_test::{self, any_test, compare_test, wanted_tests};
@@ -168,6 +169,9 @@ fn one_improve(calls: &dyn Calls, d: &mut Desk, kinds: u32, counts: &mut Counts)
     same(&format!("improve's answer of kinds {kinds}"), &answer, &expected)?;
     compare_scratch(d, &book.scratch, expected.is_ok())?;
     counts.met(format!("improve{}: {outcome}", d.over));
+    if expected.is_ok() && d.over.is_empty() {
+        cases(&d.plan).iter().for_each(|case| counts.met(format!("improve over a plan with {case}, from {}", from(d))));
+    }
     count_scratch(d, counts);
     compare_tables(d, &book)
 }
@@ -371,6 +375,10 @@ pub fn missed(counts: &Counts) -> Vec<String> {
     wanted.extend((0..=3).map(|depth| (format!("lists of depth {depth}"), 5)));
     wanted.push((format!("lists of {LONG} calls"), 1));
     wanted.extend(["move", "trial"].map(|call| (format!("{call} over damaged tables: accepted"), 20)));
+    // Moves over 64 ports are too many for the second evaluator; `improving` meets them.
+    let improved = CASES.into_iter().filter(|case| *case != "u 64");
+    let from = |case: &str| ["a load", "foreign cells"].map(|from| (format!("improve over a plan with {case}, from {from}"), 10));
+    wanted.extend(improved.flat_map(from));
     wanted.extend(wanted_ties());
     wanted.extend(wanted_journals());
     wanted.extend(wanted_tests("", &[14, 20]));

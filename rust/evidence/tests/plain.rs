@@ -2,7 +2,10 @@
 use evidence::archive::{load, load_fields, read, read_fields, Archive};
 use evidence::bench::plans::{opposite, plans};
 use evidence::calls::{Calls, Journal, Loaded, Move, Test};
+use evidence::counts::Counts;
+use evidence::improving;
 use evidence::in_test::any_test;
+use evidence::plain::Way;
 use evidence::random::{any_text, damage_table, masks as random_masks, text, Random};
 use evidence::second::in_test::resized;
 use evidence::second::plan::Plan;
@@ -105,6 +108,8 @@ fn measured_plans() {
                 both.are_penalties();
             }
             both.improve(2);
+            let roots = |way| plain::roots(way, &both.table, &both.masks[1], &both.cells[1], 15).expect(plan.name);
+            assert!(roots(Way::Walks) == roots(Way::Shared), "roots of {} differ", plan.name);
         }
     });
 }
@@ -154,6 +159,20 @@ fn one_plan(r: &mut Random) {
 #[test]
 fn random_plans() {
     with_stack(|| (1..=8_000).for_each(|seed| one_plan(&mut Random::new(seed))));
+}
+
+/// Improve in both ways and the list of best moves, over plans in which the parts of a move meet.
+#[test]
+fn improves() {
+    let counts = with_stack(|| {
+        let mut counts = Counts::default();
+        for seed in 1..=3_000 {
+            let compared = improving::one_plan(&mut Random::new(seed), &mut counts);
+            assert_eq!(compared, Ok(()), "seed {seed}");
+        }
+        counts
+    });
+    assert_eq!(improving::missed(&counts), Vec::<String>::new());
 }
 
 /// Sound texts and damaged ones, with room enough or too little.

@@ -115,7 +115,7 @@ fn improves_fail(plans: u64, seed: u64) -> bool {
         }
     }
     print(&counts);
-    println!("{} improves: no difference", counts.of("improves"));
+    println!("{} improves over {} plans: no difference", counts.of("improves"), counts.of("plans"));
     too_seldom(&improving::missed(&counts))
 }
 

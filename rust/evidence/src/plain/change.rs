@@ -101,3 +101,16 @@ pub fn candidates(kinds: u32, u: usize, n: usize, masks: &[u64], mut each: impl 
         }
     }
 }
+
+/// How many candidates there are.
+pub fn count_candidates(kinds: u32, u: usize, n: usize, masks: &[u64]) -> usize {
+    let count = |mask: u64| mask.count_ones() as usize;
+    let of_kind = |kind: u32, s: u64| match kind {
+        1 => u - count(s),
+        2 => count(s),
+        3 => masks[..n].iter().map(|t| count(s & !t)).sum(),
+        _ => count(s) * (u - count(s)),
+    };
+    let asked = (1..=4).filter(|kind| kinds >> (kind - 1) & 1 == 1);
+    asked.map(|kind| masks[..n].iter().map(|s| of_kind(kind, *s)).sum::<usize>()).sum()
+}

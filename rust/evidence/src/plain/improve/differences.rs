@@ -1,7 +1,8 @@
 //! What moves bring to the root, summed over all atoms by set and port. A move then costs a few reads.
-use super::atom::{atoms, Atom, BothPorts, Brought};
+use super::atom::{atoms, Atom, Brought};
+use super::both_ports::BothPorts;
 use super::flips::{members, size, Flips, Sizes};
-use super::rows::Row;
+use super::rows::{total, Row};
 use super::under::Present;
 use crate::calls::Move;
 use crate::plain::change::ports;
@@ -181,7 +182,7 @@ impl<'a> Differences<'a> {
         let more = counts(q) - counts(p);
         let Swaps { by_sizes, by_port } = &self.swaps[(more + 1) as usize];
         let parts = by_sizes[s].wrapping_add(by_port[s][p]).wrapping_add(by_port[s][q]);
-        self.beyond[s].iter().fold(parts, |sum, atom| sum.wrapping_add(self.beyond_parts(*atom, s, [p, q], more)))
+        parts.wrapping_add(total(self.beyond[s].iter().map(|atom| self.beyond_parts(*atom, s, [p, q], more))))
     }
 
     /// What a swap brings to an atom beyond its parts.

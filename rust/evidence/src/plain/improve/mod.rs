@@ -1,12 +1,14 @@
 //! Improve and the list of best moves. Candidates share what their parts bring to each atom of the formula; where there are few of
 //! them, each is walked.
+mod all_ports;
 mod atom;
+mod both_ports;
 mod differences;
 mod flips;
 mod rows;
 mod under;
 
-use super::change::{candidates, Change};
+use super::change::{candidates, count_candidates, Change};
 use super::check::Tables;
 use super::configuration::Configuration;
 use super::links::link;
@@ -23,11 +25,15 @@ pub enum Way {
     Shared,
 }
 
-/// The way that takes less time, by the number of candidates: shared work does not grow with it.
+/// So many candidates a set are few.
+const FEW: usize = 8;
+/// A plan of fewer cells is small.
+const SMALL: usize = 4096;
+
+/// The way that takes less time. Few candidates have little in common, and a walk costs little where no sum is deep or the plan is small.
 pub fn quicker(tables: &Tables, masks: &[u64], kinds: u32) -> Way {
-    let mut count = 0;
-    candidates(kinds, tables.u, tables.n, masks, |_| count += 1);
-    if count < 16 {
+    let cheap = !tables.deep_sums || tables.cells < SMALL;
+    if cheap && count_candidates(kinds, tables.u, tables.n, masks) < FEW * tables.n {
         Way::Walks
     } else {
         Way::Shared

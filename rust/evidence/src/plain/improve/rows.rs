@@ -12,6 +12,11 @@ pub type Row = [u32; 64];
 /// The most ports of a move: so many are done one by one.
 const FEW: u32 = 2;
 
+/// A sum modulo 2^32.
+pub fn total(parts: impl Iterator<Item = u32>) -> u32 {
+    parts.fold(0, u32::wrapping_add)
+}
+
 /// Adds new minus old, port by port.
 pub fn add_differences(into: &mut [u32], new: &[u32], old: &[u32]) {
     for ((sum, n), o) in into.iter_mut().zip(new).zip(old) {
@@ -20,7 +25,7 @@ pub fn add_differences(into: &mut [u32], new: &[u32], old: &[u32]) {
 }
 
 pub fn sum_of_differences(new: &[u32], old: &[u32]) -> u32 {
-    new.iter().zip(old).fold(0, |sum, (n, o)| sum.wrapping_add(n.wrapping_sub(*o)))
+    total(new.iter().zip(old).map(|(n, o)| n.wrapping_sub(*o)))
 }
 
 fn least_into(into: &mut [u32], cells: &[u32]) {
@@ -95,7 +100,7 @@ impl Under<'_> {
         }
     }
 
-    /// Joins those children of a minimum that a wider word touches to the others, which `out` has already.
+    /// Joins those children of a minimum that a wider word touches to the others, whose least `out` is already.
     pub fn join_touched(&self, k: usize, wider: u64, row: At, out: &mut [u32]) {
         // Below 0 there is nothing.
         if out.iter().any(|c| *c != 0) {

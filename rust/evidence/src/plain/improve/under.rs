@@ -1,5 +1,6 @@
 //! The new numbers of touched cells under flips, one cell at a time. Nothing is written or counted.
 use super::flips::Flips;
+use super::rows::total;
 use crate::plain::check::{Node, ALL, AND, IN, OR, SIZE, SOME};
 use crate::plain::configuration::Configuration;
 use crate::plain::literal::{digit, member, size_penalty, with_digit};
@@ -88,7 +89,7 @@ impl Under<'_> {
 
     fn sum_of_children(&self, k: usize, at: At) -> u32 {
         let touched = self.present.children(k).filter(|c| self.touched(*c, at.word));
-        touched.fold(self.present.cell(k, at.place), |sum, c| sum.wrapping_add(self.difference(c, at)))
+        self.present.cell(k, at.place).wrapping_add(total(touched.map(|c| self.difference(c, at))))
     }
 
     /// The children that are not touched cost a read, and below 0 there is nothing.
@@ -100,18 +101,13 @@ impl Under<'_> {
         renewed.try_fold(least, |least, c| if least > 0 { Ok(least.min(self.cell(c, at))) } else { Err(0) }).unwrap_or(0)
     }
 
-    /// Where a cell of a quantifier's child stands at a port that flips.
-    pub fn at_port(row: At, depth: u8, port: usize) -> At {
-        At { place: row.place + port, digits: with_digit(row.digits, depth, port), ..row }
-    }
-
     fn sum_of_ports(&self, k: usize, at: At) -> u32 {
         let (u, depth, old) = (self.present.u, self.present.nodes[k].depth, self.present.cell(k, at.place));
         let row = At { place: at.place * u, ..at };
         if self.touched(k, self.flips.rest(at.word, depth)) {
             return old.wrapping_add(self.row_difference(k + 1, row));
         }
-        self.flips.each_port().fold(old, |sum, p| sum.wrapping_add(self.difference(k + 1, Self::at_port(row, depth, p))))
+        old.wrapping_add(total(self.flips.each_port().map(|p| self.difference(k + 1, at_port(row, depth, p)))))
     }
 
     fn least_of_ports(&self, k: usize, at: At) -> u32 {
@@ -122,8 +118,13 @@ impl Under<'_> {
             self.row(k + 1, row, &mut own[..u]);
         } else {
             own[..u].copy_from_slice(self.present.row(k + 1, row.place));
-            self.flips.each_port().for_each(|p| own[p] = self.cell(k + 1, Self::at_port(row, depth, p)));
+            self.flips.each_port().for_each(|p| own[p] = self.cell(k + 1, at_port(row, depth, p)));
         }
         least_of(&own[..u])
     }
+}
+
+/// Where a cell of a quantifier's child stands at a port that flips.
+fn at_port(row: At, depth: u8, port: usize) -> At {
+    At { place: row.place + port, digits: with_digit(row.digits, depth, port), ..row }
 }
