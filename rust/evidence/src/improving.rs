@@ -107,7 +107,7 @@ fn each_root(g: &Given, kinds: u32) -> Compared<usize> {
     let mut scratch = vec![0; g.cells.len()];
     let roots = |way| plain::roots(way, &g.table, &g.masks, &g.cells, kinds).expect("sound tables");
     let (walked, shared) = (roots(Way::Walks), roots(Way::Shared));
-    same_table("roots by shares and by walks", &shared, &walked)?;
+    same_table("roots with shared work, beside those by walks", &shared, &walked)?;
     for (m, left) in &shared {
         let tried = Archive.trial(&g.table, &g.masks, &g.cells, &mut scratch, m).map(|numbers| numbers.after);
         same(&format!("root after {m:?}"), &Ok(*left), &tried)?;

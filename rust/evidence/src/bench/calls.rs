@@ -280,15 +280,15 @@ pub fn improve_ways(state: &State) -> Vec<Ways> {
 
 fn ways_of(state: &State, kinds: u32, name: &'static str) -> Ways {
     let in_way = |way: Way| move |s: &mut State| plain::improve_in(way, &s.table, &mut s.masks, &mut s.cells, &s.scratch, kinds);
-    let (mut by_walks, mut by_shares) = (in_way(Way::Walks), in_way(Way::Shared));
+    let (mut by_walks, mut by_differences) = (in_way(Way::Walks), in_way(Way::Shared));
     let mut by_choice = |s: &mut State| plain::improve(&s.table, &mut s.masks, &mut s.cells, &s.scratch, kinds);
     let [mut a, mut b, mut c] = [state.clone(), state.clone(), state.clone()];
-    assert_eq!(by_walks(&mut a), by_shares(&mut b));
+    assert_eq!(by_walks(&mut a), by_differences(&mut b));
     a.same(&b);
     let roots = plain::roots(Way::Shared, &state.table, &state.masks, &state.cells, kinds).expect("the tables are sound");
     [a, b] = [state.clone(), state.clone()];
     let mut walks = |times| improved(&mut a, times, &mut by_walks);
-    let mut shared = |times| improved(&mut b, times, &mut by_shares);
+    let mut shared = |times| improved(&mut b, times, &mut by_differences);
     let mut chosen = |times| improved(&mut c, times, &mut by_choice);
     let [walks, shared, chosen] = medians([&mut walks, &mut shared, &mut chosen]);
     Ways { kinds: name, candidates: roots.len(), walks, shared, chosen }

@@ -2,8 +2,8 @@
 //!
 //! It takes the plan table, masks and cells as the archive does and answers the same numbers; it keeps no journal. It uses neither the
 //! binding nor the second evaluator. The shape: one pass over the plan table gives each node its first cell and its end,
-//! and one back over the nodes what it uses; a change then visits the touched cells only, by links over what is not touched, and where every port below a quantifier
-//! is touched its cells are done as one row. Improve does not walk each candidate, but shares work among them (`improve`).
+//! and one back over the nodes what it uses; a change then visits the touched cells only, by links over what is not touched, and where
+//! every port below a quantifier is touched its cells are done as one row. Improve shares work among candidates.
 mod change;
 mod check;
 mod configuration;

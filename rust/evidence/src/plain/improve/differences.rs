@@ -39,6 +39,7 @@ pub struct Differences<'a> {
     one: [Row; MOST_SETS],
     /// What a transfer from a set to another brings beyond a drop and an add.
     two: Vec<Row>,
+    /// What the two parts of a swap bring, for each change of the set's size.
     swaps: Vec<Swaps>,
     /// The atoms in which a swap of a set brings more than its parts, or which have no parts of it.
     beyond: Vec<Vec<Atom>>,

@@ -44,7 +44,7 @@ pub fn quicker(tables: &Tables, masks: &[u64], kinds: u32) -> Way {
 pub fn each_root(tables: &mut Tables, masks: &[u64], cells: &[u32], kinds: u32, way: Way, each: impl FnMut(Move, u32)) {
     match way {
         Way::Walks => by_walks(tables, masks, cells, kinds, each),
-        Way::Shared => by_shares(tables, masks, cells, kinds, each),
+        Way::Shared => by_differences(tables, masks, cells, kinds, each),
     }
 }
 
@@ -61,7 +61,7 @@ fn by_walks(tables: &mut Tables, masks: &[u64], cells: &[u32], kinds: u32, mut e
     });
 }
 
-fn by_shares(tables: &Tables, masks: &[u64], cells: &[u32], kinds: u32, mut each: impl FnMut(Move, u32)) {
+fn by_differences(tables: &Tables, masks: &[u64], cells: &[u32], kinds: u32, mut each: impl FnMut(Move, u32)) {
     let sets = Configuration::of(masks, tables.n);
     let present = Present { nodes: &tables.nodes, u: tables.u, cells, sets: &sets };
     let differences = Differences::of(present, tables.n, kinds);
