@@ -79,6 +79,12 @@ impl Both {
         assert!(now == self.cells[1], "cells after a call are penalties");
     }
 
+    /// The plain engine finds the same root after every candidate in both ways.
+    fn same_roots(&self, name: &str) {
+        let roots = |way| plain::roots(way, &self.table, &self.masks[1], &self.cells[1], 15).expect(name);
+        assert!(roots(Way::Walks) == roots(Way::Shared), "roots of {name} differ");
+    }
+
     fn improve(&mut self, kinds: u32) {
         let answer = Archive.improve(&self.table, &mut self.masks[0], &mut self.cells[0], &mut self.scratch, &mut self.journal, kinds);
         let plain = plain::improve(&self.table, &mut self.masks[1], &mut self.cells[1], &self.scratch, kinds);
@@ -108,8 +114,12 @@ fn measured_plans() {
                 both.are_penalties();
             }
             both.improve(2);
-            let roots = |way| plain::roots(way, &both.table, &both.masks[1], &both.cells[1], 15).expect(plan.name);
-            assert!(roots(Way::Walks) == roots(Way::Shared), "roots of {} differ", plan.name);
+            both.same_roots(plan.name);
+            // Random plans of many ports are not deep: these are, and have any cells and ports in test here.
+            let r = &mut Random::new(plan.u);
+            both.cells[1].iter_mut().for_each(|c| *c = if r.chance(50) { r.word() as u32 } else { *c });
+            *both.masks[1].last_mut().expect("ports in test") = 0x0F0F_0F0F_0F0F_0F0F & u64::MAX >> (64 - plan.u);
+            both.same_roots(plan.name);
         }
     });
 }
