@@ -12,6 +12,7 @@ pub const SIZE: u8 = 8;
 
 pub const HEADER: usize = 9;
 pub const RECORD: usize = 8;
+pub const MOST_NODES: usize = 512;
 const MOST_CELLS: usize = 1 << 20;
 
 #[derive(Clone, Copy)]
@@ -85,7 +86,7 @@ fn header(table: &[u8]) -> Option<(usize, usize, usize)> {
         return None;
     }
     let (u, n, count) = (usize::from(table[5]), usize::from(table[6]), usize::from(word(table, 7)));
-    let sound = (1..=64).contains(&u) && (1..=16).contains(&n) && (2..=512).contains(&count);
+    let sound = (1..=64).contains(&u) && (1..=16).contains(&n) && (2..=MOST_NODES).contains(&count);
     (sound && table.len() >= HEADER + RECORD * count).then_some((u, n, count))
 }
 
@@ -137,20 +138,6 @@ fn own_uses(node: &Node, i: usize, n: u8, above: u8, first_end: usize) -> Option
     }
 }
 
-/// Hands uses up from every inner node; literals have done so. Says whether there are deep sums.
-fn gather(nodes: &mut [Node]) -> bool {
-    let mut deep_sums = false;
-    for i in (1..nodes.len()).rev() {
-        let Node { uses, depth, .. } = nodes[i];
-        let (kind, parent) = (nodes[i].kind(), nodes[i].parent());
-        if kind < IN {
-            nodes[parent].uses |= uses;
-            deep_sums |= kind == AND && depth >= 2;
-        }
-    }
-    deep_sums
-}
-
 impl Tables {
     /// `None` where the table breaks a rule or is cut short.
     pub fn of(table: &[u8]) -> Option<Tables> {
@@ -165,8 +152,20 @@ impl Tables {
             cells += powers[usize::from(node.depth)];
             nodes.push(node);
         }
-        let deep_sums = gather(&mut nodes);
         // A node stands as the next child of a parent that has not ended, so that no child is missing in the end.
-        (cells <= MOST_CELLS).then_some(Tables { u, n, cells, nodes, deep_sums })
+        (cells <= MOST_CELLS).then_some(Tables { u, n, cells, nodes, deep_sums: false })
+    }
+
+    /// Hands uses up from every inner node, as literals have done, and looks for deep sums: what a change asks for, and a load does not.
+    pub fn gather(&mut self) {
+        let nodes = &mut self.nodes;
+        for i in (1..nodes.len()).rev() {
+            let Node { uses, depth, .. } = nodes[i];
+            let (kind, parent) = (nodes[i].kind(), nodes[i].parent());
+            if kind < IN {
+                nodes[parent].uses |= uses;
+                self.deep_sums |= kind == AND && depth >= 2;
+            }
+        }
     }
 }

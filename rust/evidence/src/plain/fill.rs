@@ -1,5 +1,5 @@
 //! Every cell of a plan from scratch (Definition 5), children first, all cells of a node or of a part of it at once.
-use super::check::{Node, Tables, ALL, AND, COMPARE, IN, NOT_IN, OR, ROOT, SOME};
+use super::check::{Node, Tables, ALL, AND, COMPARE, IN, MOST_NODES, NOT_IN, OR, ROOT, SOME};
 use super::configuration::Configuration;
 use super::literal::{digit, penalty, related, with_digit};
 
@@ -18,26 +18,60 @@ struct Filler<'a> {
     tables: &'a Tables,
     of: &'a Configuration,
     powers: [usize; 4],
+    same: [u16; MOST_NODES],
+}
+
+/// For each literal the next one behind it that says the same under as many quantifiers, or 0. It has the same cells, and is filled
+/// sooner; to copy them costs less than to make them.
+fn written_again(nodes: &[Node]) -> [u16; MOST_NODES] {
+    let mut same = [0; MOST_NODES];
+    let mut behind = [0; 1 << 11];
+    for (k, node) in nodes.iter().enumerate().rev() {
+        let said = match node.kind() {
+            IN | NOT_IN => node.kind() + 1,
+            COMPARE => node.relation(),
+            _ => continue,
+        };
+        let place =
+            usize::from(said & 7) << 8 | usize::from(node.b() & 15) << 4 | usize::from(node.a() & 3) << 2 | usize::from(node.depth & 3);
+        same[k] = behind[place];
+        behind[place] = k as u16;
+    }
+    same
 }
 
 pub fn all(tables: &Tables, of: &Configuration, cells: &mut [u32]) {
     let u = tables.u;
-    let filler = Filler { tables, of, powers: [1, u, u * u, u * u * u] };
+    let filler = Filler { tables, of, powers: [1, u, u * u, u * u * u], same: written_again(&tables.nodes) };
     let whole = Prefix { fixed: 0, digits: 0, place: 0 };
-    let mut k = tables.nodes.len();
-    // Behind `done` every cell is filled.
-    let mut done = k;
-    while k > 0 {
-        k -= 1;
-        if tables.nodes[k].depth == 0 {
-            if (k..done).any(|i| filler.length(i, whole) > LARGE) {
+    // Behind `done` every cell is filled; before it, as far as was looked, no node is deeper.
+    let (mut done, mut depth) = (tables.nodes.len(), 0);
+    for (k, node) in tables.nodes.iter().enumerate().rev() {
+        depth = node.depth.max(depth);
+        if node.depth == 0 {
+            if filler.powers[usize::from(depth)] > LARGE {
                 filler.below(k, done, cells);
                 filler.block(k, whole, cells);
             } else {
                 (k..done).rev().for_each(|i| filler.block(i, whole, cells));
             }
-            done = k;
+            (done, depth) = (k, 0);
         }
+    }
+}
+
+/// All cells behind a node's own under a prefix: how many stand before them, and the number of the prefix.
+#[derive(Clone, Copy)]
+struct Behind<'a> {
+    cells: &'a [u32],
+    before: usize,
+    place: usize,
+}
+
+impl<'a> Behind<'a> {
+    /// A node's cells under the prefix, so many.
+    fn row(&self, node: &Node, length: usize) -> &'a [u32] {
+        &self.cells[node.first as usize + self.place * length - self.before..][..length]
     }
 }
 
@@ -56,59 +90,73 @@ impl Filler<'_> {
         self.powers[usize::from(self.tables.nodes[k].depth - prefix.fixed)]
     }
 
-    /// A node's cells under a prefix, with those of its children filled.
+    /// A node's cells under a prefix, with those of all nodes behind it filled.
     fn block(&self, k: usize, prefix: Prefix, cells: &mut [u32]) {
-        let node = &self.tables.nodes[k];
         let length = self.length(k, prefix);
-        // Children stand behind their parent.
-        let (head, tail) = cells.split_at_mut(node.first as usize + self.powers[usize::from(node.depth)]);
-        let own = &mut head[node.first as usize + prefix.place * length..][..length];
-        let child = || self.child(k, k + 1, prefix, tail);
-        match node.kind() {
-            ROOT => own.copy_from_slice(child()),
-            ALL => self.each_row(own, child(), |row| row.iter().fold(0, |sum, c| sum.wrapping_add(*c))),
-            SOME => self.each_row(own, child(), |row| row.iter().fold(row[0], |low, c| least(low, *c))),
-            AND => self.join(k, prefix, own, tail, u32::wrapping_add),
-            // The smaller of 0 and 1 is their bitwise and.
-            OR if self.over_bits(k) => self.join(k, prefix, own, tail, |a, b| a & b),
-            OR => self.join(k, prefix, own, tail, least),
-            IN | NOT_IN => self.membership(node, prefix, own),
-            COMPARE => self.comparison(node, prefix, own),
-            _ => own.fill(penalty(node, self.of, 0)),
+        let start = |k: usize| self.tables.nodes[k].first as usize + prefix.place * length;
+        let same = usize::from(self.same[k]);
+        if same != 0 {
+            return cells.copy_within(start(same)..start(same) + length, start(k));
         }
+        let (head, tail) = cells.split_at_mut(start(k) + length);
+        let behind = Behind { cells: tail, before: head.len(), place: prefix.place };
+        self.made(k, prefix, &mut head[start(k)..], behind);
     }
 
-    /// The cells of a child under a prefix, `tail` being the cells behind its parent's.
-    fn child<'a>(&self, k: usize, child: usize, prefix: Prefix, tail: &'a [u32]) -> &'a [u32] {
-        let (parent, node) = (&self.tables.nodes[k], &self.tables.nodes[child]);
-        let start = node.first as usize - parent.first as usize - self.powers[usize::from(parent.depth)];
-        let length = self.length(child, prefix);
-        &tail[start + prefix.place * length..][..length]
+    /// The same for a node whose cells are not to be copied.
+    #[inline(never)]
+    fn made(&self, k: usize, prefix: Prefix, own: &mut [u32], behind: Behind) {
+        let nodes = &self.tables.nodes;
+        let node = &nodes[k];
+        match node.kind() {
+            ROOT => own.copy_from_slice(behind.row(&nodes[k + 1], 1)),
+            ALL => self.each_row(k, own, behind, |row| row.iter().fold(0, |sum, c| sum.wrapping_add(*c))),
+            SOME => self.each_row(k, own, behind, |row| row.iter().fold(row[0], |low, c| least(low, *c))),
+            AND => self.join(k, own, behind, u32::wrapping_add),
+            // The smaller of 0 and 1 is their bitwise and.
+            OR if self.over_bits(k) => self.join(k, own, behind, |a, b| a & b),
+            OR => self.join(k, own, behind, least),
+            IN | NOT_IN => self.membership(node, prefix, own),
+            COMPARE => self.comparison(node, prefix, own),
+            _ => level(own, penalty(node, self.of, 0)),
+        }
     }
 
     /// A quantifier's cells, each of a row of its child's.
-    fn each_row(&self, own: &mut [u32], child: &[u32], of: impl Fn(&[u32]) -> u32) {
-        own.iter_mut().zip(child.chunks_exact(self.tables.u)).for_each(|(o, row)| *o = of(row));
+    fn each_row(&self, k: usize, own: &mut [u32], behind: Behind, of: impl Fn(&[u32]) -> u32) {
+        let u = self.tables.u;
+        let child = behind.row(&self.tables.nodes[k + 1], own.len() * u);
+        own.iter_mut().zip(child.chunks_exact(u)).for_each(|(o, row)| *o = of(row));
     }
 
-    /// The cells of an and or an or, two children at a time.
-    fn join(&self, k: usize, prefix: Prefix, own: &mut [u32], tail: &[u32], by: impl Fn(u32, u32) -> u32) {
-        let nodes = &self.tables.nodes;
-        let end = nodes[k].end();
-        let second = nodes[k + 1].end();
-        let cells = |c: usize| self.child(k, c, prefix, tail);
-        let firsts = cells(k + 1).iter().zip(cells(second));
-        own.iter_mut().zip(firsts).for_each(|(o, (a, b))| *o = by(*a, *b));
-        let mut c = nodes[second].end();
-        while c < end {
-            let next = nodes[c].end();
-            if next == end {
-                return own.iter_mut().zip(cells(c)).for_each(|(o, a)| *o = by(*o, *a));
-            }
-            let two = cells(c).iter().zip(cells(next));
-            own.iter_mut().zip(two).for_each(|(o, (a, b))| *o = by(*o, by(*a, *b)));
-            c = nodes[next].end();
+    /// The cells of an and or an or, up to four children at a time.
+    fn join(&self, k: usize, own: &mut [u32], behind: Behind, by: impl Fn(u32, u32) -> u32) {
+        let (mut child, end) = (k + 1, self.tables.nodes[k].end());
+        match self.rows(&mut child, end, own.len(), behind) {
+            ([a, b, ..], 2) => put(own, [a, b], &by),
+            ([a, b, c, _], 3) => put(own, [a, b, c], &by),
+            (four, _) => put(own, four, &by),
         }
+        while child < end {
+            match self.rows(&mut child, end, own.len(), behind) {
+                ([a, ..], 1) => add(own, [a], &by),
+                ([a, b, ..], 2) => add(own, [a, b], &by),
+                ([a, b, c, _], 3) => add(own, [a, b, c], &by),
+                (four, _) => add(own, four, &by),
+            }
+        }
+    }
+
+    /// The cells of the next children, at most four, and how many children these are.
+    fn rows<'a>(&self, child: &mut usize, end: usize, length: usize, behind: Behind<'a>) -> ([&'a [u32]; 4], usize) {
+        let (mut rows, mut count) = ([&behind.cells[..0]; 4], 0);
+        while count < 4 && *child < end {
+            let node = &self.tables.nodes[*child];
+            rows[count] = behind.row(node, length);
+            *child = node.end();
+            count += 1;
+        }
+        (rows, count)
     }
 
     /// Whether every child is a literal with a penalty of 0 or 1.
@@ -120,7 +168,7 @@ impl Filler<'_> {
     /// A membership literal. Its cells are those below one tuple of the variables before its own, again and again.
     fn membership(&self, node: &Node, prefix: Prefix, own: &mut [u32]) {
         if node.a() < prefix.fixed {
-            return own.fill(penalty(node, self.of, prefix.digits));
+            return level(own, penalty(node, self.of, prefix.digits));
         }
         let part = self.powers[usize::from(node.depth - node.a())];
         let (mask, inside) = (self.of.sets[usize::from(node.b())], u32::from(node.kind() == NOT_IN));
@@ -139,7 +187,7 @@ impl Filler<'_> {
         while !rest.is_empty() {
             let run = if held { ports.trailing_ones() } else { ports.trailing_zeros() };
             let (filled, others) = rest.split_at_mut((run as usize * each).min(rest.len()));
-            filled.fill(if held { inside } else { 1 - inside });
+            level(filled, if held { inside } else { 1 - inside });
             ports = ports.checked_shr(run).unwrap_or(0);
             (rest, held) = (others, !held);
         }
@@ -149,7 +197,7 @@ impl Filler<'_> {
     fn comparison(&self, node: &Node, prefix: Prefix, own: &mut [u32]) {
         let (outer, inner) = (node.a().min(node.b()), node.a().max(node.b()));
         if node.a() == node.b() || inner < prefix.fixed {
-            return own.fill(penalty(node, self.of, prefix.digits));
+            return level(own, penalty(node, self.of, prefix.digits));
         }
         if outer < prefix.fixed {
             return self.compared(node, digit(prefix.digits, outer), own);
@@ -177,6 +225,18 @@ impl Filler<'_> {
     }
 }
 
+/// Joins rows, cell by cell.
+fn put<const N: usize>(own: &mut [u32], rows: [&[u32]; N], by: impl Fn(u32, u32) -> u32) {
+    let rows = rows.map(|row| &row[..own.len()]);
+    (0..own.len()).for_each(|i| own[i] = rows[1..].iter().fold(rows[0][i], |joined, row| by(joined, row[i])));
+}
+
+/// Joins rows to what stands there.
+fn add<const N: usize>(own: &mut [u32], rows: [&[u32]; N], by: impl Fn(u32, u32) -> u32) {
+    let rows = rows.map(|row| &row[..own.len()]);
+    (0..own.len()).for_each(|i| own[i] = rows.iter().fold(own[i], |joined, row| by(joined, row[i])));
+}
+
 /// The smaller of two penalties. None reaches 2^31 (each of fewer than 2^20 literal cells adds at most 65), so that they may be
 /// compared as signed numbers, which vectors do sooner.
 fn least(a: u32, b: u32) -> u32 {
@@ -199,6 +259,13 @@ pub fn member_row(mask: u64, inside: u32, own: &mut [u32]) {
     for (half, part) in halves.into_iter().zip(own.chunks_mut(32)) {
         part.iter_mut().zip(BITS).for_each(|(o, bit)| *o = u32::from(half & bit == 0) ^ inside);
     }
+}
+
+/// Sets all cells to one penalty, most of them by copies, which the C library makes by wider vectors.
+fn level(own: &mut [u32], penalty: u32) {
+    let first = own.len().min(128);
+    own[..first].fill(penalty);
+    repeat(own, first);
 }
 
 /// Repeats the first cells over all others, twice as many each time.
