@@ -18,7 +18,7 @@ const MOST_CELLS: usize = 1 << 20;
 #[derive(Clone, Copy)]
 pub struct Node {
     /// Four bits a set: bits 0 to 2 the variables by which membership literals at or below the node test it, bit 3 a size literal
-    /// at or below.
+    /// at or below. The check leaves the node's own and its children's, `gather` all.
     pub uses: u64,
     /// As the table has it, from the lowest byte on: kind, relation, a, b, then parent and end of two bytes each.
     record: u64,
@@ -72,7 +72,7 @@ pub struct Tables {
     pub n: usize,
     pub cells: usize,
     pub nodes: Vec<Node>,
-    /// Whether a sum is below two quantifiers or three.
+    /// Whether a sum is below two quantifiers or three; `gather` says so.
     pub deep_sums: bool,
 }
 

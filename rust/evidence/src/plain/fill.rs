@@ -18,33 +18,15 @@ struct Filler<'a> {
     tables: &'a Tables,
     of: &'a Configuration,
     powers: [usize; 4],
+    /// For each node one behind it whose cells are the same, or 0.
     same: [u16; MOST_NODES],
-}
-
-/// For each literal the next one behind it that says the same under as many quantifiers, or 0. It has the same cells, and is filled
-/// sooner; to copy them costs less than to make them.
-fn written_again(nodes: &[Node]) -> [u16; MOST_NODES] {
-    let mut same = [0; MOST_NODES];
-    let mut behind = [0; 1 << 11];
-    for (k, node) in nodes.iter().enumerate().rev() {
-        let said = match node.kind() {
-            IN | NOT_IN => node.kind() + 1,
-            COMPARE => node.relation(),
-            _ => continue,
-        };
-        let place =
-            usize::from(said & 7) << 8 | usize::from(node.b() & 15) << 4 | usize::from(node.a() & 3) << 2 | usize::from(node.depth & 3);
-        same[k] = behind[place];
-        behind[place] = k as u16;
-    }
-    same
 }
 
 pub fn all(tables: &Tables, of: &Configuration, cells: &mut [u32]) {
     let u = tables.u;
     let filler = Filler { tables, of, powers: [1, u, u * u, u * u * u], same: written_again(&tables.nodes) };
     let whole = Prefix { fixed: 0, digits: 0, place: 0 };
-    // Behind `done` every cell is filled; before it, as far as was looked, no node is deeper.
+    // From `done` on every cell is filled; no node met before it is deeper than `depth`.
     let (mut done, mut depth) = (tables.nodes.len(), 0);
     for (k, node) in tables.nodes.iter().enumerate().rev() {
         depth = node.depth.max(depth);
@@ -60,7 +42,28 @@ pub fn all(tables: &Tables, of: &Configuration, cells: &mut [u32]) {
     }
 }
 
-/// All cells behind a node's own under a prefix: how many stand before them, and the number of the prefix.
+/// For each literal the next one behind it that says the same under as many quantifiers, or 0. It has the same cells, filled before:
+/// to copy them costs less than to make them.
+fn written_again(nodes: &[Node]) -> [u16; MOST_NODES] {
+    let mut same = [0; MOST_NODES];
+    let mut behind = [0; 1 << 11];
+    for (k, node) in nodes.iter().enumerate().rev() {
+        // The relations are 0 to 5.
+        let said = match node.kind() {
+            IN => 6,
+            NOT_IN => 7,
+            COMPARE => node.relation(),
+            _ => continue,
+        };
+        let [said, a, b, depth] = [said, node.a(), node.b(), node.depth].map(usize::from);
+        let last = &mut behind[said << 8 | b << 4 | a << 2 | depth];
+        same[k] = *last;
+        *last = k as u16;
+    }
+    same
+}
+
+/// The cells behind a node's own under a prefix, its children's among them: how many stand before, and the number of the prefix.
 #[derive(Clone, Copy)]
 struct Behind<'a> {
     cells: &'a [u32],
@@ -69,7 +72,7 @@ struct Behind<'a> {
 }
 
 impl<'a> Behind<'a> {
-    /// A node's cells under the prefix, so many.
+    /// The cells of a node behind under the prefix; their number is given.
     fn row(&self, node: &Node, length: usize) -> &'a [u32] {
         &self.cells[node.first as usize + self.place * length - self.before..][..length]
     }
@@ -103,7 +106,7 @@ impl Filler<'_> {
         self.made(k, prefix, &mut head[start(k)..], behind);
     }
 
-    /// The same for a node whose cells are not to be copied.
+    /// The same where they are not copied. A call of its own, so that a copy does not pay for its frame.
     #[inline(never)]
     fn made(&self, k: usize, prefix: Prefix, own: &mut [u32], behind: Behind) {
         let nodes = &self.tables.nodes;
@@ -122,7 +125,8 @@ impl Filler<'_> {
         }
     }
 
-    /// A quantifier's cells, each of a row of its child's.
+    /// A quantifier's cells, each of a row of its child's. A call of its own: inlined, its loop was measured slower.
+    #[inline(never)]
     fn each_row(&self, k: usize, own: &mut [u32], behind: Behind, of: impl Fn(&[u32]) -> u32) {
         let u = self.tables.u;
         let child = behind.row(&self.tables.nodes[k + 1], own.len() * u);
@@ -225,13 +229,13 @@ impl Filler<'_> {
     }
 }
 
-/// Joins rows, cell by cell.
+/// Joins rows, cell by cell, in one loop over all of them.
 fn put<const N: usize>(own: &mut [u32], rows: [&[u32]; N], by: impl Fn(u32, u32) -> u32) {
     let rows = rows.map(|row| &row[..own.len()]);
     (0..own.len()).for_each(|i| own[i] = rows[1..].iter().fold(rows[0][i], |joined, row| by(joined, row[i])));
 }
 
-/// Joins rows to what stands there.
+/// The same, joined to what stands there.
 fn add<const N: usize>(own: &mut [u32], rows: [&[u32]; N], by: impl Fn(u32, u32) -> u32) {
     let rows = rows.map(|row| &row[..own.len()]);
     (0..own.len()).for_each(|i| own[i] = rows.iter().fold(own[i], |joined, row| by(joined, row[i])));

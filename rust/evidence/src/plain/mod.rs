@@ -33,7 +33,7 @@ use store::{Counts, Reads, Store, Writes};
 use walk::Walk;
 
 /// Grounds 11 to 13; `shortest` is the length of the shortest cell table that is lent.
-fn check(table: &[u8], masks: &[u64], shortest: usize) -> Result<Tables, u32> {
+fn checked(table: &[u8], masks: &[u64], shortest: usize) -> Result<Tables, u32> {
     let tables = Tables::of(table).ok_or(11u32)?;
     if masks.len() <= tables.n || shortest < tables.cells {
         return Err(12);
@@ -47,7 +47,7 @@ fn check(table: &[u8], masks: &[u64], shortest: usize) -> Result<Tables, u32> {
 
 /// The same with what a change asks for.
 fn open(table: &[u8], masks: &[u64], shortest: usize) -> Result<Tables, u32> {
-    let mut tables = check(table, masks, shortest)?;
+    let mut tables = checked(table, masks, shortest)?;
     tables.gather();
     Ok(tables)
 }
@@ -83,7 +83,7 @@ fn link_once(tables: &mut Tables, change: &Change) {
 
 /// Checks the tables and fills every cell.
 pub fn load(table: &[u8], masks: &[u64], cells: &mut [u32]) -> Result<Loaded, u32> {
-    let tables = check(table, masks, cells.len())?;
+    let tables = checked(table, masks, cells.len())?;
     fill::all(&tables, &Configuration::of(masks, tables.n), cells);
     Ok(Loaded { root: cells[0], cells: tables.cells })
 }
