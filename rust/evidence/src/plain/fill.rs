@@ -121,7 +121,7 @@ impl Filler<'_> {
             OR => self.join(k, own, behind, least),
             IN | NOT_IN => self.membership(node, prefix, own),
             COMPARE => self.comparison(node, prefix, own),
-            _ => level(own, penalty(node, self.of, 0)),
+            _ => own.fill(penalty(node, self.of, 0)),
         }
     }
 
@@ -172,7 +172,7 @@ impl Filler<'_> {
     /// A membership literal. Its cells are those below one tuple of the variables before its own, again and again.
     fn membership(&self, node: &Node, prefix: Prefix, own: &mut [u32]) {
         if node.a() < prefix.fixed {
-            return level(own, penalty(node, self.of, prefix.digits));
+            return own.fill(penalty(node, self.of, prefix.digits));
         }
         let part = self.powers[usize::from(node.depth - node.a())];
         let (mask, inside) = (self.of.sets[usize::from(node.b())], u32::from(node.kind() == NOT_IN));
@@ -191,7 +191,7 @@ impl Filler<'_> {
         while !rest.is_empty() {
             let run = if held { ports.trailing_ones() } else { ports.trailing_zeros() };
             let (filled, others) = rest.split_at_mut((run as usize * each).min(rest.len()));
-            level(filled, if held { inside } else { 1 - inside });
+            filled.fill(if held { inside } else { 1 - inside });
             ports = ports.checked_shr(run).unwrap_or(0);
             (rest, held) = (others, !held);
         }
@@ -201,7 +201,7 @@ impl Filler<'_> {
     fn comparison(&self, node: &Node, prefix: Prefix, own: &mut [u32]) {
         let (outer, inner) = (node.a().min(node.b()), node.a().max(node.b()));
         if node.a() == node.b() || inner < prefix.fixed {
-            return level(own, penalty(node, self.of, prefix.digits));
+            return own.fill(penalty(node, self.of, prefix.digits));
         }
         if outer < prefix.fixed {
             return self.compared(node, digit(prefix.digits, outer), own);
@@ -263,13 +263,6 @@ pub fn member_row(mask: u64, inside: u32, own: &mut [u32]) {
     for (half, part) in halves.into_iter().zip(own.chunks_mut(32)) {
         part.iter_mut().zip(BITS).for_each(|(o, bit)| *o = u32::from(half & bit == 0) ^ inside);
     }
-}
-
-/// Sets all cells to one penalty, most of them by copies, which the C library makes by wider vectors.
-fn level(own: &mut [u32], penalty: u32) {
-    let first = own.len().min(128);
-    own[..first].fill(penalty);
-    repeat(own, first);
 }
 
 /// Repeats the first cells over all others, twice as many each time.
