@@ -6,7 +6,7 @@ use super::Input;
 use crate::second::text::{read, LONGEST_TEXT, MOST_AROUND};
 
 /// What stands before a nested part and behind it, for each way in which a text can nest.
-const NESTS: [(&str, &str); 16] = [
+const NESTS: [(&str, &str); 19] = [
     ("(", ")"),
     ("~", ""),
     ("?x", ""),
@@ -23,6 +23,9 @@ const NESTS: [(&str, &str); 16] = [
     ("(", "<-x<x)"),
     ("(x<x<->", ")"),
     ("(", "<->x<x)"),
+    ("(x<x->x<x|x<x&", ")"),
+    ("(", "&x<x|x<x->x<x)"),
+    ("(", "&#S<1|#S<1->#S<1)"),
 ];
 
 /// How a text begins, with a literal that may stand behind: x bound or not, and as many quantifiers as a plan allows.
