@@ -22,7 +22,7 @@ ghost use Rattle.text_core.specs.Names.{setNumber, variableNumber};
 ghost use Rattle.text_emit.specs.inner.Fields.{boundLetters, BindsLetter, RelationIs, QuantifierIs, MemberIs, LiteralIs};
 ghost use Rattle.text_emit.specs.inner.Emits.{EmitReady, EmitsLiteral, JointIs, LeftIs, RightIs, Emits, EmitsJoin, EmitsRow, GoesOn, PutsCore, PlanReady, WritesPlan};
 
-// Operators of the tree's records (crate syntax, specs/Stored.antt).
+// Operators of the tree's records (crate text_tree, specs/inner/Stored.antt).
 const PORT: u16 = 16;
 
 const SIZE: u16 = 24;
@@ -63,7 +63,7 @@ fn variable_number(b: Bound, v: u16) -> u8
     0
 }
 
-// BindsLetter one more letter.
+// Binds one more letter.
 fn with_letter(b: Bound, v: u16) -> Bound
     ensures { λ r. ⌜ BindsLetter b v r ⌝ }
 {

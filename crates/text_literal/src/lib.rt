@@ -18,7 +18,7 @@ ghost use lib.ListN.{length};
 ghost use Rattle.text_grammar.specs.Parser.{variableLiteral, sizeLiteral};
 ghost use Rattle.text_grammar.specs.inner.Contract.{ReaderRoom, Outcome, Operands, Keeps, LettersRead};
 
-// Operators of records (crate syntax, specs/Stored.antt). Those of the other signs follow from the kinds of tokens: an
+// Operators of records (crate text_tree, specs/inner/Stored.antt). Those of the other signs follow from the kinds of tokens: an
 // arrow's is its kind less ARROW, a quantifier's its kind less QUANTIFIER, that of `v < w` and its kin is the relation's
 // kind, and that of `#S < 9` and its kin is SIZE more.
 const IN: u8 = 0;

@@ -13,14 +13,6 @@ use Rattle.call_best.proofs.Answering.{list-shut, list-unknown, list-sh
 use borrow.Author.Needs.{needs}
 use Rattle.call_best.proofs.best_moves.Statement.{statement}
 use Rattle.call_best.proofs.best_moves.Tie as tie
-use Rattle.call_best.proofs.best_moves.Reads as reads
-use Rattle.call_best.proofs.best_moves.Lts as lts
-use Rattle.call_open.proofs.open_tables.Reads as open-tables-reads
-use Rattle.logic.proofs.lesser.Reads as lesser-reads
-use Rattle.logic.proofs.wide.Reads as wide-reads
-use Rattle.move_best.proofs.choose.Reads as choose-reads
-use Rattle.move_list.proofs.write_records.Reads as write-records-reads
-use Rattle.move_order.proofs.kinds_known.Reads as kinds-known-reads
 
 lesser-requires : tie.Need-lesser-requires
 lesser-requires c κs = search needs

@@ -17,17 +17,6 @@ use Rattle.call_improve.proofs.Improving.{improve-shut, improve-unknown
 use borrow.Author.Needs.{needs}
 use Rattle.call_improve.proofs.improve.Statement.{statement}
 use Rattle.call_improve.proofs.improve.Tie as tie
-use Rattle.call_improve.proofs.improve.Reads as reads
-use Rattle.call_improve.proofs.improve.Lts as lts
-use Rattle.answers.proofs.made.Reads as made-reads
-use Rattle.call_improve.proofs.lowers.Reads as lowers-reads
-use Rattle.call_open.proofs.open_tables.Reads as open-tables-reads
-use Rattle.journal_rules.proofs.cells_lent.Reads as cells-lent-reads
-use Rattle.journal_rules.proofs.is_full.Reads as is-full-reads
-use Rattle.logic.proofs.lesser.Reads as lesser-reads
-use Rattle.move_best.proofs.choose.Reads as choose-reads
-use Rattle.move_make.proofs.carry.Reads as carry-reads
-use Rattle.move_order.proofs.kinds_known.Reads as kinds-known-reads
 
 lesser-requires : tie.Need-lesser-requires
 lesser-requires c κs = search needs

@@ -8,10 +8,6 @@ use Rattle.logic.proofs.Lent.{back-to-length}
 use borrow.Author.Needs.{needs}
 use Rattle.call_load.proofs.load.Statement.{statement}
 use Rattle.call_load.proofs.load.Tie as tie
-use Rattle.call_load.proofs.load.Reads as reads
-use Rattle.call_load.proofs.load.Lts as lts
-use Rattle.call_open.proofs.open_tables.Reads as open-tables-reads
-use Rattle.cells_fill.proofs.fill.Reads as fill-reads
 
 open-tables-requires : tie.Need-open-tables-requires
 open-tables-requires c κs = search needs

@@ -10,13 +10,6 @@ use Rattle.call_move.proofs.Answering.{tries-move, none-is-left, not-le
 use borrow.Author.Needs.{needs}
 use Rattle.call_move.proofs.move_with.Statement.{statement}
 use Rattle.call_move.proofs.move_with.Tie as tie
-use Rattle.call_move.proofs.move_with.Reads as reads
-use Rattle.call_move.proofs.move_with.Lts as lts
-use Rattle.answers.proofs.accepted.Reads as accepted-reads
-use Rattle.call_open.proofs.open_tables.Reads as open-tables-reads
-use Rattle.journal_rules.proofs.cells_lent.Reads as cells-lent-reads
-use Rattle.move_legal.proofs.move_number.Reads as move-number-reads
-use Rattle.move_make.proofs.carry.Reads as carry-reads
 
 cells-lent-requires : tie.Need-cells-lent-requires
 cells-lent-requires c κs = search needs

@@ -3,9 +3,6 @@ use Rattle.call_node.specs.inner.Bounds.{boundAt}
 use borrow.Author.Needs.{needs}
 use Rattle.call_node.proofs.bound_of.Statement.{statement}
 use Rattle.call_node.proofs.bound_of.Tie as tie
-use Rattle.call_node.proofs.bound_of.Reads as reads
-use Rattle.call_node.proofs.bound_of.Lts as lts
-use Rattle.logic.proofs.wide.Reads as wide-reads
 
 mul-wide : tie.Need-mul-wide
 mul-wide c = search needs

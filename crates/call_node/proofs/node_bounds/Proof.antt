@@ -5,10 +5,6 @@ use Rattle.call_node.proofs.Bounds.{bounds-of, part-shut}
 use borrow.Author.Needs.{needs}
 use Rattle.call_node.proofs.node_bounds.Statement.{statement}
 use Rattle.call_node.proofs.node_bounds.Tie as tie
-use Rattle.call_node.proofs.node_bounds.Reads as reads
-use Rattle.call_node.proofs.node_bounds.Lts as lts
-use Rattle.call_node.proofs.bound_of.Reads as bound-of-reads
-use Rattle.call_open.proofs.open_cells.Reads as open-cells-reads
 
 open-cells-requires : tie.Need-open-cells-requires
 open-cells-requires c κs = search needs

@@ -5,10 +5,6 @@ use mathlib.Core.Path.{refl}
 use borrow.Author.Needs.{needs}
 use Rattle.call_open.proofs.open_cells.Statement.{statement}
 use Rattle.call_open.proofs.open_cells.Tie as tie
-use Rattle.call_open.proofs.open_cells.Reads as reads
-use Rattle.call_open.proofs.open_cells.Lts as lts
-use Rattle.call_open.proofs.closed.Reads as closed-reads
-use Rattle.table_check.proofs.check.Reads as check-reads
 
 check-requires : tie.Need-check-requires
 check-requires c κs = search needs

@@ -10,12 +10,6 @@ use Rattle.call_open.proofs.Opening.{opens-not, opens-few-masks, opens-
 use borrow.Author.Needs.{needs}
 use Rattle.call_open.proofs.open_tables.Statement.{statement}
 use Rattle.call_open.proofs.open_tables.Tie as tie
-use Rattle.call_open.proofs.open_tables.Reads as reads
-use Rattle.call_open.proofs.open_tables.Lts as lts
-use Rattle.call_open.proofs.closed.Reads as closed-reads
-use Rattle.call_open.proofs.masks_ok.Reads as masks-ok-reads
-use Rattle.call_open.proofs.open_cells.Reads as open-cells-reads
-use Rattle.logic.proofs.own_masks.Reads as own-masks-reads
 
 open-cells-requires : tie.Need-open-cells-requires
 open-cells-requires c κs = search needs

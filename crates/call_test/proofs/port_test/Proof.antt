@@ -7,12 +7,6 @@ use Rattle.call_test.proofs.Answering.{tries-test, port-asks, number-is
 use borrow.Author.Needs.{needs}
 use Rattle.call_test.proofs.port_test.Statement.{statement}
 use Rattle.call_test.proofs.port_test.Tie as tie
-use Rattle.call_test.proofs.port_test.Reads as reads
-use Rattle.call_test.proofs.port_test.Lts as lts
-use Rattle.answers.proofs.accepted.Reads as accepted-reads
-use Rattle.call_open.proofs.open_tables.Reads as open-tables-reads
-use Rattle.test_make.proofs.put_port.Reads as put-port-reads
-use Rattle.test_port.proofs.port_number.Reads as port-number-reads
 
 open-tables-requires : tie.Need-open-tables-requires
 open-tables-requires c κs = search needs

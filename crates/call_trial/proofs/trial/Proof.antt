@@ -10,14 +10,6 @@ use Rattle.call_trial.proofs.Answering.{tries-trial, trial-refused, tri
 use borrow.Author.Needs.{needs}
 use Rattle.call_trial.proofs.trial.Statement.{statement}
 use Rattle.call_trial.proofs.trial.Tie as tie
-use Rattle.call_trial.proofs.trial.Reads as reads
-use Rattle.call_trial.proofs.trial.Lts as lts
-use Rattle.answers.proofs.accepted.Reads as accepted-reads
-use Rattle.call_open.proofs.open_tables.Reads as open-tables-reads
-use Rattle.logic.proofs.lesser.Reads as lesser-reads
-use Rattle.logic.proofs.own_masks.Reads as own-masks-reads
-use Rattle.move_legal.proofs.move_number.Reads as move-number-reads
-use Rattle.move_try.proofs.try_move.Reads as try-move-reads
 
 lesser-requires : tie.Need-lesser-requires
 lesser-requires c κs = search needs

@@ -9,13 +9,6 @@ use Rattle.call_write.proofs.Answering.{short, broken-11, refused-at, a
 use borrow.Author.Needs.{needs}
 use Rattle.call_write.proofs.write.Statement.{statement}
 use Rattle.call_write.proofs.write.Tie as tie
-use Rattle.call_write.proofs.write.Reads as reads
-use Rattle.call_write.proofs.write.Lts as lts
-use Rattle.call_write.proofs.ground.Reads as ground-reads
-use Rattle.call_write.proofs.unreadable.Reads as unreadable-reads
-use Rattle.table_check.proofs.check.Reads as check-reads
-use Rattle.text_put.proofs.put_bytes.Reads as put-bytes-reads
-use Rattle.text_write.proofs.form_text.Reads as form-text-reads
 
 check-requires : tie.Need-check-requires
 check-requires c κs = search needs

@@ -3,10 +3,6 @@ use Rattle.call_open.proofs.OpenPlan.{sets-fit}
 use borrow.Author.Needs.{needs}
 use Rattle.move_best.proofs.choose.Statement.{statement}
 use Rattle.move_best.proofs.choose.Tie as tie
-use Rattle.move_best.proofs.choose.Reads as reads
-use Rattle.move_best.proofs.choose.Lts as lts
-use Rattle.logic.proofs.own_masks.Reads as own-masks-reads
-use Rattle.move_best.proofs.search.Reads as search-reads
 
 own-masks-requires : tie.Need-own-masks-requires
 own-masks-requires c κs =

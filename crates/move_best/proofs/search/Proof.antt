@@ -8,15 +8,6 @@ use Rattle.move_best.proofs.Candidates.{sized-over}
 use Rattle.move_best.proofs.Searching.{left, Searching, search-starts, search-tries, search-few, search-place, search-begins, search-goes-on, search-less, search-ends}
 use Rattle.move_best.proofs.search.Statement.{statement}
 use Rattle.move_best.proofs.search.Tie as tie
-use Rattle.move_best.proofs.search.Reads as reads
-use Rattle.move_best.proofs.search.Lts as lts
-use Rattle.move_legal.proofs.narrow.Reads as narrow-reads
-use Rattle.move_order.proofs.first_candidate.Reads as first-candidate-reads
-use Rattle.move_order.proofs.next_candidate.Reads as next-candidate-reads
-use Rattle.move_rank.proofs.keep_place.Reads as keep-place-reads
-use Rattle.move_rank.proofs.none_yet.Reads as none-yet-reads
-use Rattle.move_rank.proofs.ranked.Reads as ranked-reads
-use Rattle.move_try.proofs.try_move.Reads as try-move-reads
 
 abbrev Inv-loop : tie.InvT-loop
 Inv-loop table firsts ends uses masks cells ports sets kinds work₀ places₀ u n best₀ at₀ work places best at = Searching table masks cells kinds sets (length places₀) work places best at

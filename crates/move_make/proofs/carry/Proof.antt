@@ -9,13 +9,6 @@ use Rattle.move_make.proofs.Carrying.{back-fits, lent-again, carried}
 use borrow.Author.Needs.{needs}
 use Rattle.move_make.proofs.carry.Statement.{statement}
 use Rattle.move_make.proofs.carry.Tie as tie
-use Rattle.move_make.proofs.carry.Reads as reads
-use Rattle.move_make.proofs.carry.Lts as lts
-use Rattle.cells_touch.proofs.change_of.Reads as change-of-reads
-use Rattle.cells_write.proofs.root_written.Reads as root-written-reads
-use Rattle.logic.proofs.own_masks.Reads as own-masks-reads
-use Rattle.move_legal.proofs.narrow.Reads as narrow-reads
-use Rattle.move_masks.proofs.masks_after.Reads as masks-after-reads
 
 own-masks-requires : tie.Need-own-masks-requires
 own-masks-requires c κs =

@@ -8,14 +8,6 @@ use Rattle.move_masks.proofs.Copying.{copied-whole}
 use borrow.Author.Needs.{needs}
 use Rattle.move_try.proofs.try_move.Statement.{statement}
 use Rattle.move_try.proofs.try_move.Tie as tie
-use Rattle.move_try.proofs.try_move.Reads as reads
-use Rattle.move_try.proofs.try_move.Lts as lts
-use Rattle.cells_touch.proofs.change_of.Reads as change-of-reads
-use Rattle.cells_try.proofs.root_after.Reads as root-after-reads
-use Rattle.logic.proofs.own_masks.Reads as own-masks-reads
-use Rattle.move_legal.proofs.narrow.Reads as narrow-reads
-use Rattle.move_masks.proofs.copy_masks.Reads as copy-masks-reads
-use Rattle.move_masks.proofs.masks_after.Reads as masks-after-reads
 
 own-masks-requires : tie.Need-own-masks-requires
 own-masks-requires c κs =

@@ -8,16 +8,6 @@ use Rattle.table_check.proofs.Whole.{refuse-plan, placed-below, bad-bel
 use borrow.Author.Needs.{needs}
 use Rattle.table_check.proofs.check.Statement.{statement}
 use Rattle.table_check.proofs.check.Tie as tie
-use Rattle.table_check.proofs.check.Reads as reads
-use Rattle.table_check.proofs.check.Lts as lts
-use Rattle.table_check.proofs.check_forest.Reads as check-forest-reads
-use Rattle.table_check.proofs.no_plan.Reads as no-plan-reads
-use Rattle.table_check.proofs.note.Reads as note-reads
-use Rattle.table_format.proofs.below_root.Reads as below-root-reads
-use Rattle.table_format.proofs.nodes_of.Reads as nodes-of-reads
-use Rattle.table_format.proofs.ports_of.Reads as ports-of-reads
-use Rattle.table_format.proofs.sets_of.Reads as sets-of-reads
-use Rattle.table_rules.proofs.front_ok.Reads as front-ok-reads
 
 front-ok-requires : tie.Need-front-ok-requires
 front-ok-requires c κs = search needs

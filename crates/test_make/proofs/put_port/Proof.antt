@@ -6,13 +6,6 @@ use Rattle.test_make.proofs.Putting.{asks-change, lent-enough, root-rea
 use borrow.Author.Needs.{needs}
 use Rattle.test_make.proofs.put_port.Statement.{statement}
 use Rattle.test_make.proofs.put_port.Tie as tie
-use Rattle.test_make.proofs.put_port.Reads as reads
-use Rattle.test_make.proofs.put_port.Lts as lts
-use Rattle.cells_write.proofs.root_written.Reads as root-written-reads
-use Rattle.logic.proofs.own_masks.Reads as own-masks-reads
-use Rattle.move_legal.proofs.narrow.Reads as narrow-reads
-use Rattle.move_masks.proofs.flip_at.Reads as flip-at-reads
-use Rattle.test_change.proofs.test_change.Reads as test-change-reads
 
 test-change-requires : tie.Need-test-change-requires
 test-change-requires c κs =

@@ -4,11 +4,6 @@ use Rattle.text_emit.proofs.Emitting.{same-joint}
 use borrow.Author.Needs.{needs}
 use Rattle.text_emit.proofs.goes_on.Statement.{statement}
 use Rattle.text_emit.proofs.goes_on.Tie as tie
-use Rattle.text_emit.proofs.goes_on.Reads as reads
-use Rattle.text_emit.proofs.goes_on.Lts as lts
-use Rattle.text_emit.proofs.joint_kind.Reads as joint-kind-reads
-use Rattle.text_tree.proofs.is_join.Reads as is-join-reads
-use Rattle.text_tree.proofs.operator_at.Reads as operator-at-reads
 
 is-join-requires : tie.Need-is-join-requires
 is-join-requires c κs = search needs

@@ -4,11 +4,6 @@ use Rattle.text_tree.proofs.Joins.{no-join, join-tested}
 use borrow.Author.Needs.{needs}
 use Rattle.text_tree.proofs.is_join.Statement.{statement}
 use Rattle.text_tree.proofs.is_join.Tie as tie
-use Rattle.text_tree.proofs.is_join.Reads as reads
-use Rattle.text_tree.proofs.is_join.Lts as lts
-use Rattle.text_tree.proofs.operator_at.Reads as operator-at-reads
-use Rattle.text_tree.proofs.payload_at.Reads as payload-at-reads
-use Rattle.text_tree.proofs.place.Reads as place-reads
 
 returns : tie.Need-returns
 returns c =

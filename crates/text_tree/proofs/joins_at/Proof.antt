@@ -3,9 +3,6 @@ use native.Mathlib.Omega.{arith}
 use Rattle.text_tree.proofs.Joins.{JoinsMet, none-met, one-met, all-met}
 use Rattle.text_tree.proofs.joins_at.Statement.{statement}
 use Rattle.text_tree.proofs.joins_at.Tie as tie
-use Rattle.text_tree.proofs.joins_at.Reads as reads
-use Rattle.text_tree.proofs.joins_at.Lts as lts
-use Rattle.text_tree.proofs.is_join.Reads as is-join-reads
 
 abbrev Inv-loop : tie.InvT-loop
 Inv-loop t e n₀ at₀ n at = JoinsMet t e n at

@@ -4,10 +4,6 @@ use borrow.Author.Needs.{needs}
 use Rattle.text_tree.proofs.Links.{Writing, writing-start, one-room, writing-on, written}
 use Rattle.text_tree.proofs.push_joins.Statement.{statement}
 use Rattle.text_tree.proofs.push_joins.Tie as tie
-use Rattle.text_tree.proofs.push_joins.Reads as reads
-use Rattle.text_tree.proofs.push_joins.Lts as lts
-use Rattle.text_tree.proofs.place.Reads as place-reads
-use Rattle.text_tree.proofs.push.Reads as push-reads
 
 abbrev Inv-loop : tie.InvT-loop
 Inv-loop out₀ n last e operator link₀ end₀ out link end = Writing out₀ out n last e operator link end
