@@ -1,0 +1,1 @@
+// All ports at once, over all tuples of a tree without quantifiers.
