@@ -1,0 +1,3 @@
+-- Laws.
+mod Crossing
+mod Flat

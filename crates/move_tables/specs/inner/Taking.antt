@@ -1,0 +1,91 @@
+-- The atoms of a formula gone into the tables that improve keeps.
+use mathlib.Core.Path.{_≡_}
+use mathlib.Core.Logic.{_≢_}
+use mathlib.Core.Bool.{Bool, true, false, _&&_}
+use mathlib.Core.List.{List}
+use Prim.Native.Nat.{ℕ, suc, _+_, _*_, _%_, _≤_, _<_}
+use lib.Dec.{leb}
+use lib.ListN.{length, getD}
+use Rattle.logic.specs.declared.Move.{Move}
+use Rattle.logic.specs.Formula.{Node, Forest, none, tree, Plan, nodeCount}
+use Rattle.logic.specs.Configuration.{inMask, inMasks}
+use Rattle.logic.specs.Cells.{cellCount}
+use Rattle.logic.specs.Moves.{legal}
+use Rattle.logic.specs.Change.{modulus}
+use Rattle.table_format.specs.Bytes.{recordLength, kindField, recordsOf, recordAt}
+use Rattle.cells_walk.specs.inner.Nodes.{IndexHolds, Fitting}
+use Rattle.cells_atoms.specs.inner.Atoms.{isAtom, ofAtoms, AllRegular}
+use Rattle.move_shares.specs.inner.Shares.{shareOf, ShareReady, crosses}
+use Rattle.move_slots.specs.inner.Slots.{moveRead, told}
+use Rattle.move_tables.specs.declared.Left.{Left}
+
+-- The nodes from i up to `until` bind no variable.
+unfoldable pub NoneBinds : List ℕ → ℕ → ℕ → Type 0
+NoneBinds bytes i until = (j : ℕ) → i ≤ j → j < until → (leb 1 (kindField (recordAt bytes j)) && leb (kindField (recordAt bytes j)) 2) ≡ false
+
+-- The sets that a word of uses tests by more than one variable have the lowest of their four bits.
+unfoldable pub Crossed : ℕ → ℕ → Type 0
+Crossed used word = (S : ℕ) → S < 16 → inMask word (4 * S) ≡ crosses used S
+
+-- A plan with its sizes.
+pub record PlanGiven (u sets : ℕ) (masks sizes cells : List ℕ) (P : Plan) : Type 0 where
+  pub ports-are : u ≡ P .ports
+  pub sets-are : sets ≡ P .sets
+  pub ready : ShareReady P masks cells sizes
+  pub sizes-low : (S : ℕ) → getD sizes S 0 ≤ 64
+
+-- A forest of the formula, as the tables have it.
+pub record ForestStands (u sets : ℕ) (bytes firsts ends uses cells : List ℕ) (i : ℕ) (f : Forest) (b d : ℕ) : Type 0 where
+  pub holds : IndexHolds u bytes firsts ends uses i f b d
+  pub fitting : Fitting sets f d
+  pub regular : AllRegular f d
+  pub room : b + cellCount u f d ≤ length cells
+  pub nodes : i + nodeCount f ≤ 512
+
+-- For every legal move that is still told by the tables, they say more by what the forest's atoms add to the root.
+unfoldable pub MovesTaken : ℕ → ℕ → List ℕ → List ℕ → Plan → Bool → Forest → ℕ → ℕ → List ℕ → List ℕ → List ℕ → Left → List ℕ → List ℕ → List ℕ → Left → Type 0
+MovesTaken u sets masks cells P transfers f b d one still joint left one′ still′ joint′ left′ =
+    (m : Move) → legal P (inMasks masks) m ≡ true → (transfers ≡ false → m .kind ≢ 3) → told (left′ .hard) (left′ .crossed) m ≡ true
+    → (told (left .hard) (left .crossed) m ≡ true)
+    × (moveRead one′ still′ joint′ (getD masks sets 0) m % modulus ≡ (moveRead one still joint (getD masks sets 0) m + ofAtoms u (shareOf P masks cells m) f b d) % modulus)
+
+-- Room in the tables.
+pub record TableRoom (mine own one still joint : List ℕ) : Type 0 where
+  pub mine-long : length mine ≡ 4096
+  pub own-long : length own ≡ 64
+  pub one-long : length one ≡ 4096
+  pub still-long : length still ≡ 64
+  pub joint-long : length joint ≡ 16384
+
+-- Before a node, and before the trees of a forest that end at node `until`.
+pub record TakeReady (u sets : ℕ) (bytes firsts ends uses masks sizes cells : List ℕ) (i d : ℕ) (atom : Bool) (mine own one still joint : List ℕ) : Type 0 where
+  pub plan : Plan
+  pub node : Node
+  pub children : Forest
+  pub siblings : Forest
+  pub first : ℕ
+  pub given : PlanGiven u sets masks sizes cells plan
+  pub stands : ForestStands u sets bytes firsts ends uses cells i (tree node children siblings) first d
+  pub is-atom : atom ≡ true → isAtom node ≡ true
+  pub room : TableRoom mine own one still joint
+
+unfoldable pub TakesTree : ℕ → ℕ → List ℕ → List ℕ → List ℕ → List ℕ → List ℕ → List ℕ → List ℕ → ℕ → ℕ → Bool → List ℕ → List ℕ → List ℕ → Left → List ℕ → List ℕ → List ℕ → Left → Type 0
+TakesTree u sets bytes firsts ends uses masks sizes cells i d transfers one still joint left one′ still′ joint′ left′ =
+    (P : Plan) (n : Node) (c s : Forest) (b : ℕ) → PlanGiven u sets masks sizes cells P
+    → ForestStands u sets bytes firsts ends uses cells i (tree n c s) b d
+    → MovesTaken u sets masks cells P transfers (tree n c none) b d one still joint left one′ still′ joint′ left′
+
+pub record TakeAllReady (u sets : ℕ) (bytes firsts ends uses masks sizes cells : List ℕ) (i until d : ℕ) (mine own one still joint : List ℕ) : Type 0 where
+  pub plan : Plan
+  pub forest : Forest
+  pub first : ℕ
+  pub given : PlanGiven u sets masks sizes cells plan
+  pub stands : ForestStands u sets bytes firsts ends uses cells i forest first d
+  pub ends-at : until ≡ i + nodeCount forest
+  pub room : TableRoom mine own one still joint
+
+unfoldable pub TakesAll : ℕ → ℕ → List ℕ → List ℕ → List ℕ → List ℕ → List ℕ → List ℕ → List ℕ → ℕ → ℕ → ℕ → Bool → List ℕ → List ℕ → List ℕ → Left → List ℕ → List ℕ → List ℕ → Left → Type 0
+TakesAll u sets bytes firsts ends uses masks sizes cells i until d transfers one still joint left one′ still′ joint′ left′ =
+    (P : Plan) (f : Forest) (b : ℕ) → PlanGiven u sets masks sizes cells P
+    → ForestStands u sets bytes firsts ends uses cells i f b d → until ≡ i + nodeCount f
+    → MovesTaken u sets masks cells P transfers f b d one still joint left one′ still′ joint′ left′
