@@ -82,6 +82,13 @@ pub record AtomReady (u sets : ℕ) (bytes firsts ends uses masks sizes cells : 
   pub first : ℕ
   pub given : AtomGiven u sets bytes firsts ends uses masks sizes cells i d plan node children siblings first
 
+-- Room in the tables.
+pub record SlotRoom (mine own one still : List ℕ) : Type 0 where
+  pub mine-long : length mine ≡ 4096
+  pub own-long : length own ≡ 64
+  pub one-long : length one ≡ 4096
+  pub still-long : length still ≡ 64
+
 -- The numbers of an atom alone, in its slots: `own` has what resizings bring, `mine` what flips add.
 unfoldable pub OwnAre : ℕ → ℕ → List ℕ → List ℕ → List ℕ → List ℕ → ℕ → Node → Forest → ℕ → ℕ → List ℕ → List ℕ → Type 0
 OwnAre u sets uses masks sizes cells i n c b d mine own =
@@ -113,7 +120,20 @@ JointsTaken u sets test masks sizes cells n c b d joint joint′ =
     → (jointRead joint′ s t x + (wholeShare u masks sizes cells ((s, leaving test x) ∷ []) x n c b d + wholeShare u masks sizes cells ((t, entering test x) ∷ []) x n c b d)) % modulus
     ≡ (jointRead joint s t x + wholeShare u masks sizes cells ((s, leaving test x) ∷ (t, entering test x) ∷ []) x n c b d) % modulus
 
-unfoldable pub TakesJoints : ℕ → ℕ → List ℕ → List ℕ → List ℕ → List ℕ → List ℕ → List ℕ → List ℕ → ℕ → ℕ → List ℕ → List ℕ → Type 0
-TakesJoints u sets bytes firsts ends uses masks sizes cells i d joint joint′ =
+-- Before it: the atom's own numbers are there.
+pub record JointsReady (u sets : ℕ) (bytes firsts ends uses masks sizes cells : List ℕ) (i d : ℕ) (mine own joint : List ℕ) : Type 0 where
+  pub plan : Plan
+  pub node : Node
+  pub children : Forest
+  pub siblings : Forest
+  pub first : ℕ
+  pub given : AtomGiven u sets bytes firsts ends uses masks sizes cells i d plan node children siblings first
+  pub mine-long : length mine ≡ 4096
+  pub own-long : length own ≡ 64
+  pub joint-long : length joint ≡ 16384
+
+unfoldable pub TakesJoints : ℕ → ℕ → List ℕ → List ℕ → List ℕ → List ℕ → List ℕ → List ℕ → List ℕ → ℕ → ℕ → List ℕ → List ℕ → List ℕ → List ℕ → Type 0
+TakesJoints u sets bytes firsts ends uses masks sizes cells i d mine own joint joint′ =
     (P : Plan) (n : Node) (c s : Forest) (b : ℕ) → AtomGiven u sets bytes firsts ends uses masks sizes cells i d P n c s b
+    → OwnAre u sets uses masks sizes cells i n c b d mine own
     → JointsTaken u sets (getD masks sets 0) masks sizes cells n c b d joint joint′
