@@ -60,7 +60,7 @@ module _ (u : ℕ) (base part : Change) (resized : ℕ → Bool) (resized-is : (
       turned false false = refl
 
 -- a number less another, by way of a third
-by-way-of : (new base old : ℕ) → base < modulus → (new + (modulus - old)) % modulus ≡ (base + (modulus - old) + (new + (modulus - base))) % modulus
+pub by-way-of : (new base old : ℕ) → base < modulus → (new + (modulus - old)) % modulus ≡ (base + (modulus - old) + (new + (modulus - base))) % modulus
 unfolding modulus
 by-way-of new base old h = omega arith
 
