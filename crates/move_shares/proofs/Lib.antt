@@ -1,2 +1,3 @@
 -- Laws.
+pub mod Roots
 pub mod Words
