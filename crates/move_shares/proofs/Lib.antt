@@ -1,3 +1,4 @@
 -- Laws.
+pub mod OfKinds
 pub mod Roots
 pub mod Words

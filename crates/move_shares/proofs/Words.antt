@@ -14,10 +14,10 @@ use Rattle.logic.specs.Moves.{flip, flips}
 use Rattle.logic.specs.Change.{someOf}
 use Rattle.logic.specs.inner.Agreement.{listed}
 use Rattle.logic.proofs.Lists.{or-false}
-use Rattle.cells_touch.specs.inner.Hits.{Describes, variableBits, sizeBit, changeAt}
+use Rattle.cells_touch.specs.inner.Hits.{variableBits, sizeBit, changeAt}
 use Rattle.cells_touch.proofs.Bits.{in-or}
-use Rattle.cells_touch.proofs.Telling.{AtBoth, says-at}
-use Rattle.cells_atoms.specs.inner.Ports.{Lists, atOne}
+use Rattle.cells_touch.proofs.Telling.{says-at}
+use Rattle.cells_atoms.specs.inner.Ports.{atOne}
 use Rattle.cells_flip.specs.inner.Flips.{Flipped}
 use Rattle.cells_ports.specs.inner.Ports.{Words, Resizes, FlipsAt}
 use Rattle.move_shares.specs.inner.Shares.{Outcome, changing, sizedAs, pairsOf, resizing, flipping, resizedTo, flippedTo}
