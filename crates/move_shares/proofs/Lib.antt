@@ -1,4 +1,6 @@
 -- Laws.
+pub mod Alike
 pub mod OfKinds
 pub mod Roots
+pub mod Unused
 pub mod Words
