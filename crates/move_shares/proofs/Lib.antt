@@ -1,5 +1,6 @@
 -- Laws.
 pub mod Alike
+pub mod Missed
 pub mod OfKinds
 pub mod Roots
 pub mod Unused

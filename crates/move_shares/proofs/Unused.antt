@@ -46,7 +46,7 @@ in-set S (suc (suc (suc zero))) l = in-right (variableBits S) (sizeBit S) (4 * S
 in-set S (suc (suc (suc (suc v)))) l = absurd (omega arith)
 
 -- a set with a bit that is used is another than one that is not used
-unused-other : (used s : ℕ) → meets used (setBits s) ≡ false → (S v : ℕ) → v < 4 → inMask used (4 * S + v) ≡ true → eqb S s ≡ false
+pub unused-other : (used s : ℕ) → meets used (setBits s) ≡ false → (S v : ℕ) → v < 4 → inMask used (4 * S + v) ≡ true → eqb S s ≡ false
 unused-other used s h S v l i =
     ne-eqb S s (λ q. true≢false (sym (bit-meets used (setBits s) (4 * S + v) i (ap (λ (y : ℕ). inMask (setBits y) (4 * S + v)) (sym q) ∙ in-set S v l)) ∙ h))
 
@@ -103,7 +103,7 @@ pairs-below u x l [] = tt
 pairs-below u x l (z ∷ zs) = (l, pairs-below u x l zs)
 
 -- no set, nothing is hit
-nothing-hit : (f : Forest) (e : Tuple) → forestHit (resizing []) f e ≡ false
+pub nothing-hit : (f : Forest) (e : Tuple) → forestHit (resizing []) f e ≡ false
 unfolding forestHit nodeHit hit resizing changing someOf
 nothing-hit none e = refl
 nothing-hit (tree n c s) e = or-false _ _ (or-false _ _ (node-hit n) (nothing-hit c e)) (nothing-hit s e)
@@ -123,7 +123,7 @@ nothing-hit (tree n c s) e = or-false _ _ (or-false _ _ (node-hit n) (nothing-hi
     node-hit (lit l) = test-hit (l .test)
 
 -- a number less itself
-less-itself : (x y z : ℕ) → x ≡ z → y ≡ z → z < modulus → (x + (modulus - y)) % modulus ≡ 0
+pub less-itself : (x y z : ℕ) → x ≡ z → y ≡ z → z < modulus → (x + (modulus - y)) % modulus ≡ 0
 unfolding modulus
 less-itself x y z h i l = omega arith
 
