@@ -41,7 +41,7 @@ extends-below w at-or = w
 extends-below w at-lit = w
 
 -- a membership literal whose variable is bound is hit by the pairs at its port
-bound-hit : (qs : List Pair) (v S : ℕ) (e : Tuple) → v < length e → someOf (memberHit v S e) qs ≡ listed qs S (portOf e v)
+pub bound-hit : (qs : List Pair) (v S : ℕ) (e : Tuple) → v < length e → someOf (memberHit v S e) qs ≡ listed qs S (portOf e v)
 unfolding listed memberHit
 bound-hit qs v S e h =
     some-same _ _ qs (λ q d. ap (λ (a : Bool). eqb S (q .0) && (a || eqb (portOf e v) (q .1))) (lt-leb (length e) v h))

@@ -143,7 +143,7 @@ module _ (u sets d kind relation a b : ℕ) (masks : List ℕ) (digits : ℕ) (r
       )
 
 -- the port of a bound variable is below u
-port-of-lt : {u d : ℕ} {e : Tuple} (v : ℕ) → TupleOf u d e → v < d → portOf e v < u
+pub port-of-lt : {u d : ℕ} {e : Tuple} (v : ℕ) → TupleOf u d e → v < d → portOf e v < u
 unfolding portOf
 port-of-lt v empty l = absurd (omega arith)
 port-of-lt {u = u} v (more {d = d} {p = p} {e = e} k t) l = go (ℕ-discrete v (length e)) (λ m. port-of-lt v t m)

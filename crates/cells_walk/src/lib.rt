@@ -85,7 +85,7 @@ pub fn kind_at(table: &[u8], i: usize) -> u8
 }
 
 // The port of a variable: eight bits each, the outermost variable lowest.
-fn port_at(digits: u32, variable: u8) -> u32
+pub fn port_at(digits: u32, variable: u8) -> u32
     requires { ⌜ variable ≤ 2 ⌝ }
     ensures { λ r. ⌜ (r ≡ digits / 256 ^ variable % 256) × (r ≤ 255) ⌝ }
 {
