@@ -74,11 +74,8 @@ fn literal_row(
     let b = b_of(part);
     if kind == 8 {
         let size = size_at(sizes, a);
-        fill_row(
-            literal_penalty(kind, relation_of(part), false, size, b as u32),
-            count,
-            out,
-        );
+        let value = literal_penalty(kind, relation_of(part), false, size, b as u32);
+        fill_row(value, count, out);
         return;
     }
     member_row(kind, a, mask_at(masks, b as usize), count, own, digits, out);
