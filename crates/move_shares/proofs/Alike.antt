@@ -145,13 +145,10 @@ module _ (Q : ℕ → ℕ → ℕ → Type 0) (start : Q 0 0 0) (step : (a b c x
   tuples-kept : Q (overTuples u d f []) (overTuples u d g []) (overTuples u d h [])
   tuples-kept = kept-from d 0 [] (omega arith) empty
 
--- terms that are equal modulo 2^32, and sums of two terms
+-- terms that are equal modulo 2^32, and terms that are 0
 pub tuples-mod : (u : ℕ) (g h : Tuple → ℕ) (d : ℕ) → ((x : Tuple) → TupleOf u d x → g x % modulus ≡ h x % modulus)
     → overTuples u d g [] % modulus ≡ overTuples u d h [] % modulus
 tuples-mod u g h d H = tuples-kept (λ x y z. x % modulus ≡ y % modulus) refl (λ a b c x y z i j. sum-mod a b x y i j) u g h h d H
-
-pub tuples-sum : (u : ℕ) (g h : Tuple → ℕ) (d : ℕ) → overTuples u d (λ x. g x + h x) [] ≡ overTuples u d g [] + overTuples u d h []
-tuples-sum u g h d = tuples-kept (λ x y z. x ≡ y + z) refl (λ a b c x y z i j. omega arith) u (λ x. g x + h x) g h d (λ x w. refl)
 
 none-mod : (a x : ℕ) → a % modulus ≡ 0 → x % modulus ≡ 0 → (a + x) % modulus ≡ 0
 unfolding modulus

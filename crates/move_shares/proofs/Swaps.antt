@@ -11,28 +11,28 @@ use lib.Dec.{eqb}
 use lib.ListN.{length, getD}
 use borrow.Author.Tests.{eqb-true, eq-eqb, ne-eqb, lt-leb, not-true}
 use Rattle.logic.specs.declared.Move.{Move}
-use Rattle.logic.specs.Formula.{Relation, lt, le, eq, ne, ge, gt, Test, isin, notin, port, size, Node, root, all, any, and, or, lit, Forest, none, tree, childDepth, Plan}
-use Rattle.logic.specs.inner.Literals.{Every, OfLiteral, OfTest}
+use Rattle.logic.specs.Formula.{Node, Forest, none, tree, Plan}
 use Rattle.logic.specs.Configuration.{Sets, Configuration, indicator, portsIn, outOfTest, configured, configuration, inMask, inMasks, ownMasks, spelled}
 use Rattle.logic.specs.Truth.{Tuple, portOf}
-use Rattle.logic.specs.Penalty.{sizePenalty, testPenalty, literalPenalty}
 use Rattle.logic.specs.Moves.{Pair, moveKind, fieldsFit, fits, known, legal, kindPairs, namedPairs, movePairs, flip, flips}
 use Rattle.logic.specs.Change.{someOf, memberHit, pairsChange, modulus, cellOf, newCell}
-use Rattle.logic.proofs.Lists.{TupleOf, or-false, and-false, and-left, and-right, indicator-le}
+use Rattle.logic.proofs.Lists.{TupleOf, or-false, and-false, and-left, and-right}
 use Rattle.logic.proofs.Tables.{length-tuple}
 use Rattle.logic.proofs.Touched.{PortsBelow}
-use Rattle.logic.proofs.Bound.{LiteralsAtMost, sizes-64}
+use Rattle.logic.proofs.Bound.{sizes-64}
 use Rattle.logic.proofs.Moves.{PairsKnown, known-pairs, move-spells, flips-in-test}
 use Rattle.table_format.specs.inner.Index.{forestUses}
-use Rattle.cells_walk.specs.inner.Nodes.{TestFits, Fitting}
 use Rattle.cells_walk.specs.inner.Visit.{CellsFit}
 use Rattle.cells_atoms.specs.inner.Atoms.{overTuples, difference}
 use Rattle.cells_atoms.proofs.Atoms.{new-cell-fits, difference-is}
+use Rattle.cells_atoms.proofs.Tuples.{tuples-two}
 use Rattle.cells_flip.specs.inner.Flips.{Flat}
 use Rattle.cells_ports.specs.inner.Ports.{resizedBy, flippedBy}
 use Rattle.move_shares.specs.inner.Shares.{configurationAfter, changeBy, shareOf, entering, leaving, exchanged, Outcome, changing, sizedAs, pairsOf, resizing, flipping, resizedTo, flippedTo, resizedShare, flippedShare, SizesAre, ShareReady, TreeReady, crosses}
-use Rattle.move_shares.proofs.Alike.{Here, flat-alike, tuples-mod, tuples-sum}
+use Rattle.move_shares.proofs.Alike.{Here, flat-alike, tuples-mod}
+use Rattle.move_shares.proofs.OfKinds.{literals-most}
 use Rattle.move_shares.proofs.Unused.{pairs-below}
+use Rattle.move_shares.proofs.Words.{proper-one, sized-low}
 
 -- a set that no two variables test is tested by one
 one-variable : (used S : ℕ) → crosses used S ≡ false → (w : ℕ) × ((v : ℕ) → v < 3 → inMask used (4 * S + v) ≡ true → v ≡ w)
@@ -88,7 +88,7 @@ unfolding portsIn
 ports-same zero g h H = refl
 ports-same (suc u) g h H = omega (arith, ports-same u g h (λ z l. H z (omega arith)), ap indicator (H u (omega arith)))
 
-pub ports-changed : (u : ℕ) (g h : ℕ → Bool) (p : ℕ) → p < u → ((z : ℕ) → z ≢ p → g z ≡ h z) → portsIn u g + indicator (h p) ≡ portsIn u h + indicator (g p)
+ports-changed : (u : ℕ) (g h : ℕ → Bool) (p : ℕ) → p < u → ((z : ℕ) → z ≢ p → g z ≡ h z) → portsIn u g + indicator (h p) ≡ portsIn u h + indicator (g p)
 unfolding portsIn
 ports-changed zero g h p l H = absurd (omega arith)
 ports-changed (suc u) g h p l H = go (ℕ-discrete p u) (λ i. ports-changed u g h p i H)
@@ -124,41 +124,6 @@ exchange-low test p q = go (inMask test p) (inMask test q)
     go true false = omega arith
     go false true = omega arith
     go false false = omega arith
-
--- Sizes at most 65 and constants at most 64: no literal's penalty is above 66.
-indicator-66 : (b : Bool) → indicator b ≤ 66
-indicator-66 b = omega (arith, indicator-le b)
-
-size-66 : (r : Relation) (s c : ℕ) → s ≤ 65 → c ≤ 64 → sizePenalty r s c ≤ 66
-unfolding sizePenalty
-size-66 lt s c h i = omega arith
-size-66 le s c h i = omega arith
-size-66 eq s c h i = omega arith
-size-66 ne s c h i = indicator-66 _
-size-66 ge s c h i = omega arith
-size-66 gt s c h i = omega arith
-
-module _ (k : Configuration) (sets : ℕ) (low : (S : ℕ) → S < sets → k .size S ≤ 65) where
-  test-66 : (t : Test) (d : ℕ) → TestFits sets d t → (e : Tuple) → testPenalty k t e ≤ 66
-  unfolding testPenalty TestFits
-  test-66 (isin v S) d h e = indicator-66 _
-  test-66 (notin v S) d h e = indicator-66 _
-  test-66 (port r v w) d h e = indicator-66 _
-  test-66 (size r S c) d h e = size-66 r _ c (low S (h .0)) (h .1)
-
-  node-66 : (n : Node) (d : ℕ) → OfTest (TestFits sets d) n → OfLiteral (λ l. (e : Tuple) → literalPenalty k l e ≤ 66) n
-  unfolding OfLiteral literalPenalty
-  node-66 root d h = tt
-  node-66 all d h = tt
-  node-66 any d h = tt
-  node-66 and d h = tt
-  node-66 or d h = tt
-  node-66 (lit l) d h = test-66 (l .test) d h
-
-  pub literals-66 : (f : Forest) (d : ℕ) → Fitting sets f d → LiteralsAtMost 66 k f d
-  unfolding LiteralsAtMost Fitting Every
-  literals-66 none d h = tt
-  literals-66 (tree n c s) d h = (node-66 n d (h .0 .literal), literals-66 c (childDepth n d) (h .1), literals-66 s d (h .2))
 
 -- new less old, by way of the resizing: the flip at one port is the whole change, and at the other nothing
 by-flips : (new old base one other : ℕ) → base < modulus → new ≡ one → other ≡ base
@@ -299,14 +264,10 @@ module _ (P : Plan) (own before sizes : List ℕ) (ready : ShareReady P own befo
 
   -- sizes that are at most 65, so numbers that fit
   size-low : (S : ℕ) → S < P .sets → sizedAs sizes zs S ≤ 65
-  unfolding sizedAs SizesAre spelled configuration
+  unfolding SizesAre spelled configuration
   size-low S l =
-      let h : getD sizes S 0 ≤ 64 = omega (arith, ready .sizes-are S l, sizes-64 u (P .sets) (inMasks own) (ready .settled .ports64) S) in
-      go (eqb S s) h
-    where
-      go : (a : Bool) → getD sizes S 0 ≤ 64 → cond a (getD sizes S 0 + exchanged test p q - 1) (getD sizes S 0) ≤ 65
-      go true h = omega (arith, exchange-low test p q)
-      go false h = omega arith
+      sized-low sizes zs (proper-one s (exchanged test p q) (exchange-low test p q)) S
+      (rw (ready .sizes-are S l) (sizes-64 u (P .sets) (inMasks own) (ready .settled .ports64) S))
 
   cells-low : (x : ℕ) (e : Tuple) → cellOf u before x e < modulus
   unfolding cellOf CellsFit
@@ -316,7 +277,7 @@ module _ (P : Plan) (own before sizes : List ℕ) (ready : ShareReady P own befo
   unfolding resizedTo modulus
   resized-fits e =
       new-cell-fits u (resizedTo own sizes zs) (resizing zs) (cellOf u before) cells-low 66 (omega arith) n c b d e
-      (literals-66 (resizedTo own sizes zs) (P .sets) size-low (tree n c none) d (stands .fitting))
+      (literals-most (P .sets) (resizedTo own sizes zs) size-low (tree n c none) d (stands .fitting))
 
   abbrev parts : Tuple → ℕ
   parts e =
@@ -343,9 +304,9 @@ module _ (P : Plan) (own before sizes : List ℕ) (ready : ShareReady P own befo
   swap-share h =
       tuples-mod u (difference u after (pairsChange qs) (cellOf u before) n c b d) parts d (swap-cell h)
       ∙ ap (λ (x : ℕ). x % modulus)
-      (tuples-sum u (λ e. resizedNew e + (modulus - cellOf u before b e) + (flippedNew p e + (modulus - resizedNew e))) (λ e. flippedNew q e + (modulus - resizedNew e)) d
+      (tuples-two u d (λ e. resizedNew e + (modulus - cellOf u before b e) + (flippedNew p e + (modulus - resizedNew e))) (λ e. flippedNew q e + (modulus - resizedNew e)) []
       ∙ ap (λ (x : ℕ). x + overTuples u d (λ e. flippedNew q e + (modulus - resizedNew e)) [])
-      (tuples-sum u (λ e. resizedNew e + (modulus - cellOf u before b e)) (λ e. flippedNew p e + (modulus - resizedNew e)) d))
+      (tuples-two u d (λ e. resizedNew e + (modulus - cellOf u before b e)) (λ e. flippedNew p e + (modulus - resizedNew e)) []))
 
 -- the pairs of a swap, and what its rule says of them
 swap-pairs : (P : Plan) (k : Sets) (m : Move) → m .kind ≡ 4 → movePairs P k m ≡ (m .s, m .p) ∷ (m .s, m .q) ∷ []

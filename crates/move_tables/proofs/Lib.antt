@@ -1,3 +1,4 @@
 -- Laws.
 mod Crossing
 mod Flat
+mod Taking
