@@ -35,12 +35,12 @@ use Rattle.move_shares.specs.inner.Shares.{configurationAfter, changeBy,
 use Rattle.move_shares.proofs.Words.{Proper, proper-one, proper-two, flips-are, sized-low}
 
 -- Sets that differ at one port only.
-ports-same : (u : ℕ) (s s′ : ℕ → Bool) → ((q : ℕ) → q < u → s′ q ≡ s q) → portsIn u s′ ≡ portsIn u s
+pub ports-same : (u : ℕ) (s s′ : ℕ → Bool) → ((q : ℕ) → q < u → s′ q ≡ s q) → portsIn u s′ ≡ portsIn u s
 unfolding portsIn
 ports-same zero s s′ H = refl
 ports-same (suc u) s s′ H = omega (arith, ports-same u s s′ (λ q l. H q (omega arith)), ap indicator (H u (omega arith)))
 
-ports-but-one : (u : ℕ) (s s′ : ℕ → Bool) (p : ℕ) → p < u → ((q : ℕ) → q ≢ p → s′ q ≡ s q) → portsIn u s′ + indicator (s p) ≡ portsIn u s + indicator (s′ p)
+pub ports-but-one : (u : ℕ) (s s′ : ℕ → Bool) (p : ℕ) → p < u → ((q : ℕ) → q ≢ p → s′ q ≡ s q) → portsIn u s′ + indicator (s p) ≡ portsIn u s + indicator (s′ p)
 unfolding portsIn
 ports-but-one zero s s′ p l H = absurd (omega arith)
 ports-but-one (suc u) s s′ p l H = go (ℕ-discrete p u) (λ i. ports-but-one u s s′ p i H)
