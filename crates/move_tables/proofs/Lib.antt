@@ -1,4 +1,6 @@
 -- Laws.
 mod Crossing
 mod Flat
-mod Taking
+pub mod Standing
+mod Steps
+pub mod Taking

@@ -4,7 +4,7 @@ use mathlib.Core.Logic.{_≢_}
 use mathlib.Core.Bool.{Bool, true, false, _&&_}
 use mathlib.Core.List.{List}
 use Prim.Native.Nat.{ℕ, suc, _+_, _*_, _%_, _≤_, _<_}
-use lib.Dec.{leb}
+use lib.Dec.{eqb, leb, ltb}
 use lib.ListN.{length, getD}
 use Rattle.logic.specs.declared.Move.{Move}
 use Rattle.logic.specs.Formula.{Node, Forest, none, tree, Plan, nodeCount}
@@ -14,7 +14,7 @@ use Rattle.logic.specs.Moves.{legal}
 use Rattle.logic.specs.Change.{modulus}
 use Rattle.table_format.specs.Bytes.{recordLength, kindField, recordsOf, recordAt}
 use Rattle.cells_walk.specs.inner.Nodes.{IndexHolds, Fitting}
-use Rattle.cells_atoms.specs.inner.Atoms.{isAtom, ofAtoms, AllRegular}
+use Rattle.cells_atoms.specs.inner.Atoms.{ofAtoms, AllRegular}
 use Rattle.move_shares.specs.inner.Shares.{shareOf, ShareReady, crosses}
 use Rattle.move_slots.specs.inner.Slots.{moveRead, told}
 use Rattle.move_tables.specs.declared.Left.{Left}
@@ -26,6 +26,10 @@ NoneBinds bytes i until = (j : ℕ) → i ≤ j → j < until → (leb 1 (kindFi
 -- The sets that a word of uses tests by more than one variable have the lowest of their four bits.
 unfoldable pub Crossed : ℕ → ℕ → Type 0
 Crossed used word = (S : ℕ) → S < 16 → inMask word (4 * S) ≡ crosses used S
+
+-- Whether a node of a kind is a sum, "and" or for all: atoms stand below it.
+unfoldable pub isSum : ℕ → Bool
+isSum kind = ltb kind 5 && eqb (kind % 2) 1
 
 -- A plan with its sizes.
 pub record PlanGiven (u sets : ℕ) (masks sizes cells : List ℕ) (P : Plan) : Type 0 where
@@ -66,7 +70,7 @@ pub record TakeReady (u sets : ℕ) (bytes firsts ends uses masks sizes cells : 
   pub first : ℕ
   pub given : PlanGiven u sets masks sizes cells plan
   pub stands : ForestStands u sets bytes firsts ends uses cells i (tree node children siblings) first d
-  pub is-atom : atom ≡ true → isAtom node ≡ true
+  pub is-atom : atom ≡ true → isSum (kindField (recordAt bytes i)) ≡ false
   pub room : TableRoom mine own one still joint
 
 unfoldable pub TakesTree : ℕ → ℕ → List ℕ → List ℕ → List ℕ → List ℕ → List ℕ → List ℕ → List ℕ → ℕ → ℕ → Bool → List ℕ → List ℕ → List ℕ → Left → List ℕ → List ℕ → List ℕ → Left → Type 0
