@@ -34,7 +34,7 @@ abbrev flipAt : List ℕ → ℕ → Change
 flipAt ss x = record { pairs = pairsAt ss x; resized = λ S. false }
 
 -- a sum over the ports of which only one counts
-one-port : (u : ℕ) (f : ℕ → ℕ) (x : ℕ) → x < u → ((z : ℕ) → z ≢ x → f z ≡ 0) → sum (eachPort u (λ z. f z ∷ [])) ≡ f x
+pub one-port : (u : ℕ) (f : ℕ → ℕ) (x : ℕ) → x < u → ((z : ℕ) → z ≢ x → f z ≡ 0) → sum (eachPort u (λ z. f z ∷ [])) ≡ f x
 one-port zero f x l H = absurd (omega arith)
 one-port (suc u) f x l H = sum-port u f ∙ go (ℕ-discrete x u) (λ i. one-port u f x i H)
   where

@@ -107,7 +107,7 @@ module _ {u sets : ℕ} {bytes firsts ends uses cells : List ℕ} {i : ℕ} {n :
         let l : count - 1 < count = omega arith in
         omega (arith, v .room, node-here .first-is, v .line .places (count - 1) l, place-lt u u1 (v .line .tuples (count - 1) l))
 
-  old-here : (from : ℕ) (old : List ℕ) → from ≡ getD firsts i 0 + row → old ≡ drop from cells → (x : ℕ) → x < count → getD old x 0 ≡ cellOf u cells b (at x)
+  pub old-here : (from : ℕ) (old : List ℕ) → from ≡ getD firsts i 0 + row → old ≡ drop from cells → (x : ℕ) → x < count → getD old x 0 ≡ cellOf u cells b (at x)
   unfolding cellOf
   old-here from old q p x l =
       ap (λ (ys : List ℕ). getD ys x 0) p ∙ getD-drop from cells x 0

@@ -1,1 +1,3 @@
 -- Laws.
+pub mod Adding
+pub mod Words

@@ -93,7 +93,7 @@ others-table (suc zero) h = refl
 others-table (suc (suc zero)) h = refl
 others-table (suc (suc (suc d))) h = absurd (omega arith)
 
-in-level : (d S v : ℕ) → d < 3 → S < 16 → v < 4 → inMask (level d) (4 * S + v) ≡ eqb v d
+pub in-level : (d S v : ℕ) → d < 3 → S < 16 → v < 4 → inMask (level d) (4 * S + v) ≡ eqb v d
 in-level d S v h k l =
     same-true _ _ (every-place 64 (λ j. same (inMask (level d) j) (eqb (j % 4) d)) (level-table d h) (4 * S + v) (omega arith))
     ∙ ap (λ (x : ℕ). eqb x d) (let e : (4 * S + v) % 4 ≡ v = omega arith in e)

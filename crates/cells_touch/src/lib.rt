@@ -24,7 +24,7 @@ pub fn meet(uses: u64, word: u64) -> bool
 }
 
 // The bit of variable `depth` in every set, of its four.
-fn level_of(depth: usize) -> u64
+pub fn level_of(depth: usize) -> u64
     ensures { λ r. ⌜ r ≡ level depth ⌝ }
 {
     0x1111111111111111u64 << (depth % 4)
