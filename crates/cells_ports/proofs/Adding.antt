@@ -13,11 +13,9 @@ use lib.ListN.{length, getD, set, drop}
 use lib.Seq.{getD-set-same, getD-set-other, getD-drop}
 use borrow.Author.Tests.{eq-eqb, ne-eqb, eqb-true, ltb-true, lt-ltb}
 use Rattle.logic.specs.Formula.{Node, Forest, tree}
-use Rattle.logic.specs.inner.Literals.{Every}
 use Rattle.logic.specs.Configuration.{Configuration}
-use Rattle.logic.specs.Truth.{Tuple, portOf}
+use Rattle.logic.specs.Truth.{Tuple}
 use Rattle.logic.specs.Penalty.{sum, eachPort}
-use Rattle.logic.specs.Cells.{placeOf}
 use Rattle.logic.specs.Change.{Change, modulus, cellOf, newCell}
 use Rattle.logic.proofs.Lists.{and-left, and-right, and-true}
 use Rattle.cells_sum.specs.inner.Walk.{taken, gathered}
@@ -32,7 +30,7 @@ use Rattle.cells_atoms.proofs.Over.{sum-mod, ports-mod, ports-zero}
 use Rattle.cells_atoms.proofs.Rows.{one-port}
 use Rattle.cells_flip.specs.inner.Flips.{Flipped, FlipVisit, FlipSettled, FlipGives}
 use Rattle.cells_flip.proofs.Flipping.{old-here, gives-kept}
-use Rattle.cells_ports.specs.inner.Ports.{Words, Resizes, FlipsAt, resizedBy, flippedBy, RowPortsAre, RowPortsGive}
+use Rattle.cells_ports.specs.inner.Ports.{Words, Resizes, resizedBy, flippedBy, RowPortsGive}
 use Rattle.cells_ports.specs.inner.Rows.{digit, levelIf, portLevels, testsOutside, PortRowGives, FlipAdds, OwnGives, OuterGives, OverGives}
 use Rattle.cells_ports.proofs.Words.{resizes-word, outer-word, both-word, outer-alone, own-word, other-word, no-word}
 

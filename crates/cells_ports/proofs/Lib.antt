@@ -1,3 +1,4 @@
 -- Laws.
 pub mod Adding
+pub mod Steps
 pub mod Words

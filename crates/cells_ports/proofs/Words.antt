@@ -11,7 +11,7 @@ use lib.Dec.{eqb, ltb}
 use lib.ListN.{getD}
 use borrow.Author.Tests.{eq-eqb, ne-eqb, eqb-true, lt-ltb, ltb-true}
 use Rattle.logic.specs.Formula.{Test, isin, notin, port, size, Node, root, all, any, and, or, lit, Forest, none, tree, childDepth}
-use Rattle.logic.specs.inner.Literals.{Every, OfLiteral, OfTest}
+use Rattle.logic.specs.inner.Literals.{Every, OfLiteral}
 use Rattle.logic.specs.Configuration.{inMask}
 use Rattle.logic.specs.Truth.{Tuple, portOf}
 use Rattle.logic.specs.Change.{Change}
@@ -20,7 +20,7 @@ use Rattle.table_format.specs.inner.Index.{testUses, nodeUses, forestUses}
 use Rattle.cells_touch.specs.inner.Hits.{meets, level}
 use Rattle.cells_touch.proofs.Bits.{in-and, in-or, in-zero, in-power, bit-meets}
 use Rattle.cells_touch.proofs.Touching.{in-level}
-use Rattle.cells_walk.specs.inner.Nodes.{NodeIs, IndexHolds, TestFits, NodeFits, Fitting}
+use Rattle.cells_walk.specs.inner.Nodes.{IndexHolds, TestFits, NodeFits, Fitting}
 use Rattle.cells_atoms.specs.inner.Ports.{atOne}
 use Rattle.cells_atoms.proofs.Alike.{or-none}
 use Rattle.cells_flip.specs.inner.Flips.{WordFor, Flat, FlipVisit}
@@ -37,7 +37,7 @@ in-level-if d digits x v S w h k l = go (ltb v d && eqb (digit digits v) x)
     go true = in-level v S w h k l
     go false = in-zero (4 * S + w)
 
-not-below : (v d : ℕ) → d ≤ v → ltb v d ≡ false
+pub not-below : (v d : ℕ) → d ≤ v → ltb v d ≡ false
 not-below v d h = go (ltb v d) refl
   where
     go : (b : Bool) → ltb v d ≡ b → b ≡ false
