@@ -5,6 +5,11 @@ use Rattle.cells_ports.proofs.Adding.{over-all}
 use borrow.Author.Needs.{needs}
 use Rattle.cells_ports.proofs.add_ports.Statement.{statement}
 use Rattle.cells_ports.proofs.add_ports.Tie as tie
+use Rattle.cells_ports.proofs.add_ports.Reads as reads
+use Rattle.cells_ports.proofs.add_ports.Lts as lts
+use Rattle.cells_ports.proofs.outer_port.Reads as outer-port-reads
+use Rattle.cells_ports.proofs.own_ports.Reads as own-ports-reads
+use Rattle.cells_ports.proofs.start_at.Reads as start-at-reads
 
 start-at-requires : tie.Need-start-at-requires
 start-at-requires c κs =
@@ -15,7 +20,8 @@ start-at-requires-2 c κs =
     (omega arith, λ l. omega (arith, port-low _ _ _ _ _ _ _ _ _ _ _ _ _ _ _ (c .before .before .before .before .before .before .before .before .pre .ready) 1 _ l refl, c .before .before .before .before .before .before .before .before .pre .ready .room))
 
 own-ports-requires : tie.Need-own-ports-requires
-own-ports-requires c κs = search needs
+own-ports-requires c κs =
+    c .before .before .before .before .before .before .before .before .before .before .pre
 
 outer-port-requires : tie.Need-outer-port-requires
 outer-port-requires c κs =

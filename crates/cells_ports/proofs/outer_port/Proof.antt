@@ -5,6 +5,16 @@ use Rattle.cells_ports.proofs.Steps.{ports-low, node-low, again, port-l
 use borrow.Author.Needs.{needs}
 use Rattle.cells_ports.proofs.outer_port.Statement.{statement}
 use Rattle.cells_ports.proofs.outer_port.Tie as tie
+use Rattle.cells_ports.proofs.outer_port.Reads as reads
+use Rattle.cells_ports.proofs.outer_port.Lts as lts
+use Rattle.cells_ports.proofs.port_levels.Reads as port-levels-reads
+use Rattle.cells_ports.proofs.port_row.Reads as port-row-reads
+use Rattle.cells_row.proofs.gather_row.Reads as gather-row-reads
+use Rattle.cells_row.proofs.put_port.Reads as put-port-reads
+use Rattle.cells_touch.proofs.meet.Reads as meet-reads
+use Rattle.cells_walk.proofs.port_at.Reads as port-at-reads
+use Rattle.cells_walk.proofs.uses_at.Reads as uses-at-reads
+use Rattle.logic.proofs.wide.Reads as wide-reads
 
 port-at-requires : tie.Need-port-at-requires
 port-at-requires c κs = search needs
@@ -27,7 +37,7 @@ slice-aggregate-port-row c = search needs
 
 port-row-requires : tie.Need-port-row-requires
 port-row-requires c κs =
-    (again _ _ _ _ _ _ _ _ _ _ _ _ _ _ _ (c .before .before .before .before .before .before .before .before .before .before .before .before .before .pre .0 .ready) _ (search needs), port-low _ _ _ _ _ _ _ _ _ _ _ _ _ _ _ (c .before .before .before .before .before .before .before .before .before .before .before .before .before .pre .0 .ready) _ _ (c .before .before .before .before .before .before .before .if1 .taken) (c .before .before .before .before .before .wide .ensures .0 ∙ c .before .before .before .before .before .before .port-at .ensures .0))
+    (again _ _ _ _ _ _ _ _ _ _ _ _ _ _ _ (c .before .before .before .before .before .before .before .before .before .before .before .before .before .pre .0 .ready) _ (omega (arith, ports-low _ _ _ _ _ _ _ _ _ _ _ _ _ _ _ (c .before .before .before .before .before .before .before .before .before .before .before .before .before .pre .0 .ready))), port-low _ _ _ _ _ _ _ _ _ _ _ _ _ _ _ (c .before .before .before .before .before .before .before .before .before .before .before .before .before .pre .0 .ready) _ _ (c .before .before .before .before .before .before .before .if1 .taken) (c .before .before .before .before .before .wide .ensures .0 ∙ c .before .before .before .before .before .before .port-at .ensures .0))
 
 slice-aggregate-gather-row : tie.Need-slice-aggregate-gather-row
 slice-aggregate-gather-row c = search needs

@@ -1,10 +1,17 @@
 use mathlib.Core.Path.{sym, _∙_}
 use native.Mathlib.Omega.{arith}
 use Rattle.logic.specs.Change.{modulus}
-use Rattle.cells_ports.proofs.Steps.{depth-low, node-low, own-tested, own-untested}
+use Rattle.cells_ports.proofs.Steps.{ports-low, depth-low, node-low, flip-ready, own-tested, own-untested}
 use borrow.Author.Needs.{needs}
 use Rattle.cells_ports.proofs.own_ports.Statement.{statement}
 use Rattle.cells_ports.proofs.own_ports.Tie as tie
+use Rattle.cells_ports.proofs.own_ports.Reads as reads
+use Rattle.cells_ports.proofs.own_ports.Lts as lts
+use Rattle.cells_flip.proofs.flip_row.Reads as flip-row-reads
+use Rattle.cells_row.proofs.join_row.Reads as join-row-reads
+use Rattle.cells_touch.proofs.level_of.Reads as level-of-reads
+use Rattle.cells_touch.proofs.meet.Reads as meet-reads
+use Rattle.cells_walk.proofs.uses_at.Reads as uses-at-reads
 
 level-of-requires : tie.Need-level-of-requires
 level-of-requires c κs = search needs
@@ -24,13 +31,15 @@ slice-aggregate-flip-row : tie.Need-slice-aggregate-flip-row
 slice-aggregate-flip-row c = search needs
 
 flip-row-requires : tie.Need-flip-row-requires
-flip-row-requires c κs = search needs
+flip-row-requires c κs =
+    flip-ready _ _ _ _ _ _ _ _ _ _ _ _ _ _ _ (c .before .before .before .before .before .before .before .before .before .before .pre .ready) _ (omega (arith, ports-low _ _ _ _ _ _ _ _ _ _ _ _ _ _ _ (c .before .before .before .before .before .before .before .before .before .before .pre .ready)))
 
 slice-aggregate-join-row : tie.Need-slice-aggregate-join-row
 slice-aggregate-join-row c = search needs
 
 join-row-requires : tie.Need-join-row-requires
-join-row-requires c κs = search needs
+join-row-requires c κs =
+    (omega (arith, ports-low _ _ _ _ _ _ _ _ _ _ _ _ _ _ _ (c .before .before .before .before .before .before .before .before .before .before .before .before .before .before .pre .ready), c .before .before .before .flip-row .kept), c .before .before .before .before .before .before .before .before .before .before .before .before .before .before .pre .base-room, c .before .before .before .before .before .before .before .before .before .before .before .before .before .before .pre .ready .room)
 
 same-length : tie.Need-same-length
 same-length c = search needs

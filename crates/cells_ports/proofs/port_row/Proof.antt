@@ -1,9 +1,17 @@
 use mathlib.Core.Path.{sym, _∙_}
 use native.Mathlib.Omega.{arith}
-use Rattle.cells_ports.proofs.Steps.{ports-low, depth-low, node-low, both-rows, one-row}
+use Rattle.cells_ports.proofs.Steps.{ports-low, depth-low, node-low, flip-ready, both-rows, one-row}
 use borrow.Author.Needs.{needs}
 use Rattle.cells_ports.proofs.port_row.Statement.{statement}
 use Rattle.cells_ports.proofs.port_row.Tie as tie
+use Rattle.cells_ports.proofs.port_row.Reads as reads
+use Rattle.cells_ports.proofs.port_row.Lts as lts
+use Rattle.cells_flip.proofs.flip_row.Reads as flip-row-reads
+use Rattle.cells_ports.proofs.port_levels.Reads as port-levels-reads
+use Rattle.cells_row.proofs.put_port.Reads as put-port-reads
+use Rattle.cells_touch.proofs.level_of.Reads as level-of-reads
+use Rattle.cells_touch.proofs.meet.Reads as meet-reads
+use Rattle.cells_walk.proofs.uses_at.Reads as uses-at-reads
 
 port-levels-requires : tie.Need-port-levels-requires
 port-levels-requires c κs = search needs
@@ -16,7 +24,8 @@ cast-flip-row c =
     omega (arith, depth-low _ _ _ _ _ _ _ _ _ _ _ _ _ _ _ (c .before .before .before .before .before .before .pre .0))
 
 flip-row-requires : tie.Need-flip-row-requires
-flip-row-requires c κs = search needs
+flip-row-requires c κs =
+    flip-ready _ _ _ _ _ _ _ _ _ _ _ _ _ _ _ (c .before .before .before .before .before .before .before .pre .0) _ (c .before .before .before .before .before .before .before .pre .0 .room)
 
 uses-at-requires : tie.Need-uses-at-requires
 uses-at-requires c κs =
@@ -33,7 +42,8 @@ slice-aggregate-flip-row : tie.Need-slice-aggregate-flip-row
 slice-aggregate-flip-row c = search needs
 
 flip-row-requires-2 : tie.Need-flip-row-requires-2
-flip-row-requires-2 c κs = search needs
+flip-row-requires-2 c κs =
+    flip-ready _ _ _ _ _ _ _ _ _ _ _ _ _ _ _ (c .before .before .before .before .before .before .before .before .before .before .before .before .before .before .pre .0) _ (omega (arith, ports-low _ _ _ _ _ _ _ _ _ _ _ _ _ _ _ (c .before .before .before .before .before .before .before .before .before .before .before .before .before .before .pre .0)))
 
 mul-put-port : tie.Need-mul-put-port
 mul-put-port c =

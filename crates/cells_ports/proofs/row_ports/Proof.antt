@@ -3,11 +3,20 @@ use Prim.Native.Nat.{ℕ}
 use native.Mathlib.Omega.{arith}
 use borrow.Author.Tests.{not-true}
 use Rattle.cells_touch.specs.inner.Hits.{meets}
-use Rattle.cells_ports.proofs.Steps.{ports-low, depth-low, node-low, place-ready, from-low, old-room}
+use Rattle.cells_ports.proofs.Steps.{ports-low, depth-low, flip-ready, node-low, place-ready, from-low, old-room}
 use Rattle.cells_ports.proofs.Adding.{kept-gives, row-resized, row-kept}
 use borrow.Author.Needs.{needs}
 use Rattle.cells_ports.proofs.row_ports.Statement.{statement}
 use Rattle.cells_ports.proofs.row_ports.Tie as tie
+use Rattle.cells_ports.proofs.row_ports.Reads as reads
+use Rattle.cells_ports.proofs.row_ports.Lts as lts
+use Rattle.cells_flip.proofs.flip_row.Reads as flip-row-reads
+use Rattle.cells_ports.proofs.add_ports.Reads as add-ports-reads
+use Rattle.cells_row.proofs.cells_from.Reads as cells-from-reads
+use Rattle.cells_row.proofs.gather_row.Reads as gather-row-reads
+use Rattle.cells_touch.proofs.meet.Reads as meet-reads
+use Rattle.cells_walk.proofs.place_at.Reads as place-at-reads
+use Rattle.cells_walk.proofs.uses_at.Reads as uses-at-reads
 
 place-at-requires : tie.Need-place-at-requires
 place-at-requires c κs =
@@ -43,7 +52,8 @@ slice-aggregate-flip-row : tie.Need-slice-aggregate-flip-row
 slice-aggregate-flip-row c = search needs
 
 flip-row-requires : tie.Need-flip-row-requires
-flip-row-requires c κs = search needs
+flip-row-requires c κs =
+    flip-ready _ _ _ _ _ _ _ _ _ _ _ _ _ _ _ (c .before .before .before .before .before .before .before .before .before .before .pre) _ (omega (arith, ports-low _ _ _ _ _ _ _ _ _ _ _ _ _ _ _ (c .before .before .before .before .before .before .before .before .before .before .pre)))
 
 slice-aggregate-add-ports : tie.Need-slice-aggregate-add-ports
 slice-aggregate-add-ports c = search needs
