@@ -1,15 +1,16 @@
 -- Sums over atoms, atom by atom, each over all its tuples, and these row by row. Assumes nothing.
-use mathlib.Core.Path.{_≡_, refl, ap, ap₂, _∙_}
+use mathlib.Core.Path.{_≡_, refl, sym, ap, ap₂, _∙_}
 use mathlib.Core.Bool.{Bool, true, false, cond}
 use mathlib.Core.List.{[], _∷_}
 use Prim.Native.Nat.{ℕ, zero, suc, _+_, _^_, _%_}
+use native.Mathlib.Nat.{pow-zero}
 use native.Mathlib.Omega.{arith}
 use Rattle.logic.specs.Formula.{Node, root, all, any, and, or, lit, Forest, none, tree, childDepth}
 use Rattle.logic.specs.Truth.{Tuple}
 use Rattle.logic.specs.Penalty.{sum, eachPort, below}
-use Rattle.logic.specs.Cells.{CellRule, siblingFirst}
+use Rattle.logic.specs.Cells.{tupleAt, CellRule, siblingFirst}
 use Rattle.logic.specs.Change.{modulus}
-use Rattle.cells_walk.proofs.Count.{single}
+use Rattle.cells_walk.proofs.Count.{total, total-none, total-next, single, ports-total}
 use Rattle.cells_atoms.specs.inner.Atoms.{isAtom, overAtoms, ofAtoms, overTuples}
 use Rattle.cells_atoms.proofs.Over.{ports-kept, ports-mod}
 
@@ -35,6 +36,15 @@ module _ (u : ℕ) where
   unfolding overTuples
   tuples-rows zero h e = refl
   tuples-rows (suc m) h e = ports-kept (λ x y z. x ≡ y) refl (λ a b c x y z i j. ap₂ _+_ i j) u _ _ (λ p. 0) (λ p l. tuples-rows m h (p ∷ e))
+
+  -- by the tuples' numbers
+  tuples-total : (m : ℕ) (h : Tuple → ℕ) → overTuples u m h [] ≡ total (u ^ m) (λ i. h (tupleAt u m i))
+  unfolding overTuples tupleAt
+  tuples-total zero h = rw pow-zero (omega (arith, total-none (λ i. h []), total-next 0 (λ i. h [])))
+  tuples-total (suc m) h = sym (tuples-rows m h []) ∙ tuples-total m (λ x. sum (eachPort u (λ p. h (p ∷ x) ∷ []))) ∙ ports-total u m h
+
+  pub rows-total : (m : ℕ) (h : Tuple → ℕ) → overTuples u (suc m) h [] ≡ total (u ^ m) (λ i. sum (eachPort u (λ p. h (p ∷ tupleAt u m i) ∷ [])))
+  rows-total m h = sym (tuples-rows m h []) ∙ tuples-total m (λ x. sum (eachPort u (λ p. h (p ∷ x) ∷ [])))
 
   tuples-below : (n : Node) (d : ℕ) (h : Tuple → ℕ) → overTuples u d (λ x. sum (below u n x (λ y. h y ∷ []))) [] ≡ overTuples u (childDepth n d) h []
   unfolding below childDepth

@@ -27,14 +27,14 @@ use Rattle.cells_walk.proofs.Frame.{below-directly, directly-untouched,
 
 -- Sums over the first numbers.
 
-abbrev total : ℕ → (ℕ → ℕ) → ℕ
+abbrev pub total : ℕ → (ℕ → ℕ) → ℕ
 total m h = sum (tabulate m h)
 
-total-none : (h : ℕ → ℕ) → total 0 h ≡ 0
+pub total-none : (h : ℕ → ℕ) → total 0 h ≡ 0
 unfolding tabulate sum
 total-none h = refl
 
-total-next : (m : ℕ) (h : ℕ → ℕ) → total (suc m) h ≡ total m h + h m
+pub total-next : (m : ℕ) (h : ℕ → ℕ) → total (suc m) h ≡ total m h + h m
 unfolding tabulate sum
 total-next m h = sum-append (tabulate m h) (h m ∷ []) ∙ omega arith
 
@@ -85,7 +85,7 @@ single x = omega arith
 
 module _ (u : ℕ) where
   -- every tuple with every port: every tuple that is one longer
-  ports-total : (d : ℕ) (h : Tuple → ℕ)
+  pub ports-total : (d : ℕ) (h : Tuple → ℕ)
       → total (u ^ d) (λ i. sum (eachPort u (λ p. h (p ∷ tupleAt u d i) ∷ []))) ≡ total (u ^ suc d) (λ j. h (tupleAt u (suc d) j))
   unfolding tupleAt
   ports-total d h =
