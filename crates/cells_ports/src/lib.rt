@@ -37,7 +37,8 @@ fn port_levels(depth: usize, digits: u32, x: usize) -> u64
     level_if(depth, digits, x, 0) | level_if(depth, digits, x, 1)
 }
 
-// The row's new numbers where the sets flip at port x: at that port the row's own variable has it too.
+// The row's new numbers where the sets flip at port x: at every cell by the variables outside the row that have x, at the cell of x by
+// the row's own variable too.
 fn port_row(
     table: &[u8],
     firsts: &[u32; 512],
@@ -99,7 +100,8 @@ fn port_row(
     }
 }
 
-// By the row's own variable: the sets flip at every port of the row, each cell takes part for its own port.
+// By the row's own variable: one row in which the sets flip at each cell's own port, so that each port takes the difference of its cell.
+// Right wherever no variable outside the row has the port.
 fn own_ports(
     table: &[u8],
     firsts: &[u32; 512],
@@ -144,7 +146,8 @@ fn own_ports(
     }
 }
 
-// By a variable outside the row: at its port all cells of the row take part, and what the port's number was at the start is told.
+// By a variable outside the row: its port takes the differences of the whole row. The port's number before the own variable's step is
+// given as `start`, so that this step is undone there and a port that two variables have comes to the same twice.
 fn outer_port(
     table: &[u8],
     firsts: &[u32; 512],
@@ -291,7 +294,8 @@ fn add_ports(
     );
 }
 
-// The differences of a resizing over one row; and to `out`, port by port, what the flip of the sets at that port adds to it.
+// The differences of a resizing over one row; and to `out`, port by port, what the flip of the sets at that port adds to it. Where the
+// tree uses no set that is resized, the old row is the one under the resizing, and is not copied.
 pub fn row_ports(
     table: &[u8],
     firsts: &[u32; 512],

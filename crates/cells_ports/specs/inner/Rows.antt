@@ -21,7 +21,7 @@ digit digits v = digits / 256 ^ v % 256
 
 -- The bit of a variable in every set, if it is bound outside the row and has port x; and those of both such variables.
 unfoldable pub levelIf : ℕ → ℕ → ℕ → ℕ → ℕ
-levelIf d digits x v = cond (ltb v d && eqb (digits / 256 ^ v % 256) x) (level v) 0
+levelIf d digits x v = cond (ltb v d && eqb (digit digits v) x) (level v) 0
 
 unfoldable pub portLevels : ℕ → ℕ → ℕ → ℕ
 portLevels d digits x = bitOr (levelIf d digits x 0) (levelIf d digits x 1)
@@ -58,11 +58,11 @@ module _ (u : ℕ) (bytes firsts ends uses masks sizes cells : List ℕ) (i d ro
     pub base-room : u ≤ length base
     pub base-are : FlipGives bytes firsts ends uses masks sizes cells i u d row digits resized base
 
-  -- By the row's own variable: right at each port by which no variable outside the row tests.
+  -- By the row's own variable: right at each port at which the tree tests no set that flips by a variable outside the row.
   unfoldable pub OwnGives : List ℕ → List ℕ → Type 0
   OwnGives before after = (x : ℕ) → x < u → testsOutside (getD uses i 0) d digits members x ≡ false → FlipAdds x (getD before x 0) (getD after x 0)
 
-  -- By a variable outside the row: right at its port, and the others are kept.
+  -- By a variable outside the row: right at its port, if the tree tests a set that flips by it; the other ports are kept.
   pub record OuterGives (v start : ℕ) (before after : List ℕ) : Type 0 where
     pub done : v < d → testsOutside (getD uses i 0) d digits members (digit digits v) ≡ true → FlipAdds (digit digits v) start (getD after (digit digits v) 0)
     pub others : (x : ℕ) → (v < d → digit digits v ≡ x → testsOutside (getD uses i 0) d digits members x ≡ false) → getD after x 0 ≡ getD before x 0
