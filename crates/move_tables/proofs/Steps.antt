@@ -4,12 +4,12 @@ use mathlib.Core.Bool.{Bool, true, false}
 use mathlib.Core.List.{List}
 use Prim.Native.Nat.{ℕ}
 use lib.Bits.{bitOr}
-use lib.ListN.{getD}
+use lib.ListN.{length, getD}
 use Rattle.logic.specs.Formula.{none, tree}
 use Rattle.table_format.specs.Bytes.{kindField, recordAt}
-use Rattle.move_slots.specs.inner.Slots.{TakesSlots, TakesJoints, SinglesTaken, JointsTaken}
+use Rattle.move_slots.specs.inner.Slots.{AtomReady, SlotRoom, TakesSlots, JointsReady, TakesJoints, SinglesTaken, JointsTaken}
 use Rattle.move_tables.specs.declared.Left.{Left}
-use Rattle.move_tables.specs.inner.Taking.{NoneBinds, Crossed, isSum, MovesTaken, TakesTree}
+use Rattle.move_tables.specs.inner.Taking.{NoneBinds, Crossed, isSum, MovesTaken, TakeReady, TakesTree}
 use Rattle.move_tables.proofs.Standing.{uses-here, atom-here, flat-here, tree-ready, atom-given}
 use Rattle.move_tables.proofs.Taking.{hard-taken, flat-taken}
 
@@ -42,3 +42,34 @@ module _ (u sets : ℕ) (bytes firsts ends uses masks sizes cells : List ℕ) (i
       transfers left left′ word h k (subst (λ (x : ℕ). Crossed x word) (uses-here w) cross)
       (λ t. subst (λ (x : ℕ). JointsTaken x (P .sets) (getD masks (P .sets) 0) masks sizes cells n c b d joint joint′) (g .ports-are)
       (subst (λ (x : ℕ). JointsTaken u x (getD masks x 0) masks sizes cells n c b d joint joint′) (g .sets-are) (joints t P n c none b a (r .own-are))))))
+
+-- what they ask
+module _ {u sets : ℕ} {bytes firsts ends uses masks sizes cells : List ℕ} {i d : ℕ} {atom : Bool} {mine own one still joint : List ℕ}
+    (h : TakeReady u sets bytes firsts ends uses masks sizes cells i d atom mine own one still joint) (until : ℕ) (e : until ≡ getD ends i 0)
+    (none-binds : NoneBinds bytes i until) where
+  pub slots-asked : AtomReady u sets bytes firsts ends uses masks sizes cells i d × SlotRoom mine own one still
+  slots-asked = (
+    record {
+      plan = h .plan;
+      node = h .node;
+      children = h .children;
+      siblings = none;
+      first = h .first;
+      given = atom-given (h .stands) (h .plan) (h .given) (flat-here (h .stands) until e none-binds);
+    },
+    record { mine-long = h .room .mine-long; own-long = h .room .own-long; one-long = h .room .one-long; still-long = h .room .still-long },
+  )
+
+  pub joints-asked : (mine′ own′ : List ℕ) → length mine′ ≡ length mine → length own′ ≡ length own
+      → JointsReady u sets bytes firsts ends uses masks sizes cells i d mine′ own′ joint
+  joints-asked mine′ own′ l k = record {
+    plan = h .plan;
+    node = h .node;
+    children = h .children;
+    siblings = none;
+    first = h .first;
+    given = atom-given (h .stands) (h .plan) (h .given) (flat-here (h .stands) until e none-binds);
+    mine-long = l ∙ h .room .mine-long;
+    own-long = k ∙ h .room .own-long;
+    joint-long = h .room .joint-long;
+  }

@@ -1,0 +1,1 @@
+// The tables of what flips bring to the root: all atoms of a formula go into them.
