@@ -72,7 +72,7 @@ pub fn port_word(c: Changed, word: u64, depth: usize, x: usize) -> u64
 }
 
 // The bits of a set that say which variables it is tested at.
-fn variable_bits(set: usize) -> u64
+pub fn variable_bits(set: usize) -> u64
     requires { ⌜ set < 16 ⌝ }
     ensures { λ r. ⌜ r ≡ variableBits set ⌝ }
 {

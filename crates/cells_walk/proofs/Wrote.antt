@@ -75,14 +75,14 @@ row-deeper u or e x h (at-port l) = let q = h 0 in absurd (omega arith)
 row-deeper u (lit t) e x h (at-port l) = let q = h 0 in absurd (omega arith)
 
 -- the places in a written run, and behind it
-run-inside : (f : ℕ → ℕ) (from n i : ℕ) (xs : List ℕ) → i < n → from ≤ length xs → getD (written f from n xs) (from + i) 0 ≡ f i
+pub run-inside : (f : ℕ → ℕ) (from n i : ℕ) (xs : List ℕ) → i < n → from ≤ length xs → getD (written f from n xs) (from + i) 0 ≡ f i
 run-inside f from n i xs l h =
     let A = take from xs in
     let B = tabulate n f ++ drop (from + n) xs in
     ap (λ (m : ℕ). getD (A ++ B) (m + i) 0) (sym (length-take-le from xs h)) ∙ getD-append-add A B i 0
     ∙ List·getD-append (tabulate n f) (drop (from + n) xs) 0 i (rw length-tabulate l) ∙ getD-tabulate n f i l
 
-run-behind : (f : ℕ → ℕ) (from n j : ℕ) (xs : List ℕ) → from + n ≤ j → from ≤ length xs → getD (written f from n xs) j 0 ≡ getD xs j 0
+pub run-behind : (f : ℕ → ℕ) (from n j : ℕ) (xs : List ℕ) → from + n ≤ j → from ≤ length xs → getD (written f from n xs) j 0 ≡ getD xs j 0
 run-behind f from n j xs l h =
     let A = take from xs in
     let B = tabulate n f in
