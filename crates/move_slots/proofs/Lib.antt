@@ -1,1 +1,6 @@
 -- Laws.
+mod Adding
+mod Asking
+mod Numbers
+mod Putting
+mod Taken
