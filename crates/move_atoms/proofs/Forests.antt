@@ -91,13 +91,13 @@ module _ (u sets : ℕ) (masks cells : List ℕ) (P : Plan) (transfers : Bool) w
 
 -- for every forest that may stand there
 module _ (u sets : ℕ) (bytes firsts ends uses masks sizes cells : List ℕ) (transfers : Bool) (one still joint : List ℕ) (left : Left) (one′ still′ joint′ : List ℕ) (left′ : Left) where
-  pub sum-tree : (i until d deeper : ℕ) → isSum (kindField (recordAt bytes i)) ≡ true → until ≡ getD ends i 0 → deeper ≡ cond (eqb (kindField (recordAt bytes i)) 1) (d + 1) d
+  pub sum-tree : (i until d deeper kind : ℕ) → kind ≡ kindField (recordAt bytes i) → isSum kind ≡ true → until ≡ getD ends i 0 → deeper ≡ cond (eqb kind 1) (d + 1) d
       → TakesAll u sets bytes firsts ends uses masks sizes cells (i + 1) until deeper transfers one still joint left one′ still′ joint′ left′
       → TakesTree u sets bytes firsts ends uses masks sizes cells i d transfers one still joint left one′ still′ joint′ left′
   unfolding TakesAll TakesTree
-  sum-tree i until d deeper k e f H P n c s b g w =
-      let r = sum-here w k in
-      let d-is : childDepth n d ≡ deeper = r .1 ∙ sym f in
+  sum-tree i until d deeper kind q k e f H P n c s b g w =
+      let r = sum-here w (ap isSum (sym q) ∙ k) in
+      let d-is : childDepth n d ≡ deeper = r .1 ∙ ap (λ (x : ℕ). cond (eqb x 1) (d + 1) d) (sym q) ∙ sym f in
       let i-is : suc i ≡ i + 1 = omega arith in
       let below = subst (λ (x : ℕ). ForestStands u sets bytes firsts ends uses cells x c (b + u ^ d) deeper) i-is
       (subst (λ (x : ℕ). ForestStands u sets bytes firsts ends uses cells (suc i) c (b + u ^ d) x) d-is (children-stand w)) in
@@ -176,11 +176,11 @@ module _ {u sets : ℕ} {bytes firsts ends uses masks sizes cells : List ℕ} {i
 
 module _ {u sets : ℕ} {bytes firsts ends uses masks sizes cells : List ℕ} {i d : ℕ} {atom : Bool} {mine own one still joint : List ℕ}
     (h : TakeReady u sets bytes firsts ends uses masks sizes cells i d atom mine own one still joint) where
-  pub below-asked : (until deeper : ℕ) → isSum (kindField (recordAt bytes i)) ≡ true → until ≡ getD ends i 0 → deeper ≡ cond (eqb (kindField (recordAt bytes i)) 1) (d + 1) d
+  pub below-asked : (until deeper kind : ℕ) → kind ≡ kindField (recordAt bytes i) → isSum kind ≡ true → until ≡ getD ends i 0 → deeper ≡ cond (eqb kind 1) (d + 1) d
       → TakeAllReady u sets bytes firsts ends uses masks sizes cells (i + 1) until deeper mine own one still joint
-  below-asked until deeper k e f =
+  below-asked until deeper kind q k e f =
       let w = h .stands in
-      let r = sum-here w k in
+      let r = sum-here w (ap isSum (sym q) ∙ k) in
       let i-is : suc i ≡ i + 1 = omega arith in
       record {
         plan = h .plan;
@@ -188,7 +188,7 @@ module _ {u sets : ℕ} {bytes firsts ends uses masks sizes cells : List ℕ} {i
         first = h .first + u ^ d;
         given = h .given;
         stands = subst (λ (x : ℕ). ForestStands u sets bytes firsts ends uses cells x (h .children) (h .first + u ^ d) deeper) i-is
-            (subst (λ (x : ℕ). ForestStands u sets bytes firsts ends uses cells (suc i) (h .children) (h .first + u ^ d) x) (r .1 ∙ sym f) (children-stand w));
+            (subst (λ (x : ℕ). ForestStands u sets bytes firsts ends uses cells (suc i) (h .children) (h .first + u ^ d) x) (r .1 ∙ ap (λ (x : ℕ). cond (eqb x 1) (d + 1) d) (sym q) ∙ sym f) (children-stand w));
         ends-at = omega (arith, e, end-here w);
         room = h .room;
       }
@@ -214,3 +214,40 @@ module _ {u sets : ℕ} {bytes firsts ends uses masks sizes cells : List ℕ} {i
 
   pub here-kind : recordLength * i + recordLength ≤ length (recordsOf bytes)
   here-kind = kind-asked (h .stands)
+
+-- Where the loop over the trees stands: what the trees from node j on give, all of them give.
+pub record Onward (u sets : ℕ) (bytes firsts ends uses masks sizes cells : List ℕ) (until d : ℕ) (transfers : Bool) (i : ℕ) (one₀ still₀ joint₀ : List ℕ) (left₀ : Left)
+    (j : ℕ) (mine own one still joint : List ℕ) (left : Left) : Type 0 where
+  pub late : i ≤ j
+  pub ready : TakeAllReady u sets bytes firsts ends uses masks sizes cells j until d mine own one still joint
+  pub so : (one′ still′ joint′ : List ℕ) (left′ : Left)
+      → TakesAll u sets bytes firsts ends uses masks sizes cells j until d transfers one still joint left one′ still′ joint′ left′
+      → TakesAll u sets bytes firsts ends uses masks sizes cells i until d transfers one₀ still₀ joint₀ left₀ one′ still′ joint′ left′
+
+module _ {u sets : ℕ} {bytes firsts ends uses masks sizes cells : List ℕ} {until d : ℕ} {transfers : Bool} {i : ℕ} {one₀ still₀ joint₀ : List ℕ} {left₀ : Left} where
+  pub onward-first : {mine own : List ℕ} → TakeAllReady u sets bytes firsts ends uses masks sizes cells i until d mine own one₀ still₀ joint₀
+      → Onward u sets bytes firsts ends uses masks sizes cells until d transfers i one₀ still₀ joint₀ left₀ i mine own one₀ still₀ joint₀ left₀
+  onward-first h = record { late = omega arith; ready = h; so = λ a b c e H. H }
+
+  module _ {j : ℕ} {mine own one still joint : List ℕ} {left : Left}
+      (o : Onward u sets bytes firsts ends uses masks sizes cells until d transfers i one₀ still₀ joint₀ left₀ j mine own one still joint left) where
+    pub onward-less : (next : ℕ) → j < until → next ≡ getD ends j 0 → j < next
+    onward-less next l e = rest-asked mine own one still joint next (o .ready) l e refl refl refl refl refl .1
+
+    pub onward-next : {mine′ own′ one′ still′ joint′ : List ℕ} {left′ : Left} {next : ℕ} → j < until → next ≡ getD ends j 0
+        → length mine′ ≡ length mine → length own′ ≡ length own → length one′ ≡ length one → length still′ ≡ length still → length joint′ ≡ length joint
+        → TakesTree u sets bytes firsts ends uses masks sizes cells j d transfers one still joint left one′ still′ joint′ left′
+        → Onward u sets bytes firsts ends uses masks sizes cells until d transfers i one₀ still₀ joint₀ left₀ next mine′ own′ one′ still′ joint′ left′
+    onward-next {mine′} {own′} {one′} {still′} {joint′} {left′} {next} l e k1 k2 k3 k4 k5 H =
+        let r = rest-asked mine′ own′ one′ still′ joint′ next (o .ready) l e k1 k2 k3 k4 k5 in
+        record {
+          late = omega (arith, o .late, r .1);
+          ready = r .0;
+          so = λ a b c x K. o .so a b c x (trees-more u sets bytes firsts ends uses masks sizes cells transfers one still joint left one′ still′ joint′ left′ j next until d a b c x l e H K);
+        }
+
+    pub onward-last : until ≤ j → TakesAll u sets bytes firsts ends uses masks sizes cells i until d transfers one₀ still₀ joint₀ left₀ one still joint left
+    onward-last l = o .so one still joint left (trees-none u sets bytes firsts ends uses masks sizes cells j until d transfers one still joint left l)
+
+    pub onward-low : j < until → j < 512
+    onward-low l = here-low (tree-asked (o .ready) l)

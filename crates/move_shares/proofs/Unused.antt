@@ -31,7 +31,7 @@ AllUnused used [] = Unit {0}
 AllUnused used (z ∷ zs) = (meets used (setBits (z .0)) ≡ false) × AllUnused used zs
 
 -- the four bits of a set
-in-set : (S v : ℕ) → v < 4 → inMask (setBits S) (4 * S + v) ≡ true
+pub in-set : (S v : ℕ) → v < 4 → inMask (setBits S) (4 * S + v) ≡ true
 unfolding setBits variableBits sizeBit
 in-set S zero l =
     ap (inMask (setBits S)) (let e : 4 * S + 0 ≡ 4 * S = omega arith in e)
