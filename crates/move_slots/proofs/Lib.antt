@@ -1,6 +1,7 @@
 -- Laws.
 mod Adding
 mod Asking
+pub mod Atom
 mod Numbers
-mod Putting
+pub mod Putting
 mod Taken

@@ -9,31 +9,19 @@ use lib.Dec.{eqb}
 use lib.ListN.{length, getD}
 use lib.Seq.{getD-set-same, getD-set-other}
 use borrow.Author.Tests.{eqb-true}
-use Rattle.logic.specs.Formula.{Node, Forest, nodeCount, Plan}
+use Rattle.logic.specs.Formula.{Node, Forest, Plan}
 use Rattle.logic.specs.Configuration.{inMask}
 use Rattle.logic.specs.Change.{someOf}
 use Rattle.cells_touch.specs.inner.Hits.{variableBits, sizeBit}
-use Rattle.cells_walk.specs.inner.Visit.{MasksSettled}
 use Rattle.cells_flip.specs.inner.Flips.{FlipSettled}
 use Rattle.cells_ports.specs.inner.Ports.{Words}
 use Rattle.cells_tuples.specs.inner.Tuples.{AllPortsReady, AllPortsGive}
 use Rattle.move_shares.specs.inner.Shares.{Outcome, changing, sizedAs, resizing, flipping, resizedTo, flippedTo, resizedShare, flippedShare}
 use Rattle.move_shares.proofs.Words.{proper-one, resizes-so, flips-so, resized-flipped, flipped-flipped, words-one}
-use Rattle.move_slots.specs.inner.Slots.{slotOf, AtomGiven, AtomReady}
+use Rattle.move_slots.specs.inner.Slots.{slotOf, AtomGiven}
 use Rattle.move_slots.specs.inner.Taking.{askedSize, askedSizes, SlotReady, SlotGives}
+use Rattle.move_slots.proofs.Atom.{masks-settled-so}
 use Rattle.move_slots.proofs.Asking.{asked-first, asked-last}
-
--- an atom of a plan: few ports, few slots, and a node that the tables have
-module _ (u sets : ℕ) (bytes firsts ends uses masks sizes cells : List ℕ) (i d : ℕ) (atom : AtomReady u sets bytes firsts ends uses masks sizes cells i d) where
-  pub ports-few : u ≤ 64
-  ports-few = omega (arith, atom .given .ports-are, atom .given .ready .settled .ports64)
-
-  pub slots-few : 4 * sets ≤ 64
-  slots-few = omega (arith, atom .given .sets-are, atom .given .ready .settled .sets16)
-
-  pub node-low : i < 512
-  unfolding nodeCount
-  node-low = omega (arith, atom .given .stands .nodes)
 
 -- the set of a slot, and its place among the four of the set
 place-in : (used t l : ℕ) → l ≤ 2 → cond (inMask used (4 * t + 3)) l 3 < 4
@@ -76,8 +64,7 @@ module _ (u : ℕ) (bytes firsts ends uses masks sizes cells : List ℕ) (i d sl
   settled-so : (sets : ℕ) (P : Plan) (n : Node) (c s : Forest) (b : ℕ) → AtomGiven u sets bytes firsts ends uses masks sizes cells i d P n c s b
       → slot < 4 * sets → FlipSettled u sets masks asked cells
   settled-so sets P n c s b g h =
-      let settled : MasksSettled u sets masks = subst (λ (a : ℕ). MasksSettled a sets masks) (sym (g .ports-are))
-      (subst (λ (k : ℕ). MasksSettled (P .ports) k masks) (sym (g .sets-are)) (g .ready .settled)) in
+      let settled = masks-settled-so u sets bytes firsts ends uses masks sizes cells i d P n c s b g in
       record {
         masks-settled = settled;
         sizes-low = rw asked-is (asked-all sizes slot (omega (arith, settled .sets16)) (g .sizes-low));

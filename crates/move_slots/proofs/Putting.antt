@@ -21,7 +21,7 @@ pub kept-same : (u k : ℕ) (mine own one still : List ℕ) → SlotKept u k min
 kept-same u k mine own one still = record { mine-kept = λ x l. refl; own-kept = refl; one-kept = λ x l. refl; still-kept = refl }
 
 -- the slots but one, in a table where a row was written at that one
-other-slot : (f : ℕ → ℕ) (u slot k x : ℕ) (xs : List ℕ) → u ≤ 64 → 64 * slot ≤ length xs → x < u → k ≢ slot
+pub other-slot : (f : ℕ → ℕ) (u slot k x : ℕ) (xs : List ℕ) → u ≤ 64 → 64 * slot ≤ length xs → x < u → k ≢ slot
     → getD (written f (64 * slot) u xs) (64 * k + x) 0 ≡ getD xs (64 * k + x) 0
 other-slot f u slot k x xs h l i n = go (decLt k slot)
   where

@@ -5,19 +5,17 @@ use mathlib.Core.List.{List, [], _∷_}
 use Prim.Native.Nat.{ℕ, _+_, _*_, _/_, _%_, _≤_, _<_}
 use native.Mathlib.Omega.{arith}
 use native.Mathlib.Decide.{ℕ-discrete}
-use lib.Bits.{or-zero-r}
 use lib.ListN.{getD}
 use Rattle.logic.specs.Formula.{Node, Forest, none, tree, Plan}
 use Rattle.logic.specs.Configuration.{inMask}
 use Rattle.logic.specs.Change.{modulus}
-use Rattle.logic.specs.inner.Literals.{Every}
 use Rattle.table_format.specs.inner.Index.{forestUses}
 use Rattle.cells_touch.specs.inner.Hits.{meets}
-use Rattle.cells_walk.specs.inner.Nodes.{IndexHolds, Fitting}
 use Rattle.move_shares.specs.inner.Shares.{resizedShare, flippedShare, TreeReady, setBits}
 use Rattle.move_shares.proofs.Unused.{AllUnused, unused-flipped, unused-size}
 use Rattle.move_slots.specs.inner.Slots.{slotOf, stillRead, flipRead, AtomGiven, SlotRoom, OwnAre, SinglesTaken, SlotsTaken, TakesSlots}
 use Rattle.move_slots.specs.inner.Taking.{takesSlot, SlotNumbers, SlotKept, SlotHas, SlotStep, SlotsBelow}
+use Rattle.move_slots.proofs.Atom.{uses-are, tree-ready}
 use Rattle.move_slots.proofs.Asking.{takes-first, takes-last}
 use Rattle.move_slots.proofs.Numbers.{set-of}
 use Rattle.move_slots.proofs.Putting.{kept-same}
@@ -71,16 +69,6 @@ gets-none a a′ g h i = omega arith
 
 neither-gets : (a b a′ b′ g : ℕ) → a′ ≡ a → b′ ≡ b → g % modulus ≡ 0 → (a′ + b′) % modulus ≡ (a + b + g) % modulus
 neither-gets a b a′ b′ g h i = gets-none (a + b) (a′ + b′) g (ap₂ _+_ h i)
-
--- The atom's own word of uses; without siblings it fits as with them.
-uses-are : (u : ℕ) (bytes firsts ends uses : List ℕ) (i : ℕ) (n : Node) (c s : Forest) (b d : ℕ)
-    → IndexHolds u bytes firsts ends uses i (tree n c s) b d → getD uses i 0 ≡ forestUses (tree n c none)
-unfolding IndexHolds forestUses
-uses-are u bytes firsts ends uses i n c s b d h = h .0 .uses-are ∙ sym (or-zero-r _)
-
-fits-alone : (sets : ℕ) (n : Node) (c s : Forest) (d : ℕ) → Fitting sets (tree n c s) d → Fitting sets (tree n c none) d
-unfolding Fitting Every
-fits-alone sets n c s d h = (h .0, h .1, tt)
 
 -- Which slots of a set take an atom.
 four : (t j : ℕ) → j < 4 → ((4 * t + j) / 4 ≡ t) × ((4 * t + j) % 4 ≡ j)
@@ -173,10 +161,10 @@ module _ (u sets : ℕ) (bytes firsts ends uses masks sizes cells : List ℕ) (i
 
     -- a size, or a set, that the atom does not use brings nothing
     stands : TreeReady P n c d
-    stands = record { regular = g .regular; fitting = subst (λ (k : ℕ). Fitting k (tree n c none) d) (g .sets-are) (fits-alone sets n c s d (g .stands .fitting)) }
+    stands = tree-ready u sets bytes firsts ends uses masks sizes cells i d P n c s b g
 
     used-is : used ≡ forestUses (tree n c none)
-    used-is = uses-are u bytes firsts ends uses i n c s b d (g .stands .holds)
+    used-is = uses-are u sets bytes firsts ends uses masks sizes cells i d P n c s b g
 
     no-size : (t l : ℕ) → inMask used (4 * t + 3) ≡ false → resized t l % modulus ≡ 0
     unfolding resized

@@ -1,5 +1,6 @@
 use native.Mathlib.Omega.{arith}
-use Rattle.move_slots.proofs.Numbers.{slots-few, ports-ready, slot-gives}
+use Rattle.move_slots.proofs.Atom.{slots-few}
+use Rattle.move_slots.proofs.Numbers.{ports-ready, slot-gives}
 use borrow.Author.Needs.{needs}
 use Rattle.move_slots.proofs.slot_ports.Statement.{statement}
 use Rattle.move_slots.proofs.slot_ports.Tie as tie

@@ -2,7 +2,7 @@ use mathlib.Core.Path.{refl}
 use native.Mathlib.Omega.{arith}
 use borrow.Author.Needs.{needs}
 use borrow.Author.Tests.{not-true, not-false}
-use Rattle.move_slots.proofs.Numbers.{ports-few, slots-few, node-low}
+use Rattle.move_slots.proofs.Atom.{ports-few, slots-few, node-low}
 use Rattle.move_slots.proofs.Putting.{step-none, step-put}
 use borrow.Author.Needs.{needs}
 use Rattle.move_slots.proofs.take_slot.Statement.{statement}

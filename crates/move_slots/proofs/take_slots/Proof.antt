@@ -2,7 +2,7 @@ use Prim.Native.Nat.{_-_, _*_}
 use native.Mathlib.Omega.{arith}
 use borrow.Author.Needs.{needs}
 use Rattle.move_slots.specs.inner.Taking.{SlotsBelow}
-use Rattle.move_slots.proofs.Numbers.{slots-few}
+use Rattle.move_slots.proofs.Atom.{slots-few}
 use Rattle.move_slots.proofs.Taken.{none-taken, one-taken, takes-slots}
 use Rattle.move_slots.proofs.take_slots.Statement.{statement}
 use Rattle.move_slots.proofs.take_slots.Tie as tie
