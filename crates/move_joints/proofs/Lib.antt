@@ -1,0 +1,4 @@
+-- Laws.
+mod Adding
+mod Numbers
+mod Taken
