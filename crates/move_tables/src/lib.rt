@@ -1,16 +1,17 @@
 // The tables of what flips bring to the root: the atoms of a formula go into them one after the other.
-use cells_sum::adds_of;
 use cells_walk::end_at;
 use cells_walk::is_quantifier;
 use cells_walk::kind_at;
 use cells_walk::uses_at;
+use move_joints::take_joints;
+use move_slots::take_slots;
 ghost use mathlib.Core.Path.{_≡_};
-ghost use mathlib.Core.Bool.{true, false};
-ghost use Prim.Native.Nat.{_+_, _*_, _≤_, _<_};
+ghost use mathlib.Core.Bool.{true, false, cond, _&&_};
+ghost use Prim.Native.Nat.{_+_, _*_, _%_, _≤_, _<_};
+ghost use lib.Dec.{eqb, ltb};
 ghost use lib.ListN.{length};
 ghost use Rattle.table_format.specs.Bytes.{recordLength, recordsOf};
-ghost use Rattle.move_slots.specs.inner.Slots.{AtomReady, TakesSlots, TakesJoints};
-ghost use Rattle.move_tables.specs.inner.Taking.{NoneBinds, Crossed, TableRoom, TakeReady, TakesTree, TakeAllReady, TakesAll};
+ghost use Rattle.move_tables.specs.inner.Taking.{NoneBinds, Crossed, TakeReady, TakesTree};
 
 // What the tables do not tell: the uses of the atoms with quantifiers, and the sets that some atom tests by more than one variable, the
 // lowest of their four bits.
@@ -41,4 +42,75 @@ fn crossings(used: u64) -> u64
     let second = used >> 1;
     let third = used >> 2;
     (used & (second | third)) | (second & third)
+}
+
+// One atom: its flips go into the tables; one with quantifiers is left to the walk. Transfers are worked only where they are asked for.
+pub fn take_atom(
+    table: &[u8],
+    firsts: &[u32; 512],
+    ends: &[u16; 512],
+    uses: &[u64; 512],
+    masks: &[u64],
+    sizes: &[u32; 16],
+    cells: &[u32],
+    ports: usize,
+    sets: usize,
+    i: usize,
+    depth: usize,
+    transfers: bool,
+    mine: &mut [u32],
+    own: &mut [u32],
+    one: &mut [u32],
+    still: &mut [u32],
+    joint: &mut [u32],
+    left: Left,
+) -> Left
+    requires { ⌜ TakeReady ports sets (now table) (now firsts) (now ends) (now uses) (now masks) (now sizes) (now cells) i depth true (now mine) (now own) (now one) (now still) (now joint) ⌝ }
+    ensures { λ r. ⌜ TakesTree ports sets (now (table .entry)) (now (firsts .entry)) (now (ends .entry)) (now (uses .entry)) (now (masks .entry)) (now (sizes .entry)) (now (cells .entry)) i depth transfers (now (one .entry)) (now (still .entry)) (now (joint .entry)) left (now (one .exit)) (now (still .exit)) (now (joint .exit)) r ⌝ }
+{
+    let used = uses_at(uses, i);
+    if !is_flat(table, i, end_at(ends, i)) {
+        return Left {
+            hard: left.hard | used,
+            crossed: left.crossed,
+        };
+    }
+    take_slots(
+        table,
+        firsts,
+        ends,
+        uses,
+        masks,
+        sizes,
+        cells,
+        ports,
+        sets,
+        i,
+        depth,
+        mine,
+        own,
+        one,
+        still,
+    );
+    take_joints(
+        table,
+        firsts,
+        ends,
+        uses,
+        masks,
+        sizes,
+        cells,
+        ports,
+        sets,
+        i,
+        depth,
+        transfers,
+        &mine[..],
+        &own[..],
+        joint,
+    );
+    Left {
+        hard: left.hard,
+        crossed: left.crossed | crossings(used),
+    }
 }
