@@ -197,3 +197,30 @@ module _ {ports sets : ℕ} {bytes firsts ends uses masks cells one still joint 
       ∙ ap (λ (x : ℕ). (x + ofAtoms ports g (tree (node (h .tables-open)) (children (h .tables-open)) none) 1 0) % modulus) (nothing-read one still joint (h .one-empty) (h .still-empty) (h .joint-empty) (getD masks sets 0) m)
       ∙ ap (λ (x : ℕ). x % modulus) (none-plus (ofAtoms ports g (tree (node (h .tables-open)) (children (h .tables-open)) none) 1 0))
       ∙ ap₂ (λ (x : ℕ) (y : Forest). ofAtoms x g y 1 0 % modulus) (o .ports-are) (ap below-node (sym (rooted-tree plan (rules (h .tables-open)) .formula-is) ∙ f)))
+
+  pub told-full : (until : ℕ) (transfers : Bool) (kinds : ℕ) (one′ still′ joint′ : List ℕ) (left left′ : Left) → until ≡ getD ends 0 0 → transfers ≡ eqb (kinds / 4 % 2) 1
+      → length one′ ≡ length one → length still′ ≡ length still → length joint′ ≡ length joint
+      → TakesAll ports sets bytes firsts ends uses masks sizes cells 1 until 0 transfers one still joint left one′ still′ joint′ left′
+      → Told ports sets bytes firsts ends uses masks cells kinds one′ still′ joint′ left′
+  told-full until transfers kinds one′ still′ joint′ left left′ e w l1 l2 l3 H = record {
+    tables-open = h .tables-open;
+    masks-own = h .masks-own;
+    cells-own = h .cells-own;
+    one-long = l1 ∙ h .one-long;
+    still-long = l2 ∙ h .still-long;
+    joint-long = l3 ∙ h .joint-long;
+    tell = tables-full until transfers kinds one′ still′ joint′ left left′ e w H;
+  }
+
+pub told-none : {ports sets : ℕ} {bytes firsts ends uses masks cells one still joint : List ℕ} (h : FillReady ports sets bytes firsts ends uses masks cells one still joint)
+    (kinds : ℕ) (left : Left) → left .hard ≡ level 0 → Told ports sets bytes firsts ends uses masks cells kinds one still joint left
+told-none {one = one} {still = still} {joint = joint} h kinds left e = record {
+  tables-open = h .tables-open;
+  masks-own = h .masks-own;
+  cells-own = h .cells-own;
+  one-long = h .one-long;
+  still-long = h .still-long;
+  joint-long = h .joint-long;
+  tell = λ P d. nothing-told P _ _ kinds one still joint left
+      (omega (arith, facts (h .tables-open .opened) .sets16, ap (λ (Q : Plan). Q .sets) (same-plan (h .tables-open .opened) P d))) e;
+}

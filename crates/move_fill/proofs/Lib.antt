@@ -1,2 +1,3 @@
 -- Laws.
 mod Filling
+mod Sizes

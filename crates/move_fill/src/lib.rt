@@ -1,1 +1,77 @@
 // The tables of what flips bring to the root, filled for a plan as it stands.
+use cells_size::set_size;
+use cells_touch::level_of;
+use cells_walk::end_at;
+use move_atoms::take_atoms;
+use move_tables::Left;
+ghost use Prim.Native.Nat.{_≤_, _<_};
+ghost use lib.ListN.{length};
+ghost use Rattle.move_root.specs.inner.Telling.{Told};
+ghost use Rattle.move_fill.specs.inner.Filling.{SizesSet, FillReady};
+
+// The sizes of all sets.
+fn set_sizes(masks: &[u64], sets: usize) -> [u32; 16]
+    requires { ⌜ (sets ≤ 16) × (sets < length (now masks)) ⌝ }
+    ensures { λ r. ⌜ SizesSet (now (masks .entry)) sets sets r ⌝ }
+{
+    let mut sizes = [0u32; 16];
+    let mut s = 0;
+    while s < sets {
+        sizes[s] = set_size(masks, sets, s);
+        s += 1;
+    }
+    sizes
+}
+
+// Fills the tables for the moves of some kinds. Drops alone are few, and a walk for each costs less: then the tables tell of none.
+pub fn fill_tables(
+    table: &[u8],
+    firsts: &[u32; 512],
+    ends: &[u16; 512],
+    uses: &[u64; 512],
+    masks: &[u64],
+    cells: &[u32],
+    ports: usize,
+    sets: usize,
+    kinds: u32,
+    one: &mut [u32],
+    still: &mut [u32],
+    joint: &mut [u32],
+) -> Left
+    requires { ⌜ FillReady ports sets (now table) (now firsts) (now ends) (now uses) (now masks) (now cells) (now one) (now still) (now joint) ⌝ }
+    ensures { λ r. ⌜ Told ports sets (now (table .entry)) (now (firsts .entry)) (now (ends .entry)) (now (uses .entry)) (now (masks .entry)) (now (cells .entry)) kinds (now (one .exit)) (now (still .exit)) (now (joint .exit)) r ⌝ }
+{
+    if kinds == 2 {
+        return Left {
+            hard: level_of(0),
+            crossed: 0,
+        };
+    }
+    let mut mine = [0u32; 4096];
+    let mut own = [0u32; 64];
+    let sizes = set_sizes(masks, sets);
+    take_atoms(
+        table,
+        firsts,
+        ends,
+        uses,
+        masks,
+        &sizes,
+        cells,
+        ports,
+        sets,
+        1,
+        end_at(ends, 0),
+        0,
+        (kinds >> 2) % 2 == 1,
+        &mut mine,
+        &mut own,
+        one,
+        still,
+        joint,
+        Left {
+            hard: 0,
+            crossed: 0,
+        },
+    )
+}

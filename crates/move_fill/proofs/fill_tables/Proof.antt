@@ -1,0 +1,71 @@
+use mathlib.Core.Path.{_≡_, refl, sym, ap, _∙_}
+use native.Mathlib.Omega.{arith}
+use borrow.Author.Needs.{needs}
+use Rattle.call_open.proofs.OpenPlan.{sets-fit, masks-long}
+use Rattle.move_fill.proofs.Filling.{told-none, take-asked, told-full}
+use borrow.Author.Needs.{needs}
+use Rattle.move_fill.proofs.fill_tables.Statement.{statement}
+use Rattle.move_fill.proofs.fill_tables.Tie as tie
+use Rattle.move_fill.proofs.fill_tables.Reads as reads
+use Rattle.move_fill.proofs.fill_tables.Lts as lts
+use Rattle.cells_touch.proofs.level_of.Reads as level-of-reads
+use Rattle.cells_walk.proofs.end_at.Reads as end-at-reads
+use Rattle.move_atoms.proofs.take_atoms.Reads as take-atoms-reads
+use Rattle.move_fill.proofs.set_sizes.Reads as set-sizes-reads
+
+level-of-requires : tie.Need-level-of-requires
+level-of-requires c κs =
+    search needs
+
+returns : tie.Need-returns
+returns c =
+    told-none (c .before .before .before .before .before .before .before .before .pre) _ _ (c .level-of .ensures)
+
+set-sizes-requires : tie.Need-set-sizes-requires
+set-sizes-requires c κs =
+    (sets-fit (c .before .before .before .before .before .before .before .pre .tables-open .opened), omega (arith, masks-long (c .before .before .before .before .before .before .before .pre .tables-open .opened)))
+
+end-at-requires : tie.Need-end-at-requires
+end-at-requires c κs =
+    omega arith
+
+slice-aggregate-take-atoms : tie.Need-slice-aggregate-take-atoms
+slice-aggregate-take-atoms c =
+    search needs
+
+slice-aggregate-take-atoms-2 : tie.Need-slice-aggregate-take-atoms-2
+slice-aggregate-take-atoms-2 c =
+    search needs
+
+take-atoms-requires : tie.Need-take-atoms-requires
+take-atoms-requires c κs =
+    take-asked (c .before .before .before .before .before .before .before .before .before .before .before .before .before .before .before .pre) _ (c .before .before .before .before .before .before .before .set-sizes .ensures) _ (c .before .before .before .before .before .end-at .ensures) _ _ (search needs) (search needs)
+
+same-length : tie.Need-same-length
+same-length c = search needs
+
+same-length-2 : tie.Need-same-length-2
+same-length-2 c = search needs
+
+same-length-3 : tie.Need-same-length-3
+same-length-3 c = search needs
+
+returns-2 : tie.Need-returns-2
+returns-2 c =
+    told-full (c .before .before .before .before .before .before .before .before .before .before .before .before .before .before .before .before .before .before .before .before .before .before .before .before .pre) _ (c .before .before .before .before .before .before .before .before .before .before .before .before .before .before .before .before .set-sizes .ensures) _ _ _ _ _ _ _ _ (c .before .before .before .before .before .before .before .before .before .before .before .before .before .before .end-at .ensures) refl (search needs) (search needs) (search needs) (c .before .before .before .before .before .before .before .before .take-atoms .ensures)
+
+pub fill-tables-spec : {M : Type 1} → statement M
+fill-tables-spec =
+    tie.close
+    (tie.spec
+    level-of-requires
+    returns
+    set-sizes-requires
+    end-at-requires
+    slice-aggregate-take-atoms
+    slice-aggregate-take-atoms-2
+    take-atoms-requires
+    same-length
+    same-length-2
+    same-length-3
+    returns-2)
