@@ -23,7 +23,7 @@ fn lowers(c: Choice, root: u32) -> bool
     ensures { λ r. ⌜ r ≡ lowersBy c root ⌝ }
 {
     if c.count != 0 {
-        return c.numbers.value < root;
+        return c.value < root;
     }
     false
 }

@@ -25,7 +25,7 @@ module _ (P : Plan) (own : State) (c : Choice) (root : ℕ) (root-is : root ≡ 
 
   some-there : (m : Move) (ms : List Move) → BestIs (m ∷ ms) P own c → lowersBy c root ≡ ltb (rootAfter P m (own .masks) (own .cells)) (rootNow (own .cells))
   unfolding lowersBy BestIs
-  some-there m ms b = rw (ne-eqb (c .count) 0 (λ z. omega (arith, b .0, z)), b .2 .after-is, root-is)
+  some-there m ms b = rw (ne-eqb (c .count) 0 (λ z. omega (arith, b .0, z)), b .2, root-is)
 
   -- improve would make a move exactly where the choice lowers the root
   pub would-make : (kinds : ℕ) → BestIs (bestMoves P kinds own) P own c → wouldMake P kinds own ≡ lowersBy c root

@@ -11,7 +11,6 @@ use borrow.Author.Tests.{eq-eqb, ne-eqb}
 use Rattle.logic.specs.declared.Move.{Move}
 use Rattle.logic.specs.Formula.{Plan}
 use Rattle.logic.specs.Configuration.{inMasks}
-use Rattle.cells_sum.specs.declared.After.{After}
 use Rattle.contracts.specs.State.{State}
 use Rattle.contracts.specs.MoveOrder.{candidates, kept, Candidate, bestOf}
 use Rattle.contracts.specs.ImproveCall.{rootAfter, bestMoves}
@@ -22,11 +21,10 @@ use Rattle.move_order.specs.inner.Stepping.{place, outset, NextOr, Walked, Stan
 use Rattle.logic.specs.inner.MoveFields.{Sized}
 use Rattle.move_order.proofs.Count.{few-candidates}
 use Rattle.move_order.proofs.Listing.{candidates-walked, stands-next}
-use Rattle.move_try.specs.inner.Trying.{NumbersAre}
 use Rattle.move_rank.specs.declared.Choice.{Choice}
 use Rattle.move_rank.proofs.Ranking.{ranked-first, ranked-lower, ranked-equal, ranked-higher}
 use Rattle.move_best.proofs.Placing.{no-places, place-more}
-use Rattle.move_rank.specs.inner.Ranking.{choiceOf, noNumbers, rankedBy, placesWith}
+use Rattle.move_rank.specs.inner.Ranking.{choiceOf, rankedBy, placesWith}
 use Rattle.move_best.specs.inner.Choosing.{BestIs, PlacesAre}
 
 -- the choice counts the best moves
@@ -45,66 +43,66 @@ module _ (P : Plan) (own : State) where
     pub some : 1 ≤ r .count
     pub places : (ts : List ℕ) → PlacesAre old ts → PlacesAre new (placesWith r m value ts)
 
-  module _ (m : Move) (a : After) (n : NumbersAre P (own .masks) (own .cells) m a) where
-    alone-more : (old : List Move) → OneMore old (m ∷ []) m (a .value) (choiceOf 1 m a)
+  module _ (m : Move) (value : ℕ) (n : value ≡ root m) where
+    alone-more : (old : List Move) → OneMore old (m ∷ []) m value (choiceOf 1 m value)
     unfolding BestIs choiceOf placesWith
     alone-more old = record {
       best-is = (refl, refl, n);
       some = omega arith;
-      places = λ ts h. subst (λ (b : Bool). PlacesAre (m ∷ []) (cond b (set ts 0 (place m)) ts)) (sym (eq-eqb (a .value) (a .value) refl))
+      places = λ ts h. subst (λ (b : Bool). PlacesAre (m ∷ []) (cond b (set ts 0 (place m)) ts)) (sym (eq-eqb value value refl))
           (place-more [] m ts (no-places ts));
     }
 
     module _ (x : Move) (xs : List Move) (best : Choice) (b : BestIs (x ∷ xs) P own best) where
-      value-is : best .numbers .value ≡ root x
+      value-is : best .value ≡ root x
       unfolding BestIs
-      value-is = b .2 .after-is
+      value-is = b .2
 
-      equal-more : a .value ≡ best .numbers .value → OneMore (x ∷ xs) ((x ∷ xs) ++ m ∷ []) m (a .value) (choiceOf (best .count + 1) (best .m) (best .numbers))
+      equal-more : value ≡ best .value → OneMore (x ∷ xs) ((x ∷ xs) ++ m ∷ []) m value (choiceOf (best .count + 1) (best .m) value)
       unfolding BestIs choiceOf placesWith
       equal-more e = record {
-        best-is = (omega (arith, b .0, length-append xs (m ∷ [])), b .1, b .2);
+        best-is = (omega (arith, b .0, length-append xs (m ∷ [])), b .1, e ∙ b .2);
         some = omega arith;
-        places = λ ts h. subst (λ (c : Bool). PlacesAre ((x ∷ xs) ++ m ∷ []) (cond c (set ts (best .count + 1 - 1) (place m)) ts)) (sym (eq-eqb (a .value) (best .numbers .value) e))
+        places = λ ts h. subst (λ (c : Bool). PlacesAre ((x ∷ xs) ++ m ∷ []) (cond c (set ts (best .count + 1 - 1) (place m)) ts)) (sym (eq-eqb value value refl))
             (subst (λ (j : ℕ). PlacesAre ((x ∷ xs) ++ m ∷ []) (set ts j (place m))) (let q = b .0 in omega arith) (place-more (x ∷ xs) m ts h));
       }
 
-      higher-more : best .numbers .value < a .value → OneMore (x ∷ xs) (x ∷ xs) m (a .value) best
+      higher-more : best .value < value → OneMore (x ∷ xs) (x ∷ xs) m value best
       unfolding placesWith
       higher-more l = record {
         best-is = b;
         some = omega (arith, count-is P own best (x ∷ xs) b);
         places = λ ts h. subst (λ (c : Bool). PlacesAre (x ∷ xs) (cond c (set ts (best .count - 1) (place m)) ts))
-            (sym (ne-eqb (a .value) (best .numbers .value) (λ e. omega arith))) h;
+            (sym (ne-eqb value (best .value) (λ e. omega arith))) h;
       }
 
     ranked-is : (passed old : List Move) (best : Choice) → bestOf root passed ≡ old → BestIs old P own best
-        → OneMore old (bestOf root (passed ++ m ∷ [])) m (a .value) (rankedBy best m a)
+        → OneMore old (bestOf root (passed ++ m ∷ [])) m value (rankedBy best m value)
     ranked-is passed [] best e b =
         let none = best-none root passed e in
         let count : best .count ≡ 0 = unfold BestIs in b in
-        subst (λ (ms : List Move). OneMore [] ms m (a .value) (rankedBy best m a))
+        subst (λ (ms : List Move). OneMore [] ms m value (rankedBy best m value))
         (sym (ap (λ (ks : List Move). bestOf root (ks ++ m ∷ [])) none ∙ best-first root m))
-        (subst (OneMore [] (m ∷ []) m (a .value))
-        (sym (ranked-first best m a count)) (alone-more []))
+        (subst (OneMore [] (m ∷ []) m value)
+        (sym (ranked-first best m value count)) (alone-more []))
     ranked-is passed (x ∷ xs) best e b = go (decLt (root m) (root x)) (decLt (root x) (root m))
       where
         some : best .count ≢ 0
         some z = let c = count-is P own best (x ∷ xs) b in omega (arith, c, z)
 
-        go : Dec (root m < root x) → Dec (root x < root m) → OneMore (x ∷ xs) (bestOf root (passed ++ m ∷ [])) m (a .value) (rankedBy best m a)
+        go : Dec (root m < root x) → Dec (root x < root m) → OneMore (x ∷ xs) (bestOf root (passed ++ m ∷ [])) m value (rankedBy best m value)
         go (yes l) w =
-            subst (λ (ms : List Move). OneMore (x ∷ xs) ms m (a .value) (rankedBy best m a)) (sym (best-lower root passed x xs e m l))
-            (subst (OneMore (x ∷ xs) (m ∷ []) m (a .value))
-            (sym (ranked-lower best m a (omega (arith, l, n .after-is, value-is x xs best b)))) (alone-more (x ∷ xs)))
+            subst (λ (ms : List Move). OneMore (x ∷ xs) ms m value (rankedBy best m value)) (sym (best-lower root passed x xs e m l))
+            (subst (OneMore (x ∷ xs) (m ∷ []) m value)
+            (sym (ranked-lower best m value (omega (arith, l, n, value-is x xs best b)))) (alone-more (x ∷ xs)))
         go (no l) (yes w) =
-            let v : best .numbers .value < a .value = omega (arith, w, n .after-is, value-is x xs best b) in
-            subst (λ (ms : List Move). OneMore (x ∷ xs) ms m (a .value) (rankedBy best m a)) (sym (best-higher root passed x xs e m w))
-            (subst (OneMore (x ∷ xs) (x ∷ xs) m (a .value)) (sym (ranked-higher best m a some (omega (arith, v)) (λ e. omega (arith, v, e)))) (higher-more x xs best b v))
+            let v : best .value < value = omega (arith, w, n, value-is x xs best b) in
+            subst (λ (ms : List Move). OneMore (x ∷ xs) ms m value (rankedBy best m value)) (sym (best-higher root passed x xs e m w))
+            (subst (OneMore (x ∷ xs) (x ∷ xs) m value) (sym (ranked-higher best m value some (omega (arith, v)) (λ e. omega (arith, v, e)))) (higher-more x xs best b v))
         go (no l) (no w) =
-            let v : a .value ≡ best .numbers .value = omega (arith, l, w, n .after-is, value-is x xs best b) in
-            subst (λ (ms : List Move). OneMore (x ∷ xs) ms m (a .value) (rankedBy best m a)) (sym (best-equal root passed x xs e m (omega (arith, l, w))))
-            (subst (OneMore (x ∷ xs) ((x ∷ xs) ++ m ∷ []) m (a .value)) (sym (ranked-equal best m a some v)) (equal-more x xs best b v))
+            let v : value ≡ best .value = omega (arith, l, w, n, value-is x xs best b) in
+            subst (λ (ms : List Move). OneMore (x ∷ xs) ms m value (rankedBy best m value)) (sym (best-equal root passed x xs e m (omega (arith, l, w))))
+            (subst (OneMore (x ∷ xs) ((x ∷ xs) ++ m ∷ []) m value) (sym (ranked-equal best m value some v)) (equal-more x xs best b v))
 
 -- The state of a search that stands at a candidate, or has passed them all.
 pub record Sought (P : Plan) (kinds : ℕ) (own : State) (best : Choice) (places : List ℕ) (at : Next) : Type 0 where
@@ -117,7 +115,7 @@ pub record Sought (P : Plan) (kinds : ℕ) (own : State) (best : Choice) (places
 
 module _ (P : Plan) (Z : Sized (P .ports) (P .sets)) (kinds : ℕ) (own : State) where
   -- before the first candidate
-  pub sought-first : (places : List ℕ) (at : Next) → NextOr (at .found) P kinds (own .masks) outset (at .m) → Sought P kinds own (choiceOf 0 outset noNumbers) places at
+  pub sought-first : (places : List ℕ) (at : Next) → NextOr (at .found) P kinds (own .masks) outset (at .m) → Sought P kinds own (choiceOf 0 outset 0) places at
   unfolding bestOf kept BestIs choiceOf
   sought-first places at N = record {
     passed = [];
@@ -155,11 +153,11 @@ module _ (P : Plan) (Z : Sized (P .ports) (P .sets)) (kinds : ℕ) (own : State)
           (subst (List·Memᴰ (at .m)) (S .joined) (Memᴰ·append-right (S .passed) (subst (List·Memᴰ (at .m)) (sym (here .1)) (List·Memᴰ·head refl))))
 
       -- from one candidate to the next
-      pub sought-next : (a : After) (new : Choice) (next : Next) → NumbersAre P (own .masks) (own .cells) (at .m) a → new ≡ rankedBy best (at .m) a
-          → NextOr (next .found) P kinds (own .masks) (at .m) (next .m) → Sought P kinds own new (placesWith new (at .m) (a .value) places) next
-      sought-next a new next n e N =
-          let r = subst (OneMore P own (bestOf (root P own) (S .passed)) (bestOf (root P own) (S .passed ++ at .m ∷ [])) (at .m) (a .value)) (sym e)
-          (ranked-is P own (at .m) a n (S .passed) (bestOf (root P own) (S .passed)) best refl (S .best-is)) in
+      pub sought-next : (value : ℕ) (new : Choice) (next : Next) → value ≡ root P own (at .m) → new ≡ rankedBy best (at .m) value
+          → NextOr (next .found) P kinds (own .masks) (at .m) (next .m) → Sought P kinds own new (placesWith new (at .m) value places) next
+      sought-next value new next n e N =
+          let r = subst (OneMore P own (bestOf (root P own) (S .passed)) (bestOf (root P own) (S .passed ++ at .m ∷ [])) (at .m) value) (sym e)
+          (ranked-is P own (at .m) value n (S .passed) (bestOf (root P own) (S .passed)) best refl (S .best-is)) in
           record {
             passed = S .passed ++ at .m ∷ [];
             rest = here .0;
@@ -169,8 +167,8 @@ module _ (P : Plan) (Z : Sized (P .ports) (P .sets)) (kinds : ℕ) (own : State)
             places-are = r .places places (S .places-are);
           }
 
-      pub ranked-some : (a : After) → NumbersAre P (own .masks) (own .cells) (at .m) a → 1 ≤ rankedBy best (at .m) a .count
-      ranked-some a n = ranked-is P own (at .m) a n (S .passed) (bestOf (root P own) (S .passed)) best refl (S .best-is) .some
+      pub ranked-some : (value : ℕ) → value ≡ root P own (at .m) → 1 ≤ rankedBy best (at .m) value .count
+      ranked-some value n = ranked-is P own (at .m) value n (S .passed) (bestOf (root P own) (S .passed)) best refl (S .best-is) .some
 
     -- past the last
     ended : (rest : List Move) (f : Bool) → f ≡ false → Stands f P kinds (own .masks) (at .m) rest → rest ≡ []

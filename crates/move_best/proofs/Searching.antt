@@ -17,7 +17,7 @@ use Rattle.move_order.specs.declared.Next.{Next}
 use Rattle.move_order.specs.inner.Stepping.{place, outset, BeginsOver, NextOr, GivesNext}
 use Rattle.move_order.proofs.Listing.{candidate-fields, candidate-low, candidate-high}
 use Rattle.move_rank.specs.declared.Choice.{Choice}
-use Rattle.move_rank.specs.inner.Ranking.{PlaceKept, choiceOf, noNumbers, rankedBy, placesWith}
+use Rattle.move_rank.specs.inner.Ranking.{PlaceKept, choiceOf, rankedBy, placesWith}
 use Rattle.move_best.specs.inner.Choosing.{Chooses}
 use Rattle.move_best.proofs.Choosing.{Sought, few-counted, here-candidate, sought-first, sought-next, ranked-some, sought-end}
 use Rattle.call_open.specs.inner.Opening.{OpenTables}
@@ -41,7 +41,7 @@ length-either false i x ts = refl
 
 length-placed : (c : Choice) (m : Move) (value : ℕ) (ts : List ℕ) → length (placesWith c m value ts) ≡ length ts
 unfolding placesWith
-length-placed c m value ts = length-either (eqb value (c .numbers .value)) (c .count - 1) (place m) ts
+length-placed c m value ts = length-either (eqb value (c .value)) (c .count - 1) (place m) ts
 
 module _ (ports sets : ℕ) (bytes firsts ends uses masks cells : List ℕ) (ready : OpenTables ports sets bytes firsts ends uses masks cells)
     (kinds u n : ℕ) (ports-is : u ≡ ports) (sets-is : n ≡ sets) where
@@ -51,7 +51,7 @@ module _ (ports sets : ℕ) (bytes firsts ends uses masks cells : List ℕ) (rea
   abbrev own : State
   own = ownTables P (tables masks cells)
 
-  pub search-starts : (work places : List ℕ) (best : Choice) (at : Next) → length work ≡ maskCount sets → best ≡ choiceOf 0 outset noNumbers
+  pub search-starts : (work places : List ℕ) (best : Choice) (at : Next) → length work ≡ maskCount sets → best ≡ choiceOf 0 outset 0
       → GivesNext u n kinds masks outset at → Searching bytes masks cells kinds sets (length places) work places best at
   unfolding ownTables
   search-starts work places best at l b g = record {
@@ -80,11 +80,11 @@ module _ (ports sets : ℕ) (bytes firsts ends uses masks cells : List ℕ) (rea
     pub search-few : best .count < 4294967295
     search-few = omega (arith, few-counted P (sized-of bytes P (ready .opened .decodes)) kinds own best places at S′)
 
-    pub search-place : (a : After) (new : Choice) → GivesNumbers bytes masks cells (at .m) a → new ≡ rankedBy best (at .m) a → PlaceKept new (at .m)
+    pub search-place : (a : After) (new : Choice) → GivesNumbers bytes masks cells (at .m) a → new ≡ rankedBy best (at .m) (a .value) → PlaceKept new (at .m)
     unfolding GivesNumbers ownTables
     search-place a new r b = record {
       some = subst (λ (c : Choice). 1 ≤ c .count) (sym b)
-          (ranked-some P (sized-of bytes P (ready .opened .decodes)) kinds own best places at S′ t a (r P (ready .opened .decodes)));
+          (ranked-some P (sized-of bytes P (ready .opened .decodes)) kinds own best places at S′ t (a .value) (r P (ready .opened .decodes) .after-is));
       fits = record {
         low = candidate-low P (sized-of bytes P (ready .opened .decodes)) (inMasks (own .masks)) (at .m) (here .is-legal);
         kind-low = omega (arith, candidate-fields P (inMasks (own .masks)) (at .m) (here .is-legal) .kind-high);
@@ -92,14 +92,14 @@ module _ (ports sets : ℕ) (bytes firsts ends uses masks cells : List ℕ) (rea
     }
 
     pub search-goes-on : (work′ places′ : List ℕ) (new : Choice) (next : Next) (a : After) → length work′ ≡ length work → GivesNumbers bytes masks cells (at .m) a
-        → new ≡ rankedBy best (at .m) a → places′ ≡ placesWith new (at .m) (a .value) places → GivesNext u n kinds masks (at .m) next
+        → new ≡ rankedBy best (at .m) (a .value) → places′ ≡ placesWith new (at .m) (a .value) places → GivesNext u n kinds masks (at .m) next
         → Searching bytes masks cells kinds sets room work′ places′ new next
     unfolding GivesNumbers ownTables
     search-goes-on work′ places′ new next a l r b p g = record {
       work-long = l ∙ S .work-long;
       places-long = ap length p ∙ length-placed new (at .m) (a .value) places ∙ S .places-long;
       sought = λ Q d. subst (λ (ts : List ℕ). Sought Q kinds (ownTables Q (tables masks cells)) new ts next) (sym p)
-          (sought-next Q (sized-of bytes Q d) kinds (ownTables Q (tables masks cells)) best places at (S .sought Q d) t a new next (r Q d) b
+          (sought-next Q (sized-of bytes Q d) kinds (ownTables Q (tables masks cells)) best places at (S .sought Q d) t (a .value) new next (r Q d .after-is) b
           (gives-here (ready .opened) u n ports-is sets-is kinds (at .m) next g Q d));
     }
 

@@ -48,7 +48,7 @@ fn search(
             at.m,
             work,
         );
-        best = ranked(best, at.m, a);
+        best = ranked(best, at.m, a.value);
         keep_place(best, at.m, a.value, places);
         at = next_candidate(at.m, kinds, u, n, masks);
     }

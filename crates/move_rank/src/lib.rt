@@ -1,5 +1,4 @@
 // The best of some moves so far, by the root that each would leave, and one more of them. Paper 02, request 2026-01.
-use cells_sum::After;
 use logic::Move;
 use logic::no_move;
 use logic::wide;
@@ -7,61 +6,56 @@ use move_list::place_of;
 ghost use mathlib.Core.Path.{_≡_};
 ghost use Prim.Native.Nat.{_<_};
 ghost use Rattle.move_order.specs.inner.Stepping.{outset};
-ghost use Rattle.move_rank.specs.inner.Ranking.{PlaceKept, choiceOf, noNumbers, rankedBy, placesWith};
+ghost use Rattle.move_rank.specs.inner.Ranking.{PlaceKept, choiceOf, rankedBy, placesWith};
 
-// How many are the best so far, the first of them, and its three numbers; before any candidate the count is 0.
+// How many are the best so far, the first of them, and the root that each would leave; before any candidate the count is 0.
 pub struct Choice {
     pub count: u32,
     pub m: Move,
-    pub numbers: After,
+    pub value: u32,
 }
 
 // Before any candidate.
 pub fn none_yet() -> Choice
-    ensures { λ r. ⌜ r ≡ choiceOf 0 outset noNumbers ⌝ }
+    ensures { λ r. ⌜ r ≡ choiceOf 0 outset 0 ⌝ }
 {
     Choice {
         count: 0,
         m: no_move(),
-        numbers: After {
-            old: 0,
-            value: 0,
-            changed: 0,
-        },
+        value: 0,
     }
 }
 
 // The best so far and a candidate: it is the best alone, or one more of the best, or none of them.
-pub fn ranked(best: Choice, m: Move, a: After) -> Choice
+pub fn ranked(best: Choice, m: Move, value: u32) -> Choice
     requires { ⌜ best .count < 4294967295 ⌝ }
-    ensures { λ r. ⌜ r ≡ rankedBy best m a ⌝ }
+    ensures { λ r. ⌜ r ≡ rankedBy best m value ⌝ }
 {
     if best.count == 0 {
-        return alone(m, a);
+        return alone(m, value);
     }
-    if a.value < best.numbers.value {
-        return alone(m, a);
+    if value < best.value {
+        return alone(m, value);
     }
-    if a.value == best.numbers.value {
+    if value == best.value {
         let first = best.m;
-        let numbers = best.numbers;
         return Choice {
             count: best.count + 1,
             m: first,
-            numbers: numbers,
+            value: value,
         };
     }
     best
 }
 
 // One candidate, the best of those before it.
-fn alone(m: Move, a: After) -> Choice
-    ensures { λ r. ⌜ r ≡ choiceOf 1 m a ⌝ }
+fn alone(m: Move, value: u32) -> Choice
+    ensures { λ r. ⌜ r ≡ choiceOf 1 m value ⌝ }
 {
     Choice {
         count: 1,
         m: m,
-        numbers: a,
+        value: value,
     }
 }
 
@@ -70,7 +64,7 @@ pub fn keep_place(best: Choice, m: Move, value: u32, places: &mut [u32])
     requires { ⌜ PlaceKept best m ⌝ }
     ensures { λ _. ⌜ now (places .exit) ≡ placesWith best m value (now (places .entry)) ⌝ }
 {
-    if value == best.numbers.value {
+    if value == best.value {
         let at = wide(best.count) - 1;
         if at < places.len() {
             places[at] = place_of(m);

@@ -204,9 +204,9 @@ module _ (P : Plan) (masks sizes cells : List ℕ) (ready : ShareReady P masks c
         let now = ap₂ (λ (x y : ℕ). kindTold (moveKind (m .kind)) x y m) (sym h) (sym i) ∙ told′ in (
           kind-crossed (moveKind (m .kind)) (left .hard) (left .crossed) word m now,
           by-kinds (λ j. m .kind ≡ j → Grown m leg F j)
-          (add-grown m leg F) (drop-grown m leg F) (λ e. transfer-grown m leg F (joints (wanted e)) e) (λ e. swap-grown m leg F (uncrossed e) e)
-          (m .kind) (F .kind-low) (F .kind-high) refl
-          ∙ ap (λ (x : ℕ). (moveRead one still joint test m + x) % modulus) (sym (atom-only (shareOf P masks cells m))),
+              (add-grown m leg F) (drop-grown m leg F) (λ e. transfer-grown m leg F (joints (wanted e)) e) (λ e. swap-grown m leg F (uncrossed e) e)
+              (m .kind) (F .kind-low) (F .kind-high) refl
+              ∙ ap (λ (x : ℕ). (moveRead one still joint test m + x) % modulus) (sym (atom-only (shareOf P masks cells m))),
         )
       where
         wanted : m .kind ≡ 3 → transfers ≡ true
@@ -215,6 +215,7 @@ module _ (P : Plan) (masks sizes cells : List ℕ) (ready : ShareReady P masks c
             go : (a : Bool) → transfers ≡ a → transfers ≡ true
             go true x = x
             go false x = absurd (t x e)
+
         uncrossed : m .kind ≡ 4 → crosses used (m .s) ≡ false
         uncrossed e =
             let F = known-fields P m (and-left (known P m) _ leg) in

@@ -11,8 +11,7 @@ use Rattle.logic.specs.Configuration.{maskCount}
 use Rattle.table_format.specs.Decode.{sound, decode}
 use Rattle.call_open.specs.inner.Opening.{OpenTables}
 use Rattle.contracts.specs.State.{State, tables, ownTables}
-use Rattle.contracts.specs.ImproveCall.{bestMoves}
-use Rattle.move_try.specs.inner.Trying.{NumbersAre}
+use Rattle.contracts.specs.ImproveCall.{rootAfter, bestMoves}
 use Rattle.move_order.specs.inner.Stepping.{place}
 use Rattle.move_rank.specs.declared.Choice.{Choice}
 
@@ -21,10 +20,10 @@ pub record SearchRoom (ports sets : ℕ) (bytes firsts ends uses masks cells wor
   pub ready : OpenTables ports sets bytes firsts ends uses masks cells
   pub work-long : length work ≡ maskCount sets
 
--- The choice is the first of these moves, with how many they are and its three numbers.
+-- The choice is the first of these moves, with how many they are and the root that it leaves.
 unfoldable pub BestIs : List Move → Plan → State → Choice → Type 0
 BestIs [] P own r = r .count ≡ 0
-BestIs (m ∷ ms) P own r = (r .count ≡ suc (length ms)) × (r .m ≡ m) × NumbersAre P (own .masks) (own .cells) m (r .numbers)
+BestIs (m ∷ ms) P own r = (r .count ≡ suc (length ms)) × (r .m ≡ m) × (r .value ≡ rootAfter P m (own .masks) (own .cells))
 
 -- A table holds the places of these moves, as many as it takes.
 unfoldable pub PlacesAre : List Move → List ℕ → Type 0
@@ -32,7 +31,7 @@ PlacesAre ms places = take (length ms) places ≡ take (length places) (map plac
 
 -- The first of the best, if there is one, leaves a smaller root than now.
 unfoldable pub lowersBy : Choice → ℕ → Bool
-lowersBy c root = not (eqb (c .count) 0) && ltb (c .numbers .value) root
+lowersBy c root = not (eqb (c .count) 0) && ltb (c .value) root
 
 -- The choice among the candidates, and their places.
 unfoldable pub Chooses : List ℕ → List ℕ → List ℕ → ℕ → Choice → List ℕ → Type 0

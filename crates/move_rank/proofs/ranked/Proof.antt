@@ -19,19 +19,19 @@ returns-2 : tie.Need-returns-2
 returns-2 c =
     c .alone2 .ensures ∙ sym (ranked-lower _ _ _ (c .before .if2 .taken))
 
-add-t7 : tie.Need-add-t7
-add-t7 c = search needs
+add-t6 : tie.Need-add-t6
+add-t6 c = search needs
 
 returns-3 : tie.Need-returns-3
 unfolding choiceOf
 returns-3 c =
-    sym (ranked-equal _ _ _ (c .before .before .before .before .before .before .before .before .before .if1 .left) (c .before .before .before .if3 .taken))
+    sym (ranked-equal _ _ _ (c .before .before .before .before .before .before .if1 .left) (c .before .before .if3 .taken))
 
 returns-4 : tie.Need-returns-4
 returns-4 c =
-    sym (ranked-higher _ _ _ (c .before .before .before .before .before .before .if1 .left) (c .before .before .before .if2 .left) (c .if3 .left))
+    sym (ranked-higher _ _ _ (c .before .before .before .before .if1 .left) (c .before .before .if2 .left) (c .if3 .left))
 
 pub ranked-spec : {M : Type 1} → statement M
 ranked-spec =
     tie.close
-    (tie.spec alone-requires returns alone-requires-2 returns-2 add-t7 returns-3 returns-4)
+    (tie.spec alone-requires returns alone-requires-2 returns-2 add-t6 returns-3 returns-4)
