@@ -1,61 +1,27 @@
 -- The answers of the call that lists the best moves, by the grounds in the order in which the code tries them. Assumes nothing.
 use mathlib.Core.Path.{_≡_, refl, sym, ap, _∙_}
 use mathlib.Core.Bool.{Bool, true, false, cond, not}
-use mathlib.Core.List.{List, [], _∷_, _++_, append-nil, map}
+use mathlib.Core.List.{List, [], _∷_, _++_, map}
 use Prim.Native.Nat.{ℕ, zero, suc, min, _≤_, _<_}
 use native.Mathlib.Omega.{arith}
 use lib.Dec.{ltb}
-use lib.ListN.{length, take, drop, length-map}
-use lib.Seq.{take-all}
+use lib.ListN.{length, drop}
 use borrow.Author.Tests.{lt-ltb, le-ltb}
 use Rattle.logic.specs.Formula.{Plan}
-use Rattle.logic.specs.Configuration.{inMasks}
 use Rattle.logic.specs.Moves.{refusal, kindsKnown}
 use Rattle.table_format.specs.Decode.{Decoded, sound}
 use Rattle.contracts.specs.State.{State, tables, ownTables}
-use Rattle.contracts.specs.MoveOrder.{candidates}
 use Rattle.contracts.specs.declared.Counted.the-variants.{Accepted, Refused}
-use Rattle.contracts.specs.ImproveCall.{rootAfter, bestMoves}
+use Rattle.contracts.specs.ImproveCall.{bestMoves}
 use Rattle.contracts.specs.Counting.{countValues, CountTold, countAccepted}
 use Rattle.contracts.specs.BestCall.{Listing, bestGrounds, listRefused, listsOwn, lists, moveRecord, ListPromise}
 use Rattle.contracts.proofs.Calls.{call-refused, call-accepted}
-use Rattle.contracts.proofs.Candidates.{in-candidate}
-use Rattle.contracts.proofs.Best.{best-is}
 use Rattle.call_open.specs.inner.Opening.{openNumber}
 use Rattle.call_open.proofs.Opening.{two-tables, Tries, tries-tables}
 use Rattle.call_open.proofs.OfKinds.{kinds-unknown, kinds-pass}
-use Rattle.logic.specs.inner.MoveFields.{Sized}
-use Rattle.move_order.specs.inner.Stepping.{place}
-use Rattle.move_order.proofs.Listing.{candidate-low}
-use Rattle.move_list.specs.inner.Records.{AllLow, WritesMoves}
 use Rattle.move_rank.specs.declared.Choice.{Choice}
-use Rattle.move_best.specs.inner.Choosing.{BestIs, PlacesAre}
-use Rattle.move_best.proofs.Choosing.{count-is, few-best}
-
--- there are no more than the table of places takes, and each has a place
-module _ (P : Plan) (Z : Sized (P .ports) (P .sets)) (kinds : ℕ) (own : State) where
-  pub few-listed : length (bestMoves P kinds own) ≤ 21504
-  unfolding bestMoves
-  few-listed = few-best P Z kinds own (candidates P kinds (inMasks (own .masks))) [] (append-nil (candidates P kinds (inMasks (own .masks))))
-
-  best-low : AllLow (bestMoves P kinds own)
-  unfolding AllLow bestMoves
-  best-low m d =
-      candidate-low P Z (inMasks (own .masks)) m
-      (in-candidate P kinds (inMasks (own .masks)) m
-      (best-is (λ n. rootAfter P n (own .masks) (own .cells)) (candidates P kinds (inMasks (own .masks))) m d .0) .is-legal)
-
-  -- what is written of them
-  pub best-written : (c : Choice) (places : List ℕ) (list list′ : List (List ℕ)) → length places ≡ 21504 → BestIs (bestMoves P kinds own) P own c
-      → PlacesAre (bestMoves P kinds own) places → (count : ℕ) → count ≡ c .count → WritesMoves places count list list′
-      → list′ ≡ map moveRecord (bestMoves P kinds own) ++ drop (length (bestMoves P kinds own)) list
-  unfolding WritesMoves PlacesAre
-  best-written c places list list′ l b p count e w =
-      let ms = bestMoves P kinds own in
-      let n : count ≡ length ms = e ∙ count-is P own c ms b in
-      w ms best-low
-      (ap (λ (i : ℕ). take i places) n ∙ p ∙ take-all (length places) (map place ms) (omega (arith, few-listed, l, length-map ms place)))
-      ∙ ap (λ (i : ℕ). map moveRecord ms ++ drop i list) n
+use Rattle.move_best.specs.inner.Choosing.{BestIs}
+use Rattle.move_best.proofs.Choosing.{count-is}
 
 module _ (d : Decoded) (kinds : ℕ) (masks cells : List ℕ) (scratch : ℕ) (list : List (List ℕ)) where
   abbrev before : State

@@ -4,7 +4,7 @@ use contracts::Counted;
 use logic::lesser;
 use logic::wide;
 use move_best::choose;
-use move_list::write_records;
+use move_best::list_best;
 use move_order::kinds_known;
 ghost use lib.ListN.{length};
 ghost use Rattle.table_format.specs.Decode.{decode};
@@ -13,11 +13,8 @@ ghost use Rattle.contracts.specs.TrialCall.{ScratchAfter};
 ghost use Rattle.contracts.specs.Counting.{countValues};
 ghost use Rattle.contracts.specs.BestCall.{lists, ListPromise};
 
-// No plan has more legal moves, so that the places of the best fit (move_order/proofs/Count).
-const MOST_MOVES: usize = 21504;
-
-// Lists the legal moves of the kinds that leave the least root, in their order: tries 11 to 14, evaluates each candidate once, then
-// tries 16, and only then writes the list.
+// Lists the legal moves of the kinds that leave the least root, in their order: tries 11 to 14, counts the best of the candidates, then
+// tries 16, and only then goes over the candidates again and writes the list.
 pub fn best_moves(
     table: &[u8],
     masks: &[u64],
@@ -40,7 +37,6 @@ pub fn best_moves(
     if !kinds_known(kinds) {
         return Counted::Refused(14);
     }
-    let mut places = [0u32; MOST_MOVES];
     let c = choose(
         table,
         &firsts,
@@ -51,12 +47,23 @@ pub fn best_moves(
         o.ports,
         o.sets,
         kinds,
-        &mut places,
     );
     let count = wide(c.count);
     if list.len() < count {
         return Counted::Refused(16);
     }
-    write_records(&places, count, list);
+    list_best(
+        table,
+        &firsts,
+        &ends,
+        &uses,
+        masks,
+        cells,
+        o.ports,
+        o.sets,
+        kinds,
+        c,
+        list,
+    );
     Counted::Accepted(c.count)
 }

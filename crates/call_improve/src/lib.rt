@@ -61,7 +61,6 @@ pub fn improve(
     if !kinds_known(kinds) {
         return Improved::Refused(14);
     }
-    let mut places = [0u32; 1];
     let c = choose(
         table,
         &firsts,
@@ -72,7 +71,6 @@ pub fn improve(
         o.ports,
         o.sets,
         kinds,
-        &mut places,
     );
     let root = cells[0];
     if !lowers(c, root) {

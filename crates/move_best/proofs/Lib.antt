@@ -1,6 +1,7 @@
 -- Laws.
 pub mod Answering
-pub mod Placing
+pub mod Passing
 pub mod Choosing
+pub mod Writing
 pub mod Searching
 pub mod Candidates

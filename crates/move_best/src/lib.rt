@@ -1,18 +1,18 @@
-// The best of all candidates, by the root that each would leave. Nothing is written but the places of the best in a lent table, and the
-// masks that a candidate would leave, in a table of this crate's own. Paper 01, section One move; paper 02, request 2026-01.
+// The best of all candidates, by the root that each would leave: how many they are, the first of them, and their records in a lent list.
+// The masks that a candidate would leave stand in a table of this crate's own. Paper 01, section One move; paper 02, request 2026-01.
 use logic::MASK_ROOM;
 use logic::Move;
 use logic::own_masks;
 use move_legal::narrow;
+use move_list::put_best;
 use move_order::first_candidate;
 use move_order::next_candidate;
 use move_rank::Choice;
-use move_rank::keep_place;
 use move_rank::none_yet;
 use move_rank::ranked;
 use move_try::try_move;
 ghost use Rattle.call_open.specs.inner.Opening.{OpenTables};
-ghost use Rattle.move_best.specs.inner.Choosing.{SearchRoom, Chooses};
+ghost use Rattle.move_best.specs.inner.Choosing.{SearchRoom, Chooses, ListRoom, WriteRoom, Lists};
 
 // A fold over the candidates.
 fn search(
@@ -26,10 +26,9 @@ fn search(
     sets: usize,
     kinds: u32,
     work: &mut [u64],
-    places: &mut [u32],
 ) -> Choice
     requires { ⌜ SearchRoom ports sets (now table) (now firsts) (now ends) (now uses) (now masks) (now cells) (now work) ⌝ }
-    ensures { λ r. ⌜ Chooses (now (table .entry)) (now (masks .entry)) (now (cells .entry)) kinds r (now (places .exit)) ⌝ }
+    ensures { λ r. ⌜ Chooses (now (table .entry)) (now (masks .entry)) (now (cells .entry)) kinds r ⌝ }
 {
     let u = narrow(ports);
     let n = narrow(sets);
@@ -49,14 +48,12 @@ fn search(
             work,
         );
         best = ranked(best, at.m, a.value);
-        keep_place(best, at.m, a.value, places);
         at = next_candidate(at.m, kinds, u, n, masks);
     }
     best
 }
 
-// The candidates that leave the least root: the first of them in the order kind, S, T, p, q, how many they are, and as many of their
-// places in that order as the table takes.
+// The candidates that leave the least root: the first of them in the order kind, S, T, p, q, and how many they are.
 pub fn choose(
     table: &[u8],
     firsts: &[u32; 512],
@@ -67,10 +64,9 @@ pub fn choose(
     ports: usize,
     sets: usize,
     kinds: u32,
-    places: &mut [u32],
 ) -> Choice
     requires { ⌜ OpenTables ports sets (now table) (now firsts) (now ends) (now uses) (now masks) (now cells) ⌝ }
-    ensures { λ r. ⌜ Chooses (now (table .entry)) (now (masks .entry)) (now (cells .entry)) kinds r (now (places .exit)) ⌝ }
+    ensures { λ r. ⌜ Chooses (now (table .entry)) (now (masks .entry)) (now (cells .entry)) kinds r ⌝ }
 {
     let mut work = [0u64; MASK_ROOM];
     let own = own_masks(sets);
@@ -85,6 +81,80 @@ pub fn choose(
         sets,
         kinds,
         &mut work[0..own],
-        places,
     )
+}
+
+// The same candidates again, which cost less than room for all that may be the best: those that leave the least root are written.
+fn write_best(
+    table: &[u8],
+    firsts: &[u32; 512],
+    ends: &[u16; 512],
+    uses: &[u64; 512],
+    masks: &[u64],
+    cells: &[u32],
+    ports: usize,
+    sets: usize,
+    kinds: u32,
+    best: Choice,
+    work: &mut [u64],
+    list: &mut [[u32; 5]],
+)
+    requires { ⌜ WriteRoom ports sets (now table) (now firsts) (now ends) (now uses) (now masks) (now cells) kinds best (now work) (now list) ⌝ }
+    ensures { λ _. ⌜ Lists (now (table .entry)) (now (masks .entry)) (now (cells .entry)) kinds (now (list .entry)) (now (list .exit)) ⌝ }
+{
+    let u = narrow(ports);
+    let n = narrow(sets);
+    let mut i = 0;
+    let mut here = first_candidate(kinds, u, n, masks);
+    while here.found {
+        let a = try_move(
+            table,
+            firsts,
+            ends,
+            uses,
+            masks,
+            cells,
+            ports,
+            sets,
+            here.m,
+            work,
+        );
+        i = put_best(here.m, a.value, best.value, i, list);
+        here = next_candidate(here.m, kinds, u, n, masks);
+    }
+}
+
+// Writes the records of the candidates that leave the least root, in their order, into a list that has room for them.
+pub fn list_best(
+    table: &[u8],
+    firsts: &[u32; 512],
+    ends: &[u16; 512],
+    uses: &[u64; 512],
+    masks: &[u64],
+    cells: &[u32],
+    ports: usize,
+    sets: usize,
+    kinds: u32,
+    best: Choice,
+    list: &mut [[u32; 5]],
+)
+    requires { ⌜ ListRoom ports sets (now table) (now firsts) (now ends) (now uses) (now masks) (now cells) kinds best (now list) ⌝ }
+    ensures { λ _. ⌜ Lists (now (table .entry)) (now (masks .entry)) (now (cells .entry)) kinds (now (list .entry)) (now (list .exit)) ⌝ }
+{
+    let mut work = [0u64; MASK_ROOM];
+    let own = own_masks(sets);
+    write_best(
+        table,
+        firsts,
+        ends,
+        uses,
+        masks,
+        cells,
+        ports,
+        sets,
+        kinds,
+        best,
+        &mut work[0..own],
+        list,
+    );
 }

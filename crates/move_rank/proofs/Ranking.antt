@@ -1,18 +1,14 @@
--- The choice between the best so far and a candidate, and the table of places after it. Assumes nothing.
-use mathlib.Core.Path.{_≡_, refl, sym}
+-- The choice between the best so far and a candidate. Assumes nothing.
+use mathlib.Core.Path.{_≡_, refl}
 use mathlib.Core.Logic.{_≢_}
-use mathlib.Core.Bool.{Bool, true, false, cond, _||_}
-use mathlib.Core.List.{List}
+use mathlib.Core.Bool.{Bool, true, false, _||_}
 use Prim.Native.Nat.{ℕ, _+_, _-_, _≤_, _<_}
 use native.Mathlib.Omega.{arith}
 use lib.Dec.{eqb}
-use lib.ListN.{length, set}
-use lib.Seq.{set-out}
 use borrow.Author.Tests.{lt-ltb, le-ltb, eq-eqb, ne-eqb}
 use Rattle.logic.specs.declared.Move.{Move}
-use Rattle.move_order.specs.inner.Stepping.{place}
 use Rattle.move_rank.specs.declared.Choice.{Choice}
-use Rattle.move_rank.specs.inner.Ranking.{choiceOf, rankedBy, placesWith}
+use Rattle.move_rank.specs.inner.Ranking.{choiceOf, rankedBy}
 
 -- the choice between the best so far and a candidate
 module _ (best : Choice) (m : Move) (value : ℕ) where
@@ -35,21 +31,3 @@ module _ (best : Choice) (m : Move) (value : ℕ) where
   pub ranked-higher : best .count ≢ 0 → best .value ≤ value → value ≢ best .value → rankedBy best m value ≡ best
   unfolding rankedBy
   ranked-higher c l d = rw (ne-eqb (best .count) 0 c, le-ltb value (best .value) l, ne-eqb value (best .value) d)
-
--- the table after a candidate: its place is written, or would stand past the table's end, or it is none of the best
-module _ (best : Choice) (m : Move) (value : ℕ) (places : List ℕ) where
-  pub placed-here : (at x : ℕ) → value ≡ best .value → at ≡ best .count → x ≡ place m → set places (at - 1) x ≡ placesWith best m value places
-  unfolding placesWith
-  placed-here at x e f g = rw (eq-eqb value (best .value) e, f, g)
-
-  pub placed-past : (at : ℕ) → at ≡ best .count → length places ≤ at - 1 → places ≡ placesWith best m value places
-  unfolding placesWith
-  placed-past at f l = go (eqb value (best .value))
-    where
-      go : (b : Bool) → places ≡ cond b (set places (best .count - 1) (place m)) places
-      go true = sym (set-out places (best .count - 1) (place m) (omega (arith, f, l)))
-      go false = refl
-
-  pub placed-not : value ≢ best .value → places ≡ placesWith best m value places
-  unfolding placesWith
-  placed-not d = rw (ne-eqb value (best .value) d)

@@ -1,12 +1,10 @@
 // The best of some moves so far, by the root that each would leave, and one more of them. Paper 02, request 2026-01.
 use logic::Move;
 use logic::no_move;
-use logic::wide;
-use move_list::place_of;
 ghost use mathlib.Core.Path.{_≡_};
 ghost use Prim.Native.Nat.{_<_};
 ghost use Rattle.move_order.specs.inner.Stepping.{outset};
-ghost use Rattle.move_rank.specs.inner.Ranking.{PlaceKept, choiceOf, rankedBy, placesWith};
+ghost use Rattle.move_rank.specs.inner.Ranking.{choiceOf, rankedBy};
 
 // How many are the best so far, the first of them, and the root that each would leave; before any candidate the count is 0.
 pub struct Choice {
@@ -56,18 +54,5 @@ fn alone(m: Move, value: u32) -> Choice
         count: 1,
         m: m,
         value: value,
-    }
-}
-
-// Keeps the place of a candidate that is one of the best, behind those of the others, where the table has room.
-pub fn keep_place(best: Choice, m: Move, value: u32, places: &mut [u32])
-    requires { ⌜ PlaceKept best m ⌝ }
-    ensures { λ _. ⌜ now (places .exit) ≡ placesWith best m value (now (places .entry)) ⌝ }
-{
-    if value == best.value {
-        let at = wide(best.count) - 1;
-        if at < places.len() {
-            places[at] = place_of(m);
-        }
     }
 }

@@ -1,27 +1,26 @@
 use borrow.Author.Needs.{needs}
 use mathlib.Core.Path.{sym, _∙_}
 use native.Mathlib.Omega.{arith}
-use lib.ListN.{length}
 use Rattle.move_order.specs.inner.Stepping.{place}
 use Rattle.call_open.proofs.OpenPlan.{ports-fit, sets-fit}
 use Rattle.move_best.proofs.Candidates.{sized-over}
-use Rattle.move_best.proofs.Searching.{left, Searching, search-starts, search-tries, search-few, search-place, search-begins, search-goes-on, search-less, search-ends}
+use Rattle.move_best.proofs.Searching.{left, Searching, here-tries, here-begins, here-less, search-starts, search-few, search-goes-on, search-ends}
 use Rattle.move_best.proofs.search.Statement.{statement}
 use Rattle.move_best.proofs.search.Tie as tie
 
 abbrev Inv-loop : tie.InvT-loop
-Inv-loop table firsts ends uses masks cells ports sets kinds work₀ places₀ u n best₀ at₀ work places best at = Searching table masks cells kinds sets (length places₀) work places best at
+Inv-loop table firsts ends uses masks cells ports sets kinds work₀ u n best₀ at₀ work best at = Searching table masks cells kinds sets work best at
 
 abbrev μ-loop : tie.MeasureT-loop
-μ-loop table firsts ends uses masks cells ports sets kinds work₀ places₀ u n best₀ at₀ work places best at = left (at .found) (place (at .m))
+μ-loop table firsts ends uses masks cells ports sets kinds work₀ u n best₀ at₀ work best at = left (at .found) (place (at .m))
 
 narrow-requires : tie.Need-narrow-requires Inv-loop μ-loop
 narrow-requires c κs =
-    ports-fit (c .before .before .before .before .before .pre .ready .opened)
+    ports-fit (c .before .before .before .before .pre .ready .opened)
 
 narrow-requires-2 : tie.Need-narrow-requires-2 Inv-loop μ-loop
 narrow-requires-2 c κs =
-    let h = sets-fit (c .before .before .before .before .before .before .pre .ready .opened) in omega (arith, h)
+    let h = sets-fit (c .before .before .before .before .before .pre .ready .opened) in omega (arith, h)
 
 none-yet-requires : tie.Need-none-yet-requires Inv-loop μ-loop
 none-yet-requires c κs =
@@ -29,47 +28,39 @@ none-yet-requires c κs =
 
 first-candidate-requires : tie.Need-first-candidate-requires Inv-loop μ-loop
 first-candidate-requires c κs =
-    sized-over (c .before .before .before .before .before .before .before .before .pre .ready .opened) _ _ (c .before .before .narrow .ensures) (c .before .narrow2 .ensures)
+    sized-over (c .before .before .before .before .before .before .before .pre .ready .opened) _ _ (c .before .before .narrow .ensures) (c .before .narrow2 .ensures)
 
 loop-holds : tie.Need-loop-holds Inv-loop μ-loop
 loop-holds c =
-    search-starts _ _ _ _ _ _ _ _ (c .before .before .before .before .before .before .before .before .before .pre .ready) _ _ _ (c .before .before .before .narrow .ensures) (c .before .before .narrow2 .ensures) _ _ _ _ (c .before .before .before .before .before .before .before .before .before .pre .work-long) (c .before .none-yet .ensures) (c .first-candidate .ensures)
+    search-starts (c .before .before .before .before .before .before .before .before .pre .ready) _ _ _ (c .before .before .before .narrow .ensures) (c .before .before .narrow2 .ensures) _ _ _ (c .before .before .before .before .before .before .before .before .pre .work-long) (c .before .none-yet .ensures) (c .first-candidate .ensures)
 
 try-move-requires : tie.Need-try-move-requires Inv-loop μ-loop
 try-move-requires c κs =
-    search-tries _ _ _ _ _ _ _ _ (c .before .before .before .before .before .before .before .before .before .before .before .before .pre .ready) _ _ _ (c .before .before .before .before .before .before .narrow .ensures) (c .before .before .before .before .before .narrow2 .ensures) _ _ _ _ _ (c .before .before .loop .inv) (c .before .loop-test .taken)
+    let r = c .before .before .before .before .before .before .before .before .before .before .before .pre .ready in here-tries r _ _ _ (c .before .before .before .before .before .before .narrow .ensures) (c .before .before .before .before .before .narrow2 .ensures) _ _ (c .before .before .loop .inv .sought (r .opened .plan) (r .opened .decodes) .walk) (c .before .loop-test .taken) _ (c .before .before .loop .inv .work-long)
 
 ranked-requires : tie.Need-ranked-requires Inv-loop μ-loop
 ranked-requires c κs =
-    search-few _ _ _ _ _ _ _ _ (c .before .before .before .before .before .before .before .before .before .before .before .before .before .before .before .pre .ready) _ _ _ (c .before .before .before .before .before .before .before .before .before .narrow .ensures) (c .before .before .before .before .before .before .before .before .narrow2 .ensures) _ _ _ _ _ (c .before .before .before .before .before .loop .inv) (c .before .before .before .before .loop-test .taken)
-
-keep-place-requires : tie.Need-keep-place-requires Inv-loop μ-loop
-keep-place-requires c κs =
-    search-place _ _ _ _ _ _ _ _ (c .before .before .before .before .before .before .before .before .before .before .before .before .before .before .before .before .before .pre .ready) _ _ _ (c .before .before .before .before .before .before .before .before .before .before .before .narrow .ensures) (c .before .before .before .before .before .before .before .before .before .before .narrow2 .ensures) _ _ _ _ _ (c .before .before .before .before .before .before .before .loop .inv) (c .before .before .before .before .before .before .loop-test .taken) _ _ (c .before .before .before .before .try-move .ensures) (c .before .ranked .ensures)
+    search-few (c .before .before .before .before .before .before .before .before .before .before .before .before .before .before .pre .ready) _ _ _ (c .before .before .before .before .before .before .before .before .before .narrow .ensures) (c .before .before .before .before .before .before .before .before .narrow2 .ensures) _ _ _ (c .before .before .before .before .before .loop .inv)
 
 next-candidate-requires : tie.Need-next-candidate-requires Inv-loop μ-loop
 next-candidate-requires c κs =
-    search-begins _ _ _ _ _ _ _ _ (c .before .before .before .before .before .before .before .before .before .before .before .before .before .before .before .before .before .before .before .before .pre .ready) _ _ _ (c .before .before .before .before .before .before .before .before .before .before .before .before .before .before .narrow .ensures) (c .before .before .before .before .before .before .before .before .before .before .before .before .before .narrow2 .ensures) _ _ _ _ _ (c .before .before .before .before .before .before .before .before .before .before .loop .inv) (c .before .before .before .before .before .before .before .before .before .loop-test .taken)
+    let r = c .before .before .before .before .before .before .before .before .before .before .before .before .before .before .before .pre .ready in here-begins r _ _ _ (c .before .before .before .before .before .before .before .before .before .before .narrow .ensures) (c .before .before .before .before .before .before .before .before .before .narrow2 .ensures) _ _ (c .before .before .before .before .before .before .loop .inv .sought (r .opened .plan) (r .opened .decodes) .walk) (c .before .before .before .before .before .loop-test .taken)
 
 loop-less : tie.Need-loop-less Inv-loop μ-loop
 loop-less c =
-    search-less _ _ _ _ _ _ _ _ (c .before .before .before .before .before .before .before .before .before .before .before .before .before .before .before .before .before .before .before .before .before .pre .ready) _ _ _ (c .before .before .before .before .before .before .before .before .before .before .before .before .before .before .before .narrow .ensures) (c .before .before .before .before .before .before .before .before .before .before .before .before .before .before .narrow2 .ensures) _ _ _ _ _ (c .before .before .before .before .before .before .before .before .before .before .before .loop .inv) (c .before .before .before .before .before .before .before .before .before .before .loop-test .taken) _ (c .next-candidate .ensures)
+    let r = c .before .before .before .before .before .before .before .before .before .before .before .before .before .before .before .before .pre .ready in here-less r _ _ _ (c .before .before .before .before .before .before .before .before .before .before .before .narrow .ensures) (c .before .before .before .before .before .before .before .before .before .before .narrow2 .ensures) _ _ (c .before .before .before .before .before .before .before .loop .inv .sought (r .opened .plan) (r .opened .decodes) .walk) (c .before .before .before .before .before .before .loop-test .taken) _ (c .next-candidate .ensures)
 
 loop-again : tie.Need-loop-again Inv-loop μ-loop
 loop-again c =
-    search-goes-on _ _ _ _ _ _ _ _ (c .before .before .before .before .before .before .before .before .before .before .before .before .before .before .before .before .before .before .before .before .before .pre .ready) _ _ _ (c .before .before .before .before .before .before .before .before .before .before .before .before .before .before .before .narrow .ensures) (c .before .before .before .before .before .before .before .before .before .before .before .before .before .before .narrow2 .ensures) _ _ _ _ _ (c .before .before .before .before .before .before .before .before .before .before .before .loop .inv) (c .before .before .before .before .before .before .before .before .before .before .loop-test .taken) _ _ _ _ _ (c .before .before .before .before .before .before .before .before .try-move .kept .1 .1 .1 .1 .1 .1 .1 .1 .1 .0) (c .before .before .before .before .before .before .before .before .try-move .ensures) (c .before .before .before .before .before .ranked .ensures) (c .before .before .before .keep-place .ensures) (c .next-candidate .ensures)
+    search-goes-on (c .before .before .before .before .before .before .before .before .before .before .before .before .before .before .before .before .pre .ready) _ _ _ (c .before .before .before .before .before .before .before .before .before .before .before .narrow .ensures) (c .before .before .before .before .before .before .before .before .before .before .narrow2 .ensures) _ _ _ (c .before .before .before .before .before .before .before .loop .inv) (c .before .before .before .before .before .before .loop-test .taken) _ _ _ _ (c .before .before .before .before .try-move .kept .1 .1 .1 .1 .1 .1 .1 .1 .1 .0) (c .before .before .before .before .try-move .ensures) (c .before .ranked .ensures) (c .next-candidate .ensures)
 
 same-length : tie.Need-same-length Inv-loop μ-loop
 same-length c =
-    c .before .loop .inv .work-long ∙ sym (c .before .before .before .before .before .before .before .before .before .before .before .pre .work-long)
-
-same-length-2 : tie.Need-same-length-2 Inv-loop μ-loop
-same-length-2 c =
-    c .before .loop .inv .places-long
+    c .before .loop .inv .work-long ∙ sym (c .before .before .before .before .before .before .before .before .before .before .pre .work-long)
 
 returns : tie.Need-returns Inv-loop μ-loop
 returns c =
-    search-ends _ _ _ _ _ _ _ _ _ _ (c .before .loop .inv) (c .loop-test .left)
+    search-ends _ _ _ _ _ _ _ _ (c .before .loop .inv) (c .loop-test .left)
 
 pub search-spec : {M : Type 1} → statement M
 search-spec =
@@ -84,10 +75,8 @@ search-spec =
     loop-holds
     try-move-requires
     ranked-requires
-    keep-place-requires
     next-candidate-requires
     loop-less
     loop-again
     same-length
-    same-length-2
     returns)
