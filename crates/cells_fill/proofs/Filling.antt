@@ -17,18 +17,19 @@ use Rattle.logic.specs.Penalty.{below, penalty}
 use Rattle.logic.specs.Cells.{cellCount, tupleAt, tabulate, layout}
 use Rattle.logic.proofs.Tables.{length-tabulate, getD-tabulate, tabulate-cong, length-layout}
 use Rattle.logic.proofs.Written.{take-tabulate}
-use Rattle.table_format.specs.Bytes.{recordLength, endField, records}
+use Rattle.table_format.specs.Bytes.{recordLength, kindField, endField, records}
 use Rattle.table_format.specs.Rules.{treeCount, everyNode, nodeRule}
 use Rattle.table_format.proofs.Parts.{rest-all, some-record, one-fits}
 use Rattle.table_format.proofs.Opened.{one-forest, not-none, PartOpened, part-opened, part-span}
 use Rattle.table_format.proofs.Bytes.{record-pos}
 use Rattle.table_format.proofs.Encoding.{length-records}
-use Rattle.cells_join.specs.inner.Joined.{joinInto, merged, settled, joinOf, spreadOf, Low, HeldPlaced, HeldLow, ChildPlaced, Joins}
+use Rattle.cells_join.specs.inner.Joined.{joinInto, merged, settled, joinOf, spreadOf, beginJoin, joinWith, Low, HeldPlaced, HeldLow, ChildPlaced, Joins}
 use Rattle.cells_join.proofs.Prefix.{into-none, into-append}
-use Rattle.cells_join.proofs.Held.{settled-none, settled-behind, length-settled, settled-front}
+use Rattle.cells_join.proofs.Held.{settled-none, settled-behind, length-settled, settled-front, settled-alike, of-kind}
+use Rattle.cells_join.proofs.Limits.{begin-alike, with-alike, low-with, number-low}
 use Rattle.cells_fill.specs.inner.Fill.{treewise, config, table, TreesPlaced, FillPlaced, TreeFilled, FillsTree, Filled, Fills}
 use Rattle.cells_fill.proofs.Values.{below-pos, literal-spread, cells-below, table-tree}
-use Rattle.cells_fill.proofs.Trees.{few-parts, tree-low}
+use Rattle.cells_fill.proofs.Trees.{few-parts, tree-low, bit-low}
 
 length-table : (u : ℕ) (k : Configuration) (f : Forest) (d : ℕ) → length (table u k f d) ≡ cellCount u f d
 unfolding table
@@ -106,9 +107,9 @@ module _ (ports sets depth at nn : ℕ) (masks xs xs₂ : List ℕ) (m : Node) (
       ∙ List·getD-append row _ 0 t (rw length-tabulate h) ∙ getD-tabulate (ports ^ depth) _ t h
 
 -- One tree, joined or held, and its later siblings.
-module _ (above ports sets depth over at outer held held₂ nn r : ℕ) (masks xs xs₂ xs₃ xs₄ : List ℕ) (n m : Node) (c s : Forest) (u1 : 1 ≤ ports)
+module _ (join above ports sets depth over at outer held held₂ nn r : ℕ) (masks xs xs₂ xs₃ xs₄ : List ℕ) (n m : Node) (c s : Forest) (u1 : 1 ≤ ports)
     (kn : kindNumber n ≡ above) (dn : depth ≡ childDepth n outer) (on : over ≡ ports ^ outer) (after : over ≤ at) (room : at ≤ length xs) (waits : HeldPlaced over held at)
-    (made : TreeFilled ports sets depth at m c masks xs xs₂ nn) (met : Joins above ports over held at xs₂ xs₃ held₂)
+    (made : TreeFilled ports sets depth at m c masks xs xs₂ nn) (met : Joins join above ports over held at xs₂ xs₃ held₂)
     (rest : Filled above ports sets depth over (at + nn) outer n s masks (settled (joinOf above) over held₂ xs₃) xs₄ r) where
   abbrev K : Configuration
   K = config ports sets masks
@@ -229,37 +230,41 @@ spread-width (lit l) ports outer = rw (literal-spread (l .test) ports) (omega ar
 
 -- A part of which the trees before byte `place` are filled, and joined but for the row held: where the trees from there on stand,
 -- and that what filling them comes to, the whole part comes to.
-pub record Passed (l : List ℕ) (i above ports sets depth width over : ℕ) (masks xs : List ℕ) (place node at held : ℕ) (cells : List ℕ) : Type 0 where
+pub record Passed (l : List ℕ) (i above ports sets depth width over : ℕ) (masks xs : List ℕ) (place node at held join : ℕ) (cells : List ℕ) : Type 0 where
   pub within : place ≤ length l
   pub same-length : length cells ≡ length xs
   pub placed : FillPlaced (drop place l) node above ports sets depth width over at masks cells
   pub waits : HeldPlaced over held at
   pub held-one : 1 ≤ held → spreadOf above ports ≡ 1
-  pub held-low : 1 ≤ held → Low (joinOf above) cells held over
-  pub own-low : spreadOf above ports ≡ 1 → over < at → held ≢ over → Low (joinOf above) cells 0 over
+  pub join2 : join ≤ 2
+  pub alike : min 1 join ≡ joinOf above
+  pub held-low : 1 ≤ held → Low join cells held over
+  pub own-low : spreadOf above ports ≡ 1 → over < at → held ≢ over → Low join cells 0 over
   pub comes-to : (ys : List ℕ) (r : ℕ) → Fills (drop place l) node above ports sets depth over at masks (settled (joinOf above) over held cells) ys r
       → Fills l i above ports sets depth over over masks xs ys r
 
 pub passed-none : (l : List ℕ) (i above ports sets depth width over : ℕ) (masks xs : List ℕ) → FillPlaced l i above ports sets depth width over over masks xs
-    → Passed l i above ports sets depth width over masks xs 0 i over 0 xs
+    → (join : ℕ) → join ≡ beginJoin above → Passed l i above ports sets depth width over masks xs 0 i over 0 join xs
 unfolding HeldPlaced
-passed-none l i above ports sets depth width over masks xs p = record {
+passed-none l i above ports sets depth width over masks xs p join e = record {
   within = omega arith;
   same-length = refl;
   placed = p;
   waits = λ h. absurd (omega arith);
   held-one = λ h. absurd (omega arith);
+  join2 = rw e (begin-alike above .0);
+  alike = rw e (begin-alike above .1);
   held-low = λ h. absurd (omega arith);
   own-low = λ _ h. absurd (omega arith);
   comes-to = λ ys r f. subst (λ (x : List ℕ). Fills l i above ports sets depth over over masks x ys r) (settled-none (joinOf above) over 0 xs refl) f;
 }
 
-module _ (l : List ℕ) (i above ports sets depth width over : ℕ) (masks xs : List ℕ) (place node at held : ℕ) (cells : List ℕ)
-    (p : Passed l i above ports sets depth width over masks xs place node at held cells) where
+module _ (l : List ℕ) (i above ports sets depth width over : ℕ) (masks xs : List ℕ) (place node at held join : ℕ) (cells : List ℕ)
+    (p : Passed l i above ports sets depth width over masks xs place node at held join cells) where
   -- where all are passed
-  pub passed-all : (ys : List ℕ) → length l ≤ place → ys ≡ settled (joinOf above) over held cells → Fills l i above ports sets depth over over masks xs ys at
+  pub passed-all : (ys : List ℕ) → length l ≤ place → ys ≡ settled join over held cells → Fills l i above ports sets depth over over masks xs ys at
   passed-all ys h e =
-      p .comes-to ys at (subst (λ (x : List ℕ). Fills (drop place l) node above ports sets depth over at masks (settled (joinOf above) over held cells) x at) (sym e)
+      p .comes-to ys at (subst (λ (x : List ℕ). Fills (drop place l) node above ports sets depth over at masks (settled (joinOf above) over held cells) x at) (sym (e ∙ settled-alike join (joinOf above) (of-kind join above (p .alike)) over held cells))
       (fill-none (drop place l) node above ports sets depth over at masks (settled (joinOf above) over held cells) (omega (arith, length-drop place l, record-pos))))
 
   -- the row held stands before the end of the cells
@@ -267,7 +272,7 @@ module _ (l : List ℕ) (i above ports sets depth width over : ℕ) (masks xs : 
   unfolding HeldPlaced
   held-placed n h q = let w = p .waits q in (w .0, omega (arith, w .1))
 
-  pub held-lows : HeldLow (joinOf above) over held cells
+  pub held-lows : HeldLow join over held cells
   unfolding HeldPlaced
   held-lows = record {
     row = p .held-low;
@@ -328,7 +333,7 @@ module _ (l : List ℕ) (i above ports sets depth width over : ℕ) (masks xs : 
             omega (arith, sp .within, length-drop place l, p .within),
           )
 
-      module _ (nn : ℕ) (xs₂ : List ℕ) (made : FillsTree (take (length l - place) L) node ports sets depth at masks cells xs₂ nn) (l₂ : length xs₂ ≡ length cells) where
+      module _ (kind join₂ : ℕ) (ki : kind ≡ kindField (take (length l - place) L)) (jn : join₂ ≡ joinWith join kind) (nn : ℕ) (xs₂ : List ℕ) (made : FillsTree (take (length l - place) L) node ports sets depth at masks cells xs₂ nn) (l₂ : length xs₂ ≡ length cells) where
         abbrev m : Node
         m = first-tree .0
 
@@ -370,24 +375,37 @@ module _ (l : List ℕ) (i above ports sets depth width over : ℕ) (masks xs : 
         unfolding treeCount
         one-each h = ⊎-elim (λ (x : spreadOf above ports ≡ 1). x) (λ (x : treeCount (tree m c s) + min 1 (at - over) ≤ 1). absurd (omega arith)) (rw g at (p .placed .alone))
 
-        row-low : Low (joinOf above) xs₂ at (over * spreadOf above ports)
+        kind-is : kind ≡ kindNumber m
+        kind-is = ki ∙ ap kindField (rest-all place l) ∙ o .kind
+
+        row-low : Low join₂ xs₂ at (over * spreadOf above ports)
         unfolding Low
         row-low i h k =
-            rw (tree-row ports sets depth at nn masks cells xs₂ m c t fits i (omega (arith, width-of)))
+            rw (tree-row ports sets depth at nn masks cells xs₂ m c t fits i (omega (arith, width-of)), jn)
+            (number-low join kind _
             (tree-low ports sets masks m c s depth (tupleAt ports depth i) (p .placed .trees .ports64) (ap (λ (x : Forest). everyNode (nodeRule sets) x depth) (sym g) ∙ p .placed .trees .rules) few)
+            (λ a b. bit-low ports (config ports sets masks) m c (tupleAt ports depth i) (omega (arith, kind-is)) (omega (arith, kind-is))))
+
+        kept-low : (from : ℕ) → from + over ≤ at → Low join cells from over → Low join xs₂ from over
+        unfolding Low
+        kept-low from h low i q k = rw (tree-kept ports sets depth at nn masks cells xs₂ m c t fits (from + i) (omega arith)) (low i q k)
 
         -- low cells before the tree stay so
-        still-low : (from : ℕ) → from + over ≤ at → Low (joinOf above) cells from over → Low (joinOf above) xs₂ from over
-        unfolding Low
-        still-low from h low i q k = rw (tree-kept ports sets depth at nn masks cells xs₂ m c t fits (from + i) (omega arith)) (low i q k)
+        still-low : (from : ℕ) → from + over ≤ at → Low join cells from over → Low join₂ xs₂ from over
+        still-low from h low = rw jn (low-with join kind from over xs₂ (kept-low from h low))
 
         over-one : 1 ≤ over
         over-one = rw (p .placed .over-is) (one-le-pow (p .placed .outer) ports (p .placed .trees .ports1))
 
+        next-join : (join₂ ≤ 2) × (min 1 join₂ ≡ joinOf above)
+        next-join = let a = with-alike join kind in (omega (arith, a .0, jn, p .join2), ap (min 1) jn ∙ a .1 ∙ p .alike)
+
         -- where its cells are joined
-        pub join-placed : ChildPlaced above ports over held at xs₂
+        pub join-placed : ChildPlaced join₂ above ports over held at xs₂
         unfolding HeldPlaced
         join-placed = record {
+          join2 = next-join .0;
+          alike = next-join .1;
           ports1 = p .placed .trees .ports1;
           over1 = over-one;
           after = p .placed .after;
@@ -402,8 +420,8 @@ module _ (l : List ℕ) (i above ports sets depth width over : ℕ) (masks xs : 
         }
 
         -- The tree is passed as well.
-        pub passed-tree : (held₂ : ℕ) (xs₃ : List ℕ) → Joins above ports over held at xs₂ xs₃ held₂ → length xs₃ ≡ length cells
-            → (at + nn ≤ length xs) × Passed l i above ports sets depth width over masks xs (place + far) e (at + nn) held₂ xs₃
+        pub passed-tree : (held₂ : ℕ) (xs₃ : List ℕ) → Joins join₂ above ports over held at xs₂ xs₃ held₂ → length xs₃ ≡ length cells
+            → (at + nn ≤ length xs) × Passed l i above ports sets depth width over masks xs (place + far) e (at + nn) held₂ join₂ xs₃
         unfolding Fills HeldPlaced cellCount treeCount
         passed-tree held₂ xs₃ met lx =
             let q = p .placed in
@@ -442,6 +460,8 @@ module _ (l : List ℕ) (i above ports sets depth width over : ℕ) (masks xs : 
                     let w : over * spreadOf above ports ≡ over = ap (λ (x : ℕ). over * x) (k .1) ∙ mul-one over in
                     (omega (arith, k .0, q .after), omega (arith, k .0, w, width-of, t .count));
                 held-one = λ h. met .held-is h .1;
+                join2 = next-join .0;
+                alike = next-join .1;
                 held-low = λ h.
                     let k = met .held-is h in
                     let w : over * spreadOf above ports ≡ over = ap (λ (x : ℕ). over * x) (k .1) ∙ mul-one over in
@@ -450,12 +470,12 @@ module _ (l : List ℕ) (i above ports sets depth width over : ℕ) (masks xs : 
                 comes-to = λ ys r rest. p .comes-to ys r (λ n outer f′ up′ kn dn on is.
                     let g′ = one-forest L (tree m c s) f′ node up up′ (first-tree .3) is in
                     subst (λ (x : Forest). Filled above ports sets depth over at outer n x masks (settled (joinOf above) over held cells) ys r) g′
-                    (tree-filled above ports sets depth over at outer held held₂ nn r masks cells xs₂ xs₃ ys n m c s (q .trees .ports1) kn dn on (q .after) (omega (arith, room)) (p .waits) t met
+                    (tree-filled join₂ above ports sets depth over at outer held held₂ nn r masks cells xs₂ xs₃ ys n m c s (q .trees .ports1) kn dn on (q .after) (omega (arith, room)) (p .waits) t met
                     (rest n outer s up kn dn on (sym on-part ∙ o .rest))));
               },
             )
           where
-            own-still : {h₂ : ℕ} {ws : List ℕ} → spreadOf above ports ≡ 1 → h₂ ≢ over → Dec (1 ≤ h₂) → Joins above ports over held at xs₂ ws h₂ → Low (joinOf above) ws 0 over
+            own-still : {h₂ : ℕ} {ws : List ℕ} → spreadOf above ports ≡ 1 → h₂ ≢ over → Dec (1 ≤ h₂) → Joins join₂ above ports over held at xs₂ ws h₂ → Low join₂ ws 0 over
             own-still one ne (yes h) j =
                 let k = j .held-is h in
                 let past : over < at = (let z : at ≢ over = (λ y. ne (k .0 ∙ y)) in omega (arith, z, p .placed .after)) in

@@ -1,6 +1,6 @@
 -- The cells of one tree: a literal's own, or an inner node's own over its children's. Assumes nothing.
 use mathlib.Core.Path.{_≡_, refl, sym, ap, ap₂, _∙_, subst}
-use mathlib.Core.Bool.{Bool, true}
+use mathlib.Core.Bool.{Bool, true, not}
 use mathlib.Core.Logic.{⊎-elim, inl, inr}
 use mathlib.Core.List.{List, [], _++_, append-assoc}
 use Prim.Native.Nat.{ℕ, _+_, _-_, _*_, _^_, _≤_, _<_}
@@ -10,14 +10,15 @@ use lib.Dec.{eqb}
 use lib.ListN.{length, getD, take, drop, length-drop, take-append-drop}
 use lib.Seq.{length-take-le}
 use borrow.Author.Tests.{eq-eqb}
-use Rattle.logic.specs.Formula.{Literal, literalOf, Node, root, all, any, and, or, lit, Forest, none, tree, kindNumber, childDepth}
+use Rattle.logic.specs.Formula.{Test, isin, notin, port, size, testKind, Literal, literalOf, Node, root, all, any, and, or, lit, Forest, none, tree, kindNumber, childDepth}
 use Rattle.logic.specs.inner.Literals.{ConstantLow, ConstantsLow}
-use Rattle.logic.specs.Configuration.{inMasks}
-use Rattle.logic.specs.Truth.{Tuple}
-use Rattle.logic.specs.Penalty.{sum, below, combine, literalPenalty, penalties, penalty}
+use Rattle.logic.specs.Configuration.{Configuration, inMasks}
+use Rattle.logic.specs.Truth.{Tuple, portOf}
+use Rattle.logic.specs.Penalty.{compare, sum, below, combine, testPenalty, literalPenalty, penalties, penalty}
 use Rattle.logic.specs.Cells.{cellCount, tupleAt, tabulate, layout}
 use Rattle.logic.proofs.Tables.{tabulate-cong}
 use Rattle.logic.proofs.Bound.{spread, spread-pos, subtreeCells, subtree-count, penalties-le, below-penalties-le, literals-low, sizes-64}
+use Rattle.logic.proofs.Lists.{indicator-le}
 use Rattle.logic.proofs.Lent.{lent, lentTo, back, backTo, lent-is, lent-length, back-is, back-to-is, nothing-behind}
 use Rattle.logic.proofs.Relations.{test-kind-range}
 use Rattle.logic.proofs.Within.{within-at}
@@ -65,6 +66,22 @@ tree-low u sets masks m c s depth e u64 rules few =
     let small : (S : ℕ) → k .size S ≤ 64 = sizes-64 u sets (inMasks masks) u64 in
     let b = penalties-le u 65 (omega arith) k (tree m c s) depth e (literals-low k small (tree m c s) depth (constants-low sets (tree m c s) depth rules)) in
     omega (arith, b, subtree-count u (tree m c s))
+
+-- A membership's penalty, and a comparison's, is 0 or 1.
+pub bit-low : (u : ℕ) (k : Configuration) (m : Node) (c : Forest) (e : Tuple) → 5 ≤ kindNumber m → kindNumber m ≤ 7 → penalty u k m c e < 2
+unfolding kindNumber testKind penalty combine literalPenalty testPenalty
+bit-low u k root c e h b = absurd (omega arith)
+bit-low u k all c e h b = absurd (omega arith)
+bit-low u k any c e h b = absurd (omega arith)
+bit-low u k and c e h b = absurd (omega arith)
+bit-low u k or c e h b = absurd (omega arith)
+bit-low u k (lit l) c e h b = go (l .test) b
+  where
+    go : (t : Test) → testKind t ≤ 7 → testPenalty k t e < 2
+    go (isin v S) b = omega (arith, indicator-le (not (k .member S (portOf e v))))
+    go (notin v S) b = omega (arith, indicator-le (k .member S (portOf e v)))
+    go (port r v w) b = omega (arith, indicator-le (not (compare r (portOf e v) (portOf e w))))
+    go (size r S n) b = absurd (omega arith)
 
 -- no kind is above 8
 kind-number-low : (n : Node) → kindNumber n ≤ 8

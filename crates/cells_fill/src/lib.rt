@@ -1,6 +1,8 @@
 // Fills every cell of a plan, by recursion over its records. Paper 01, section Penalty.
+use cells_join::begin_join;
 use cells_join::join_child;
 use cells_join::join_held;
+use cells_join::join_with;
 use cells_literals::put_literal;
 use logic::own_masks;
 use table_format::RECORD;
@@ -88,16 +90,18 @@ fn fill_children(
     let mut node = i;
     let mut at = over;
     let mut held = 0;
+    let mut join = begin_join(above);
     while place < part.len() {
         let tree = &part[place..];
         let end = end_of(tree);
+        join = join_with(join, kind_of(tree));
         let n = fill_tree(tree, node, ports, sets, depth, width, at, masks, cells);
-        held = join_child(above, ports, over, held, at, cells);
+        held = join_child(join, above, ports, over, held, at, cells);
         place += RECORD * (end - node);
         node = end;
         at += n;
     }
-    join_held(above, over, held, cells);
+    join_held(join, over, held, cells);
     at
 }
 

@@ -3,7 +3,7 @@ use mathlib.Core.Path.{_≡_, refl, sym, ap, ap₂, _∙_, subst}
 use mathlib.Core.Bool.{Bool, true, false, cond}
 use mathlib.Core.List.{List, [], _∷_, _++_, append-assoc}
 use mathlib.Core.Logic.{_≢_}
-use Prim.Native.Nat.{ℕ, _+_, _-_, _*_, _≤_, _<_}
+use Prim.Native.Nat.{ℕ, _+_, _-_, _*_, _%_, _≤_, _<_, min}
 use native.Mathlib.Decide.{decLe}
 use native.Mathlib.Nat.{mul-one, zero-add, lt-of-not-le}
 use native.Mathlib.Omega.{arith}
@@ -14,7 +14,7 @@ use borrow.Author.Tests.{eq-eqb, ne-eqb}
 use Rattle.logic.specs.Cells.{tabulate}
 use Rattle.logic.proofs.Tables.{length-tabulate, getD-tabulate, tabulate-cong}
 use Rattle.logic.proofs.Written.{Written, one-more-first, behind-first, from-first}
-use Rattle.cells_join.specs.inner.Joined.{meet, joinAll, joinInto, merged, settled, joinOf, spreadOf, Low, HeldPlaced, ChildPlaced, Joins}
+use Rattle.cells_join.specs.inner.Joined.{meet, limitOf, joinAll, joinInto, merged, settled, joinOf, spreadOf, Low, HeldPlaced, ChildPlaced, Joins}
 use Rattle.cells_join.proofs.Prefix.{step-low, one-at, joinedAt}
 
 -- a cell that is not written yet
@@ -116,21 +116,21 @@ settled-front join over held C D h = go (decLe 1 held)
         settled-none join over held (C ++ D) z ∙ ap (λ (l : List ℕ). l ++ D) (sym (settled-none join over held C z))
 
 -- What is low where it is not written yet
-pub low-kept : (f : ℕ → ℕ) (join over t i : ℕ) (xs cells : List ℕ) → Written f 0 over xs cells t → t ≤ i → (1 ≤ join → getD xs i 0 < 2147483648)
-    → 1 ≤ join → getD cells i 0 < 2147483648
+pub low-kept : (f : ℕ → ℕ) (join over t i : ℕ) (xs cells : List ℕ) → Written f 0 over xs cells t → t ≤ i → (1 ≤ join → getD xs i 0 < limitOf join)
+    → 1 ≤ join → getD cells i 0 < limitOf join
 low-kept f join over t i xs cells w h l q = rw (kept f over t i xs cells w h) (l q)
 
 pub low-part : (f : ℕ → ℕ) (join over t at n from s : ℕ) (xs cells : List ℕ) → Written f 0 over xs cells t → t ≤ from → at ≤ from → from + s ≤ at + n → Low join xs at n → Low join cells from s
 unfolding Low
 low-part f join over t at n from s xs cells w a b c low q l =
     let e : at + (from + q - at) ≡ from + q = omega arith in
-    low-kept f join over t (from + q) xs cells w (omega arith) (λ k. subst (λ (m : ℕ). getD xs m 0 < 2147483648) e (low (from + q - at) (omega arith) k))
+    low-kept f join over t (from + q) xs cells w (omega arith) (λ k. subst (λ (m : ℕ). getD xs m 0 < limitOf join) e (low (from + q - at) (omega arith) k))
 
 -- The cells that two rows are merged into are low.
 merged-low : (join : ℕ) (first : Bool) (over at : ℕ) (l : List ℕ) → at + over ≤ length l → Low join l at over → Low join (merged join first over 1 at l) 0 over
 unfolding Low
 merged-low join first over at l h low t q k =
-    rw (zero-add t, merged-at join first over 1 at t l q, mul-one t, one-at (at + t) l (omega arith)) (step-low join first (getD l t 0) (getD l (at + t) 0) k (low t q k))
+    rw (zero-add t, merged-at join first over 1 at t l q, mul-one t, one-at (at + t) l (omega arith)) (step-low join first (getD l t 0) (getD l (at + t) 0) (limitOf join) k (low t q k))
 
 merged-else : (join : ℕ) (first : Bool) (over s at i : ℕ) (l : List ℕ) → over ≤ i → getD (merged join first over s at l) i 0 ≡ getD l i 0
 merged-else join first over s at i l h =
@@ -138,28 +138,64 @@ merged-else join first over s at i l h =
     ap (λ (m : ℕ). getD (merged join first over s at l) m 0) e ∙ sym (getD-drop over (merged join first over s at l) (i - over) 0)
     ∙ ap (λ (x : List ℕ). getD x (i - over) 0) (merged-behind join first over s at over l (omega arith)) ∙ getD-drop over l (i - over) 0 ∙ ap (λ (m : ℕ). getD l m 0) (sym e)
 
+-- Two joins alike, that both add or both take the minimum, make the same of all cells.
+meet-alike : (a b : ℕ) → min 1 a ≡ min 1 b → (x y : ℕ) → meet a x y ≡ meet b x y
+unfolding meet
+meet-alike a b h x y = go (decLe 1 a)
+  where
+    go : Dec (1 ≤ a) → cond (eqb a 0) ((x + y) % 4294967296) (min x y) ≡ cond (eqb b 0) ((x + y) % 4294967296) (min x y)
+    go (yes q) = rw (ne-eqb a 0 (λ z. absurd (omega arith)), ne-eqb b 0 (λ z. absurd (omega arith)))
+    go (no f) = let l = lt-of-not-le f in rw (eq-eqb a 0 (omega arith), eq-eqb b 0 (omega arith))
+
+all-alike : (a b : ℕ) → min 1 a ≡ min 1 b → (x : ℕ) (ys : List ℕ) → joinAll a x ys ≡ joinAll b x ys
+unfolding joinAll
+all-alike a b h x [] = refl
+all-alike a b h x (y ∷ ys) = all-alike a b h (meet a x y) ys ∙ ap (λ (z : ℕ). joinAll b z ys) (meet-alike a b h x y)
+
+into-alike : (a b : ℕ) → min 1 a ≡ min 1 b → (first : Bool) (x : ℕ) (ys : List ℕ) → joinInto a first x ys ≡ joinInto b first x ys
+unfolding joinInto
+into-alike a b h false x ys = all-alike a b h x ys
+into-alike a b h true x [] = refl
+into-alike a b h true x (y ∷ ys) = all-alike a b h y ys
+
+pub merged-alike : (a b : ℕ) → min 1 a ≡ min 1 b → (first : Bool) (over s at : ℕ) (l : List ℕ) → merged a first over s at l ≡ merged b first over s at l
+unfolding merged
+merged-alike a b h first over s at l =
+    ap (λ (x : List ℕ). x ++ drop over l) (tabulate-cong over (joinedAt a first s at l) (joinedAt b first s at l) (λ t _. into-alike a b h first (getD l t 0) (take s (drop (at + t * s) l))))
+
+pub settled-alike : (a b : ℕ) → min 1 a ≡ min 1 b → (over held : ℕ) (l : List ℕ) → settled a over held l ≡ settled b over held l
+unfolding settled
+settled-alike a b h over held l = ap (cond (eqb held 0) l) (merged-alike a b h (eqb held over) over 1 held l)
+
+-- The join of a kind is at most 1, so that it stands for all that are alike.
+pub of-kind : (join above : ℕ) → min 1 join ≡ joinOf above → min 1 join ≡ min 1 (joinOf above)
+unfolding joinOf
+of-kind join above h = omega (arith, h)
+
 -- The three ways in which a child's cells are met.
-pub joins-two : (above ports over held at : ℕ) (xs ys : List ℕ) → ChildPlaced above ports over held at xs → 1 ≤ held
-    → ys ≡ merged (joinOf above) false over 1 at (merged (joinOf above) (eqb held over) over 1 held xs) → Joins above ports over held at xs ys 0
+pub joins-two : (join above ports over held at : ℕ) (xs ys : List ℕ) → ChildPlaced join above ports over held at xs → 1 ≤ held
+    → ys ≡ merged join false over 1 at (merged join (eqb held over) over 1 held xs) → Joins join above ports over held at xs ys 0
 unfolding HeldPlaced Low
-joins-two above ports over held at xs ys p h e =
+joins-two join above ports over held at xs ys p h e =
     let w = p .waits h in
     let later : over < at = omega (arith, p .over1) in
     let one = p .later later in
-    let D = merged (joinOf above) (eqb held over) over 1 held xs in
+    let k = of-kind join above (p .alike) in
+    let D = merged join (eqb held over) over 1 held xs in
     let wide : over * spreadOf above ports ≡ over = ap (λ (s : ℕ). over * s) one ∙ mul-one over in
-    let below : Low (joinOf above) D at over = λ t q k. rw (merged-else (joinOf above) (eqb held over) over 1 held (at + t) xs (omega arith)) (p .low t (omega arith) k) in
-    let long : length D ≡ length xs = merged-length (joinOf above) (eqb held over) over held xs (omega (arith, p .room)) in
+    let below : Low join D at over = λ t q k. rw (merged-else join (eqb held over) over 1 held (at + t) xs (omega arith)) (p .low t (omega arith) k) in
+    let long : length D ≡ length xs = merged-length join (eqb held over) over held xs (omega (arith, p .room)) in
     record {
       held-is = λ q. absurd (omega arith);
       joined = settled-none (joinOf above) over 0 ys refl ∙ e
+          ∙ merged-alike join (joinOf above) k false over 1 at D ∙ ap (merged (joinOf above) false over 1 at) (merged-alike join (joinOf above) k (eqb held over) over 1 held xs)
           ∙ (λ j. merged (joinOf above) (sym (ne-eqb at over (λ q. absurd (omega arith))) j) over (sym one j) at (sym (settled-some (joinOf above) over held xs h) j));
-      own-low = λ _ _. subst (λ (l : List ℕ). Low (joinOf above) l 0 over) (sym e) (merged-low (joinOf above) false over at D (omega (arith, p .room)) below);
+      own-low = λ _ _. subst (λ (l : List ℕ). Low join l 0 over) (sym e) (merged-low join false over at D (omega (arith, p .room)) below);
     }
 
-pub joins-later : (above ports over held at : ℕ) (xs : List ℕ) → ChildPlaced above ports over held at xs → held ≡ 0 → spreadOf above ports ≡ 1
-    → Joins above ports over held at xs xs at
-joins-later above ports over held at xs p h s = record {
+pub joins-later : (join above ports over held at : ℕ) (xs : List ℕ) → ChildPlaced join above ports over held at xs → held ≡ 0 → spreadOf above ports ≡ 1
+    → Joins join above ports over held at xs xs at
+joins-later join above ports over held at xs p h s = record {
   held-is = λ q. (refl, s, h, refl);
   joined = settled-some (joinOf above) over at xs (omega (arith, p .over1, p .after))
       ∙ (λ j. merged (joinOf above) (eqb at over) over (sym s j) at (sym (settled-none (joinOf above) over held xs h) j));
@@ -167,18 +203,18 @@ joins-later above ports over held at xs p h s = record {
 }
 
 -- what is gathered is the first child
-first-child : (above ports over held at : ℕ) (xs : List ℕ) → ChildPlaced above ports over held at xs → spreadOf above ports ≢ 1 → at ≡ over
-first-child above ports over held at xs p s = go (decLe at over)
+first-child : (join above ports over held at : ℕ) (xs : List ℕ) → ChildPlaced join above ports over held at xs → spreadOf above ports ≢ 1 → at ≡ over
+first-child join above ports over held at xs p s = go (decLe at over)
   where
     go : Dec (at ≤ over) → at ≡ over
     go (yes h) = omega (arith, p .after)
     go (no f) = absurd (s (p .later (lt-of-not-le f)))
 
-pub joins-ports : (above ports over held at : ℕ) (xs ys : List ℕ) → ChildPlaced above ports over held at xs → held ≡ 0 → spreadOf above ports ≢ 1
-    → ys ≡ merged (joinOf above) true over (spreadOf above ports) at xs → Joins above ports over held at xs ys 0
-joins-ports above ports over held at xs ys p h s q = record {
+pub joins-ports : (join above ports over held at : ℕ) (xs ys : List ℕ) → ChildPlaced join above ports over held at xs → held ≡ 0 → spreadOf above ports ≢ 1
+    → ys ≡ merged (joinOf above) true over (spreadOf above ports) at xs → Joins join above ports over held at xs ys 0
+joins-ports join above ports over held at xs ys p h s q = record {
   held-is = λ z. absurd (omega arith);
   joined = settled-none (joinOf above) over 0 ys refl ∙ q
-      ∙ (λ j. merged (joinOf above) (sym (eq-eqb at over (first-child above ports over held at xs p s)) j) over (spreadOf above ports) at (sym (settled-none (joinOf above) over held xs h) j));
+      ∙ (λ j. merged (joinOf above) (sym (eq-eqb at over (first-child join above ports over held at xs p s)) j) over (spreadOf above ports) at (sym (settled-none (joinOf above) over held xs h) j));
   own-low = λ z _. absurd (s z);
 }

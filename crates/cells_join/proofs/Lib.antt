@@ -1,3 +1,4 @@
 -- Laws.
 pub mod Prefix
 pub mod Held
+pub mod Limits

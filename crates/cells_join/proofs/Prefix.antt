@@ -52,14 +52,14 @@ unit-meet join y h k = go (decLe 1 join)
     go (no f) = let l = lt-of-not-le f in rw (eq-eqb join 0 (omega arith)) (omega arith)
 
 -- a join with a low number is low, where it is a minimum
-pub meet-low : (join x y : ℕ) → 1 ≤ join → y < 2147483648 → meet join x y < 2147483648
+pub meet-low : (join x y b : ℕ) → 1 ≤ join → y < b → meet join x y < b
 unfolding meet
-meet-low join x y h l = rw (ne-eqb join 0 (λ z. absurd (omega arith))) (omega arith)
+meet-low join x y b h l = rw (ne-eqb join 0 (λ z. absurd (omega arith))) (omega arith)
 
-pub step-low : (join : ℕ) (first : Bool) (x y : ℕ) → 1 ≤ join → y < 2147483648 → joinInto join first x (y ∷ []) < 2147483648
+pub step-low : (join : ℕ) (first : Bool) (x y b : ℕ) → 1 ≤ join → y < b → joinInto join first x (y ∷ []) < b
 unfolding joinInto joinAll
-step-low join true x y h l = l
-step-low join false x y h l = meet-low join x y h l
+step-low join true x y b h l = l
+step-low join false x y b h l = meet-low join x y b h l
 
 pub unit-low : (join : ℕ) → 1 ≤ join → unitOf join < 2147483648
 unfolding unitOf

@@ -3,14 +3,11 @@ use Prim.Native.Nat.{ℕ, _+_, _-_, _<_}
 use native.Mathlib.Omega.{arith}
 use lib.ListN.{length}
 use borrow.Author.Needs.{needs}
-use borrow.Fn.Kinds.{In}
-use borrow.Fn.PlainCycle.{Measures, is, falls, and}
 use Rattle.logic.proofs.Lent.{back-length, back-to-length}
 use Rattle.table_format.specs.Bytes.{recordLength, kindField, relationField, aField, bField, endField}
 use Rattle.table_format.proofs.Parts.{length-rest-all}
 use Rattle.cells_fill.proofs.Trees.{tree-facts, fill-literal, fill-inner}
 use Rattle.cells_fill.proofs.Filling.{Passed, passed-none, passed-all, passed-tree, placed-on, tree-long, tree-ahead, join-placed, held-placed, held-lows}
-use Prim.Native.Nat.{ℕ, _<_}
 use borrow.Fn.Kinds.{In}
 use borrow.Fn.PlainCycle.{Measures, is, falls, and}
 use Rattle.cells_fill.proofs.fill_children.Reads as fill-children
@@ -19,8 +16,10 @@ use Rattle.cells_fill.proofs.+fill_children+fill_tree.Lts-fill_children
 use Rattle.cells_fill.proofs.fill_tree.Reads as fill-tree
 use Rattle.cells_fill.proofs.fill_tree.Kinds as fill-tree-kinds
 use Rattle.cells_fill.proofs.+fill_children+fill_tree.Lts-fill_tree as fill-tree-lts
+use Rattle.cells_join.proofs.begin_join.Reads as begin-join-reads
 use Rattle.cells_join.proofs.join_child.Reads as join-child-reads
 use Rattle.cells_join.proofs.join_held.Reads as join-held-reads
+use Rattle.cells_join.proofs.join_with.Reads as join-with-reads
 use Rattle.cells_literals.proofs.put_literal.Reads as put-literal-reads
 use Rattle.table_format.proofs.a_of.Reads as a-of-reads
 use Rattle.table_format.proofs.b_of.Reads as b-of-reads
@@ -59,21 +58,25 @@ fill-tree-below t =
 
 -- what the callees of `fill-children` ask and give
 abbrev fill-children-claims : ℕ → fill-children-lts.Claims
-fill-children-claims t = (end-of-reads.Asked, end-of-reads.Learnt, fill-tree-below t, fill-tree.Post, join-child-reads.Asked, join-child-reads.Learnt, join-held-reads.Asked, join-held-reads.Learnt)
+fill-children-claims t = (begin-join-reads.Asked, begin-join-reads.Learnt, end-of-reads.Asked, end-of-reads.Learnt, kind-of-reads.Asked, kind-of-reads.Learnt, join-with-reads.Asked, join-with-reads.Learnt, fill-tree-below t, fill-tree.Post, join-child-reads.Asked, join-child-reads.Learnt, join-held-reads.Asked, join-held-reads.Learnt)
 
 -- what the callees of `fill-tree` ask and give
 abbrev fill-tree-claims : ℕ → fill-tree-lts.Claims
 fill-tree-claims t = (kind-of-reads.Asked, kind-of-reads.Learnt, relation-of-reads.Asked, relation-of-reads.Learnt, a-of-reads.Asked, a-of-reads.Learnt, b-of-reads.Asked, b-of-reads.Learnt, put-literal-reads.Asked, put-literal-reads.Learnt, end-of-reads.Asked, end-of-reads.Learnt, child-depth-reads.Asked, child-depth-reads.Learnt, child-width-reads.Asked, child-width-reads.Learnt, fill-children-below t, fill-children.Post)
 
 abbrev fill-children-Inv-loop : fill-children-lts.InvT-loop
-fill-children-Inv-loop part i above ports sets depth width over masks cells₀ place₀ node₀ at₀ held₀ cells place node at held = Passed part i above ports sets depth width over masks cells₀ place node at held cells
+fill-children-Inv-loop part i above ports sets depth width over masks cells₀ place₀ node₀ at₀ held₀ join₀ cells place node at held join = Passed part i above ports sets depth width over masks cells₀ place node at held join cells
 
 abbrev fill-children-μ-loop : fill-children-lts.MeasureT-loop
-fill-children-μ-loop part i above ports sets depth width over masks cells₀ place₀ node₀ at₀ held₀ cells place node at held = length part - place
+fill-children-μ-loop part i above ports sets depth width over masks cells₀ place₀ node₀ at₀ held₀ join₀ cells place node at held join = length part - place
+
+fill-children-begin-join-requires : (t : ℕ) → fill-children-lts.Need-begin-join-requires (fill-children-claims t) (fill-children-at t) fill-children.Post fill-children-Inv-loop fill-children-μ-loop
+fill-children-begin-join-requires t c κs =
+    search needs
 
 fill-children-loop-holds : (t : ℕ) → fill-children-lts.Need-loop-holds (fill-children-claims t) (fill-children-at t) fill-children.Post fill-children-Inv-loop fill-children-μ-loop
 fill-children-loop-holds t c =
-    passed-none _ _ _ _ _ _ _ _ _ _ (c .before .before .before .pre .1)
+    passed-none _ _ _ _ _ _ _ _ _ _ (c .before .before .before .before .pre .1) (c .begin-join .result) (c .begin-join .ensures)
 
 fill-children-sub-tree : (t : ℕ) → fill-children-lts.Need-sub-tree (fill-children-claims t) (fill-children-at t) fill-children.Post fill-children-Inv-loop fill-children-μ-loop
 fill-children-sub-tree t c =
@@ -90,50 +93,59 @@ fill-children-part-tree-end t c =
 fill-children-end-of-requires : (t : ℕ) → fill-children-lts.Need-end-of-requires (fill-children-claims t) (fill-children-at t) fill-children.Post fill-children-Inv-loop fill-children-μ-loop
 unfolding recordLength
 fill-children-end-of-requires t c κs =
-    tree-long (c .before .before .before .before .before .before .args .part .now) (c .before .before .before .before .before .before .args .i) (c .before .before .before .before .before .before .args .above) (c .before .before .before .before .before .before .args .ports) (c .before .before .before .before .before .before .args .sets) (c .before .before .before .before .before .before .args .depth) (c .before .before .before .before .before .before .args .width) (c .before .before .before .before .before .before .args .over) (c .before .before .before .before .before .before .args .masks .now) (c .before .before .before .before .before .before .args .cells .now) (c .before .before .loop .place) (c .before .before .loop .node) (c .before .before .loop .at) (c .before .before .loop .held) (c .before .before .loop .cells) (c .before .before .loop .inv) (c .before .loop-test .taken)
+    tree-long (c .before .before .before .before .before .before .before .args .part .now) (c .before .before .before .before .before .before .before .args .i) (c .before .before .before .before .before .before .before .args .above) (c .before .before .before .before .before .before .before .args .ports) (c .before .before .before .before .before .before .before .args .sets) (c .before .before .before .before .before .before .before .args .depth) (c .before .before .before .before .before .before .before .args .width) (c .before .before .before .before .before .before .before .args .over) (c .before .before .before .before .before .before .before .args .masks .now) (c .before .before .before .before .before .before .before .args .cells .now) (c .before .before .loop .place) (c .before .before .loop .node) (c .before .before .loop .at) (c .before .before .loop .held) (c .before .before .loop .join) (c .before .before .loop .cells) (c .before .before .loop .inv) (c .before .loop-test .taken)
+
+fill-children-kind-of-requires : (t : ℕ) → fill-children-lts.Need-kind-of-requires (fill-children-claims t) (fill-children-at t) fill-children.Post fill-children-Inv-loop fill-children-μ-loop
+unfolding recordLength
+fill-children-kind-of-requires t c κs =
+    tree-long (c .before .before .before .before .before .before .before .before .args .part .now) (c .before .before .before .before .before .before .before .before .args .i) (c .before .before .before .before .before .before .before .before .args .above) (c .before .before .before .before .before .before .before .before .args .ports) (c .before .before .before .before .before .before .before .before .args .sets) (c .before .before .before .before .before .before .before .before .args .depth) (c .before .before .before .before .before .before .before .before .args .width) (c .before .before .before .before .before .before .before .before .args .over) (c .before .before .before .before .before .before .before .before .args .masks .now) (c .before .before .before .before .before .before .before .before .args .cells .now) (c .before .before .before .loop .place) (c .before .before .before .loop .node) (c .before .before .before .loop .at) (c .before .before .before .loop .held) (c .before .before .before .loop .join) (c .before .before .before .loop .cells) (c .before .before .before .loop .inv) (c .before .before .loop-test .taken)
+
+fill-children-join-with-requires : (t : ℕ) → fill-children-lts.Need-join-with-requires (fill-children-claims t) (fill-children-at t) fill-children.Post fill-children-Inv-loop fill-children-μ-loop
+fill-children-join-with-requires t c κs =
+    search needs
 
 fill-children-fill-tree-requires : (t : ℕ) → fill-children-lts.Need-fill-tree-requires (fill-children-claims t) (fill-children-at t) fill-children.Post fill-children-Inv-loop fill-children-μ-loop
 fill-children-fill-tree-requires t c κs =
-    let n = length-rest-all (c .before .before .before .before .loop .place) (c .before .before .before .before .before .before .before .before .args .part .now) in
-    (omega (arith, n, c .before .before .before .before .before .before .before .before .pre .0), (tree-long (c .before .before .before .before .before .before .before .before .args .part .now) (c .before .before .before .before .before .before .before .before .args .i) (c .before .before .before .before .before .before .before .before .args .above) (c .before .before .before .before .before .before .before .before .args .ports) (c .before .before .before .before .before .before .before .before .args .sets) (c .before .before .before .before .before .before .before .before .args .depth) (c .before .before .before .before .before .before .before .before .args .width) (c .before .before .before .before .before .before .before .before .args .over) (c .before .before .before .before .before .before .before .before .args .masks .now) (c .before .before .before .before .before .before .before .before .args .cells .now) (c .before .before .before .before .loop .place) (c .before .before .before .before .loop .node) (c .before .before .before .before .loop .at) (c .before .before .before .before .loop .held) (c .before .before .before .before .loop .cells) (c .before .before .before .before .loop .inv) (c .before .before .before .loop-test .taken), placed-on (c .before .before .before .before .before .before .before .before .args .part .now) (c .before .before .before .before .before .before .before .before .args .i) (c .before .before .before .before .before .before .before .before .args .above) (c .before .before .before .before .before .before .before .before .args .ports) (c .before .before .before .before .before .before .before .before .args .sets) (c .before .before .before .before .before .before .before .before .args .depth) (c .before .before .before .before .before .before .before .before .args .width) (c .before .before .before .before .before .before .before .before .args .over) (c .before .before .before .before .before .before .before .before .args .masks .now) (c .before .before .before .before .before .before .before .before .args .cells .now) (c .before .before .before .before .loop .place) (c .before .before .before .before .loop .node) (c .before .before .before .before .loop .at) (c .before .before .before .before .loop .held) (c .before .before .before .before .loop .cells) (c .before .before .before .before .loop .inv)))
+    let n = length-rest-all (c .before .before .before .before .before .before .loop .place) (c .before .before .before .before .before .before .before .before .before .before .before .args .part .now) in
+    (omega (arith, n, c .before .before .before .before .before .before .before .before .before .before .before .pre .0), (tree-long (c .before .before .before .before .before .before .before .before .before .before .before .args .part .now) (c .before .before .before .before .before .before .before .before .before .before .before .args .i) (c .before .before .before .before .before .before .before .before .before .before .before .args .above) (c .before .before .before .before .before .before .before .before .before .before .before .args .ports) (c .before .before .before .before .before .before .before .before .before .before .before .args .sets) (c .before .before .before .before .before .before .before .before .before .before .before .args .depth) (c .before .before .before .before .before .before .before .before .before .before .before .args .width) (c .before .before .before .before .before .before .before .before .before .before .before .args .over) (c .before .before .before .before .before .before .before .before .before .before .before .args .masks .now) (c .before .before .before .before .before .before .before .before .before .before .before .args .cells .now) (c .before .before .before .before .before .before .loop .place) (c .before .before .before .before .before .before .loop .node) (c .before .before .before .before .before .before .loop .at) (c .before .before .before .before .before .before .loop .held) (c .before .before .before .before .before .before .loop .join) (c .before .before .before .before .before .before .loop .cells) (c .before .before .before .before .before .before .loop .inv) (c .before .before .before .before .before .loop-test .taken), placed-on (c .before .before .before .before .before .before .before .before .before .before .before .args .part .now) (c .before .before .before .before .before .before .before .before .before .before .before .args .i) (c .before .before .before .before .before .before .before .before .before .before .before .args .above) (c .before .before .before .before .before .before .before .before .before .before .before .args .ports) (c .before .before .before .before .before .before .before .before .before .before .before .args .sets) (c .before .before .before .before .before .before .before .before .before .before .before .args .depth) (c .before .before .before .before .before .before .before .before .before .before .before .args .width) (c .before .before .before .before .before .before .before .before .before .before .before .args .over) (c .before .before .before .before .before .before .before .before .before .before .before .args .masks .now) (c .before .before .before .before .before .before .before .before .before .before .before .args .cells .now) (c .before .before .before .before .before .before .loop .place) (c .before .before .before .before .before .before .loop .node) (c .before .before .before .before .before .before .loop .at) (c .before .before .before .before .before .before .loop .held) (c .before .before .before .before .before .before .loop .join) (c .before .before .before .before .before .before .loop .cells) (c .before .before .before .before .before .before .loop .inv)))
 
 fill-children-join-child-requires : (t : ℕ) → fill-children-lts.Need-join-child-requires (fill-children-claims t) (fill-children-at t) fill-children.Post fill-children-Inv-loop fill-children-μ-loop
 fill-children-join-child-requires t c κs =
-    join-placed (c .before .before .before .before .before .before .before .before .before .before .before .before .args .part .now) (c .before .before .before .before .before .before .before .before .before .before .before .before .args .i) (c .before .before .before .before .before .before .before .before .before .before .before .before .args .above) (c .before .before .before .before .before .before .before .before .before .before .before .before .args .ports) (c .before .before .before .before .before .before .before .before .before .before .before .before .args .sets) (c .before .before .before .before .before .before .before .before .before .before .before .before .args .depth) (c .before .before .before .before .before .before .before .before .before .before .before .before .args .width) (c .before .before .before .before .before .before .before .before .before .before .before .before .args .over) (c .before .before .before .before .before .before .before .before .before .before .before .before .args .masks .now) (c .before .before .before .before .before .before .before .before .before .before .before .before .args .cells .now) (c .before .before .before .before .before .before .before .before .loop .place) (c .before .before .before .before .before .before .before .before .loop .node) (c .before .before .before .before .before .before .before .before .loop .at) (c .before .before .before .before .before .before .before .before .loop .held) (c .before .before .before .before .before .before .before .before .loop .cells) (c .before .before .before .before .before .before .before .before .loop .inv) (c .before .before .before .before .before .before .before .loop-test .taken) (c .before .before .before .before .before .end-of .result) (c .before .before .before .before .before .end-of .ensures .is) (c .before .before .before .fill-tree .result) (c .before .before .before .fill-tree .last .1 .1 .1 .1 .1 .1 .1 .1 .0) (c .before .before .before .fill-tree .ensures) (omega (arith, c .before .before .before .fill-tree .kept .1 .1 .1 .1 .1 .1 .1 .1 .0))
+    join-placed (c .before .before .before .before .before .before .before .before .before .before .before .before .before .before .before .args .part .now) (c .before .before .before .before .before .before .before .before .before .before .before .before .before .before .before .args .i) (c .before .before .before .before .before .before .before .before .before .before .before .before .before .before .before .args .above) (c .before .before .before .before .before .before .before .before .before .before .before .before .before .before .before .args .ports) (c .before .before .before .before .before .before .before .before .before .before .before .before .before .before .before .args .sets) (c .before .before .before .before .before .before .before .before .before .before .before .before .before .before .before .args .depth) (c .before .before .before .before .before .before .before .before .before .before .before .before .before .before .before .args .width) (c .before .before .before .before .before .before .before .before .before .before .before .before .before .before .before .args .over) (c .before .before .before .before .before .before .before .before .before .before .before .before .before .before .before .args .masks .now) (c .before .before .before .before .before .before .before .before .before .before .before .before .before .before .before .args .cells .now) (c .before .before .before .before .before .before .before .before .before .before .loop .place) (c .before .before .before .before .before .before .before .before .before .before .loop .node) (c .before .before .before .before .before .before .before .before .before .before .loop .at) (c .before .before .before .before .before .before .before .before .before .before .loop .held) (c .before .before .before .before .before .before .before .before .before .before .loop .join) (c .before .before .before .before .before .before .before .before .before .before .loop .cells) (c .before .before .before .before .before .before .before .before .before .before .loop .inv) (c .before .before .before .before .before .before .before .before .before .loop-test .taken) (c .before .before .before .before .before .before .before .end-of .result) (c .before .before .before .before .before .before .before .end-of .ensures .is) (c .before .before .before .before .before .before .kind-of .result) (c .before .before .before .before .before .join-with .result) (c .before .before .before .before .before .before .kind-of .ensures) (c .before .before .before .before .before .join-with .ensures) (c .before .before .before .fill-tree .result) (c .before .before .before .fill-tree .last .1 .1 .1 .1 .1 .1 .1 .1 .0) (c .before .before .before .fill-tree .ensures) (omega (arith, c .before .before .before .fill-tree .kept .1 .1 .1 .1 .1 .1 .1 .1 .0))
 
 fill-children-sub-place : (t : ℕ) → fill-children-lts.Need-sub-place (fill-children-claims t) (fill-children-at t) fill-children.Post fill-children-Inv-loop fill-children-μ-loop
 unfolding recordLength
 fill-children-sub-place t c =
-    let h = tree-ahead (c .before .before .before .before .before .before .before .before .before .before .before .before .before .before .before .args .part .now) (c .before .before .before .before .before .before .before .before .before .before .before .before .before .before .before .args .i) (c .before .before .before .before .before .before .before .before .before .before .before .before .before .before .before .args .above) (c .before .before .before .before .before .before .before .before .before .before .before .before .before .before .before .args .ports) (c .before .before .before .before .before .before .before .before .before .before .before .before .before .before .before .args .sets) (c .before .before .before .before .before .before .before .before .before .before .before .before .before .before .before .args .depth) (c .before .before .before .before .before .before .before .before .before .before .before .before .before .before .before .args .width) (c .before .before .before .before .before .before .before .before .before .before .before .before .before .before .before .args .over) (c .before .before .before .before .before .before .before .before .before .before .before .before .before .before .before .args .masks .now) (c .before .before .before .before .before .before .before .before .before .before .before .before .before .before .before .args .cells .now) (c .before .before .before .before .before .before .before .before .before .before .before .loop .place) (c .before .before .before .before .before .before .before .before .before .before .before .loop .node) (c .before .before .before .before .before .before .before .before .before .before .before .loop .at) (c .before .before .before .before .before .before .before .before .before .before .before .loop .held) (c .before .before .before .before .before .before .before .before .before .before .before .loop .cells) (c .before .before .before .before .before .before .before .before .before .before .before .loop .inv) (c .before .before .before .before .before .before .before .before .before .before .loop-test .taken) (c .before .before .before .before .before .before .before .before .end-of .result) (c .before .before .before .before .before .before .before .before .end-of .ensures .is) in omega (arith, h .0)
+    let h = tree-ahead (c .before .before .before .before .before .before .before .before .before .before .before .before .before .before .before .before .before .before .args .part .now) (c .before .before .before .before .before .before .before .before .before .before .before .before .before .before .before .before .before .before .args .i) (c .before .before .before .before .before .before .before .before .before .before .before .before .before .before .before .before .before .before .args .above) (c .before .before .before .before .before .before .before .before .before .before .before .before .before .before .before .before .before .before .args .ports) (c .before .before .before .before .before .before .before .before .before .before .before .before .before .before .before .before .before .before .args .sets) (c .before .before .before .before .before .before .before .before .before .before .before .before .before .before .before .before .before .before .args .depth) (c .before .before .before .before .before .before .before .before .before .before .before .before .before .before .before .before .before .before .args .width) (c .before .before .before .before .before .before .before .before .before .before .before .before .before .before .before .before .before .before .args .over) (c .before .before .before .before .before .before .before .before .before .before .before .before .before .before .before .before .before .before .args .masks .now) (c .before .before .before .before .before .before .before .before .before .before .before .before .before .before .before .before .before .before .args .cells .now) (c .before .before .before .before .before .before .before .before .before .before .before .before .before .loop .place) (c .before .before .before .before .before .before .before .before .before .before .before .before .before .loop .node) (c .before .before .before .before .before .before .before .before .before .before .before .before .before .loop .at) (c .before .before .before .before .before .before .before .before .before .before .before .before .before .loop .held) (c .before .before .before .before .before .before .before .before .before .before .before .before .before .loop .join) (c .before .before .before .before .before .before .before .before .before .before .before .before .before .loop .cells) (c .before .before .before .before .before .before .before .before .before .before .before .before .before .loop .inv) (c .before .before .before .before .before .before .before .before .before .before .before .before .loop-test .taken) (c .before .before .before .before .before .before .before .before .before .before .end-of .result) (c .before .before .before .before .before .before .before .before .before .before .end-of .ensures .is) in omega (arith, h .0)
 
 fill-children-mul-place : (t : ℕ) → fill-children-lts.Need-mul-place (fill-children-claims t) (fill-children-at t) fill-children.Post fill-children-Inv-loop fill-children-μ-loop
 unfolding recordLength
 fill-children-mul-place t c =
-    let h = tree-ahead (c .before .before .before .before .before .before .before .before .before .before .before .before .before .before .before .args .part .now) (c .before .before .before .before .before .before .before .before .before .before .before .before .before .before .before .args .i) (c .before .before .before .before .before .before .before .before .before .before .before .before .before .before .before .args .above) (c .before .before .before .before .before .before .before .before .before .before .before .before .before .before .before .args .ports) (c .before .before .before .before .before .before .before .before .before .before .before .before .before .before .before .args .sets) (c .before .before .before .before .before .before .before .before .before .before .before .before .before .before .before .args .depth) (c .before .before .before .before .before .before .before .before .before .before .before .before .before .before .before .args .width) (c .before .before .before .before .before .before .before .before .before .before .before .before .before .before .before .args .over) (c .before .before .before .before .before .before .before .before .before .before .before .before .before .before .before .args .masks .now) (c .before .before .before .before .before .before .before .before .before .before .before .before .before .before .before .args .cells .now) (c .before .before .before .before .before .before .before .before .before .before .before .loop .place) (c .before .before .before .before .before .before .before .before .before .before .before .loop .node) (c .before .before .before .before .before .before .before .before .before .before .before .loop .at) (c .before .before .before .before .before .before .before .before .before .before .before .loop .held) (c .before .before .before .before .before .before .before .before .before .before .before .loop .cells) (c .before .before .before .before .before .before .before .before .before .before .before .loop .inv) (c .before .before .before .before .before .before .before .before .before .before .loop-test .taken) (c .before .before .before .before .before .before .before .before .end-of .result) (c .before .before .before .before .before .before .before .before .end-of .ensures .is) in omega (arith, h .1)
+    let h = tree-ahead (c .before .before .before .before .before .before .before .before .before .before .before .before .before .before .before .before .before .before .args .part .now) (c .before .before .before .before .before .before .before .before .before .before .before .before .before .before .before .before .before .before .args .i) (c .before .before .before .before .before .before .before .before .before .before .before .before .before .before .before .before .before .before .args .above) (c .before .before .before .before .before .before .before .before .before .before .before .before .before .before .before .before .before .before .args .ports) (c .before .before .before .before .before .before .before .before .before .before .before .before .before .before .before .before .before .before .args .sets) (c .before .before .before .before .before .before .before .before .before .before .before .before .before .before .before .before .before .before .args .depth) (c .before .before .before .before .before .before .before .before .before .before .before .before .before .before .before .before .before .before .args .width) (c .before .before .before .before .before .before .before .before .before .before .before .before .before .before .before .before .before .before .args .over) (c .before .before .before .before .before .before .before .before .before .before .before .before .before .before .before .before .before .before .args .masks .now) (c .before .before .before .before .before .before .before .before .before .before .before .before .before .before .before .before .before .before .args .cells .now) (c .before .before .before .before .before .before .before .before .before .before .before .before .before .loop .place) (c .before .before .before .before .before .before .before .before .before .before .before .before .before .loop .node) (c .before .before .before .before .before .before .before .before .before .before .before .before .before .loop .at) (c .before .before .before .before .before .before .before .before .before .before .before .before .before .loop .held) (c .before .before .before .before .before .before .before .before .before .before .before .before .before .loop .join) (c .before .before .before .before .before .before .before .before .before .before .before .before .before .loop .cells) (c .before .before .before .before .before .before .before .before .before .before .before .before .before .loop .inv) (c .before .before .before .before .before .before .before .before .before .before .before .before .loop-test .taken) (c .before .before .before .before .before .before .before .before .before .before .end-of .result) (c .before .before .before .before .before .before .before .before .before .before .end-of .ensures .is) in omega (arith, h .1)
 
 fill-children-add-place : (t : ℕ) → fill-children-lts.Need-add-place (fill-children-claims t) (fill-children-at t) fill-children.Post fill-children-Inv-loop fill-children-μ-loop
 unfolding recordLength
 fill-children-add-place t c =
-    let h = tree-ahead (c .before .before .before .before .before .before .before .before .before .before .before .before .before .before .before .args .part .now) (c .before .before .before .before .before .before .before .before .before .before .before .before .before .before .before .args .i) (c .before .before .before .before .before .before .before .before .before .before .before .before .before .before .before .args .above) (c .before .before .before .before .before .before .before .before .before .before .before .before .before .before .before .args .ports) (c .before .before .before .before .before .before .before .before .before .before .before .before .before .before .before .args .sets) (c .before .before .before .before .before .before .before .before .before .before .before .before .before .before .before .args .depth) (c .before .before .before .before .before .before .before .before .before .before .before .before .before .before .before .args .width) (c .before .before .before .before .before .before .before .before .before .before .before .before .before .before .before .args .over) (c .before .before .before .before .before .before .before .before .before .before .before .before .before .before .before .args .masks .now) (c .before .before .before .before .before .before .before .before .before .before .before .before .before .before .before .args .cells .now) (c .before .before .before .before .before .before .before .before .before .before .before .loop .place) (c .before .before .before .before .before .before .before .before .before .before .before .loop .node) (c .before .before .before .before .before .before .before .before .before .before .before .loop .at) (c .before .before .before .before .before .before .before .before .before .before .before .loop .held) (c .before .before .before .before .before .before .before .before .before .before .before .loop .cells) (c .before .before .before .before .before .before .before .before .before .before .before .loop .inv) (c .before .before .before .before .before .before .before .before .before .before .loop-test .taken) (c .before .before .before .before .before .before .before .before .end-of .result) (c .before .before .before .before .before .before .before .before .end-of .ensures .is) in omega (arith, c .before .before .before .before .before .before .before .before .before .before .before .before .before .before .before .good, c .before .before .before .before .before .before .before .before .before .before .before .before .before .before .before .fits, h .3)
+    let h = tree-ahead (c .before .before .before .before .before .before .before .before .before .before .before .before .before .before .before .before .before .before .args .part .now) (c .before .before .before .before .before .before .before .before .before .before .before .before .before .before .before .before .before .before .args .i) (c .before .before .before .before .before .before .before .before .before .before .before .before .before .before .before .before .before .before .args .above) (c .before .before .before .before .before .before .before .before .before .before .before .before .before .before .before .before .before .before .args .ports) (c .before .before .before .before .before .before .before .before .before .before .before .before .before .before .before .before .before .before .args .sets) (c .before .before .before .before .before .before .before .before .before .before .before .before .before .before .before .before .before .before .args .depth) (c .before .before .before .before .before .before .before .before .before .before .before .before .before .before .before .before .before .before .args .width) (c .before .before .before .before .before .before .before .before .before .before .before .before .before .before .before .before .before .before .args .over) (c .before .before .before .before .before .before .before .before .before .before .before .before .before .before .before .before .before .before .args .masks .now) (c .before .before .before .before .before .before .before .before .before .before .before .before .before .before .before .before .before .before .args .cells .now) (c .before .before .before .before .before .before .before .before .before .before .before .before .before .loop .place) (c .before .before .before .before .before .before .before .before .before .before .before .before .before .loop .node) (c .before .before .before .before .before .before .before .before .before .before .before .before .before .loop .at) (c .before .before .before .before .before .before .before .before .before .before .before .before .before .loop .held) (c .before .before .before .before .before .before .before .before .before .before .before .before .before .loop .join) (c .before .before .before .before .before .before .before .before .before .before .before .before .before .loop .cells) (c .before .before .before .before .before .before .before .before .before .before .before .before .before .loop .inv) (c .before .before .before .before .before .before .before .before .before .before .before .before .loop-test .taken) (c .before .before .before .before .before .before .before .before .before .before .end-of .result) (c .before .before .before .before .before .before .before .before .before .before .end-of .ensures .is) in omega (arith, c .before .before .before .before .before .before .before .before .before .before .before .before .before .before .before .before .before .before .good, c .before .before .before .before .before .before .before .before .before .before .before .before .before .before .before .before .before .before .fits, h .3)
 
 fill-children-add-at : (t : ℕ) → fill-children-lts.Need-add-at (fill-children-claims t) (fill-children-at t) fill-children.Post fill-children-Inv-loop fill-children-μ-loop
 unfolding recordLength
 fill-children-add-at t c =
-    let h = passed-tree (c .before .before .before .before .before .before .before .before .before .before .before .before .before .before .before .args .part .now) (c .before .before .before .before .before .before .before .before .before .before .before .before .before .before .before .args .i) (c .before .before .before .before .before .before .before .before .before .before .before .before .before .before .before .args .above) (c .before .before .before .before .before .before .before .before .before .before .before .before .before .before .before .args .ports) (c .before .before .before .before .before .before .before .before .before .before .before .before .before .before .before .args .sets) (c .before .before .before .before .before .before .before .before .before .before .before .before .before .before .before .args .depth) (c .before .before .before .before .before .before .before .before .before .before .before .before .before .before .before .args .width) (c .before .before .before .before .before .before .before .before .before .before .before .before .before .before .before .args .over) (c .before .before .before .before .before .before .before .before .before .before .before .before .before .before .before .args .masks .now) (c .before .before .before .before .before .before .before .before .before .before .before .before .before .before .before .args .cells .now) (c .before .before .before .before .before .before .before .before .before .before .before .loop .place) (c .before .before .before .before .before .before .before .before .before .before .before .loop .node) (c .before .before .before .before .before .before .before .before .before .before .before .loop .at) (c .before .before .before .before .before .before .before .before .before .before .before .loop .held) (c .before .before .before .before .before .before .before .before .before .before .before .loop .cells) (c .before .before .before .before .before .before .before .before .before .before .before .loop .inv) (c .before .before .before .before .before .before .before .before .before .before .loop-test .taken) (c .before .before .before .before .before .before .before .before .end-of .result) (c .before .before .before .before .before .before .before .before .end-of .ensures .is) (c .before .before .before .before .before .before .fill-tree .result) (c .before .before .before .before .before .before .fill-tree .last .1 .1 .1 .1 .1 .1 .1 .1 .0) (c .before .before .before .before .before .before .fill-tree .ensures) (omega (arith, c .before .before .before .before .before .before .fill-tree .kept .1 .1 .1 .1 .1 .1 .1 .1 .0)) (c .before .before .join-child .result) (c .before .before .join-child .last .1 .1 .1 .1 .1 .0) (c .before .before .join-child .ensures) (omega (arith, c .before .before .join-child .kept .1 .1 .1 .1 .1 .0, c .before .before .before .before .before .before .fill-tree .kept .1 .1 .1 .1 .1 .1 .1 .1 .0)) in omega (arith, c .before .before .before .before .before .before .before .before .before .before .before .before .before .before .before .good, c .before .before .before .before .before .before .before .before .before .before .before .before .before .before .before .fits, h .0)
+    let h = passed-tree (c .before .before .before .before .before .before .before .before .before .before .before .before .before .before .before .before .before .before .args .part .now) (c .before .before .before .before .before .before .before .before .before .before .before .before .before .before .before .before .before .before .args .i) (c .before .before .before .before .before .before .before .before .before .before .before .before .before .before .before .before .before .before .args .above) (c .before .before .before .before .before .before .before .before .before .before .before .before .before .before .before .before .before .before .args .ports) (c .before .before .before .before .before .before .before .before .before .before .before .before .before .before .before .before .before .before .args .sets) (c .before .before .before .before .before .before .before .before .before .before .before .before .before .before .before .before .before .before .args .depth) (c .before .before .before .before .before .before .before .before .before .before .before .before .before .before .before .before .before .before .args .width) (c .before .before .before .before .before .before .before .before .before .before .before .before .before .before .before .before .before .before .args .over) (c .before .before .before .before .before .before .before .before .before .before .before .before .before .before .before .before .before .before .args .masks .now) (c .before .before .before .before .before .before .before .before .before .before .before .before .before .before .before .before .before .before .args .cells .now) (c .before .before .before .before .before .before .before .before .before .before .before .before .before .loop .place) (c .before .before .before .before .before .before .before .before .before .before .before .before .before .loop .node) (c .before .before .before .before .before .before .before .before .before .before .before .before .before .loop .at) (c .before .before .before .before .before .before .before .before .before .before .before .before .before .loop .held) (c .before .before .before .before .before .before .before .before .before .before .before .before .before .loop .join) (c .before .before .before .before .before .before .before .before .before .before .before .before .before .loop .cells) (c .before .before .before .before .before .before .before .before .before .before .before .before .before .loop .inv) (c .before .before .before .before .before .before .before .before .before .before .before .before .loop-test .taken) (c .before .before .before .before .before .before .before .before .before .before .end-of .result) (c .before .before .before .before .before .before .before .before .before .before .end-of .ensures .is) (c .before .before .before .before .before .before .before .before .before .kind-of .result) (c .before .before .before .before .before .before .before .before .join-with .result) (c .before .before .before .before .before .before .before .before .before .kind-of .ensures) (c .before .before .before .before .before .before .before .before .join-with .ensures) (c .before .before .before .before .before .before .fill-tree .result) (c .before .before .before .before .before .before .fill-tree .last .1 .1 .1 .1 .1 .1 .1 .1 .0) (c .before .before .before .before .before .before .fill-tree .ensures) (omega (arith, c .before .before .before .before .before .before .fill-tree .kept .1 .1 .1 .1 .1 .1 .1 .1 .0)) (c .before .before .join-child .result) (c .before .before .join-child .last .1 .1 .1 .1 .1 .1 .0) (c .before .before .join-child .ensures) (omega (arith, c .before .before .join-child .kept .1 .1 .1 .1 .1 .1 .0, c .before .before .before .before .before .before .fill-tree .kept .1 .1 .1 .1 .1 .1 .1 .1 .0)) in omega (arith, c .before .before .before .before .before .before .before .before .before .before .before .before .before .before .before .before .before .before .good, c .before .before .before .before .before .before .before .before .before .before .before .before .before .before .before .before .before .before .fits, h .0)
 
 fill-children-loop-less : (t : ℕ) → fill-children-lts.Need-loop-less (fill-children-claims t) (fill-children-at t) fill-children.Post fill-children-Inv-loop fill-children-μ-loop
 unfolding recordLength
 fill-children-loop-less t c =
-    let h = tree-ahead (c .before .before .before .before .before .before .before .before .before .before .before .before .before .before .before .args .part .now) (c .before .before .before .before .before .before .before .before .before .before .before .before .before .before .before .args .i) (c .before .before .before .before .before .before .before .before .before .before .before .before .before .before .before .args .above) (c .before .before .before .before .before .before .before .before .before .before .before .before .before .before .before .args .ports) (c .before .before .before .before .before .before .before .before .before .before .before .before .before .before .before .args .sets) (c .before .before .before .before .before .before .before .before .before .before .before .before .before .before .before .args .depth) (c .before .before .before .before .before .before .before .before .before .before .before .before .before .before .before .args .width) (c .before .before .before .before .before .before .before .before .before .before .before .before .before .before .before .args .over) (c .before .before .before .before .before .before .before .before .before .before .before .before .before .before .before .args .masks .now) (c .before .before .before .before .before .before .before .before .before .before .before .before .before .before .before .args .cells .now) (c .before .before .before .before .before .before .before .before .before .before .before .loop .place) (c .before .before .before .before .before .before .before .before .before .before .before .loop .node) (c .before .before .before .before .before .before .before .before .before .before .before .loop .at) (c .before .before .before .before .before .before .before .before .before .before .before .loop .held) (c .before .before .before .before .before .before .before .before .before .before .before .loop .cells) (c .before .before .before .before .before .before .before .before .before .before .before .loop .inv) (c .before .before .before .before .before .before .before .before .before .before .loop-test .taken) (c .before .before .before .before .before .before .before .before .end-of .result) (c .before .before .before .before .before .before .before .before .end-of .ensures .is) in omega (arith, h .2, h .3)
+    let h = tree-ahead (c .before .before .before .before .before .before .before .before .before .before .before .before .before .before .before .before .before .before .args .part .now) (c .before .before .before .before .before .before .before .before .before .before .before .before .before .before .before .before .before .before .args .i) (c .before .before .before .before .before .before .before .before .before .before .before .before .before .before .before .before .before .before .args .above) (c .before .before .before .before .before .before .before .before .before .before .before .before .before .before .before .before .before .before .args .ports) (c .before .before .before .before .before .before .before .before .before .before .before .before .before .before .before .before .before .before .args .sets) (c .before .before .before .before .before .before .before .before .before .before .before .before .before .before .before .before .before .before .args .depth) (c .before .before .before .before .before .before .before .before .before .before .before .before .before .before .before .before .before .before .args .width) (c .before .before .before .before .before .before .before .before .before .before .before .before .before .before .before .before .before .before .args .over) (c .before .before .before .before .before .before .before .before .before .before .before .before .before .before .before .before .before .before .args .masks .now) (c .before .before .before .before .before .before .before .before .before .before .before .before .before .before .before .before .before .before .args .cells .now) (c .before .before .before .before .before .before .before .before .before .before .before .before .before .loop .place) (c .before .before .before .before .before .before .before .before .before .before .before .before .before .loop .node) (c .before .before .before .before .before .before .before .before .before .before .before .before .before .loop .at) (c .before .before .before .before .before .before .before .before .before .before .before .before .before .loop .held) (c .before .before .before .before .before .before .before .before .before .before .before .before .before .loop .join) (c .before .before .before .before .before .before .before .before .before .before .before .before .before .loop .cells) (c .before .before .before .before .before .before .before .before .before .before .before .before .before .loop .inv) (c .before .before .before .before .before .before .before .before .before .before .before .before .loop-test .taken) (c .before .before .before .before .before .before .before .before .before .before .end-of .result) (c .before .before .before .before .before .before .before .before .before .before .end-of .ensures .is) in omega (arith, h .2, h .3)
 
 fill-children-loop-again : (t : ℕ) → fill-children-lts.Need-loop-again (fill-children-claims t) (fill-children-at t) fill-children.Post fill-children-Inv-loop fill-children-μ-loop
 unfolding recordLength
 fill-children-loop-again t c =
-    passed-tree (c .before .before .before .before .before .before .before .before .before .before .before .before .before .before .before .args .part .now) (c .before .before .before .before .before .before .before .before .before .before .before .before .before .before .before .args .i) (c .before .before .before .before .before .before .before .before .before .before .before .before .before .before .before .args .above) (c .before .before .before .before .before .before .before .before .before .before .before .before .before .before .before .args .ports) (c .before .before .before .before .before .before .before .before .before .before .before .before .before .before .before .args .sets) (c .before .before .before .before .before .before .before .before .before .before .before .before .before .before .before .args .depth) (c .before .before .before .before .before .before .before .before .before .before .before .before .before .before .before .args .width) (c .before .before .before .before .before .before .before .before .before .before .before .before .before .before .before .args .over) (c .before .before .before .before .before .before .before .before .before .before .before .before .before .before .before .args .masks .now) (c .before .before .before .before .before .before .before .before .before .before .before .before .before .before .before .args .cells .now) (c .before .before .before .before .before .before .before .before .before .before .before .loop .place) (c .before .before .before .before .before .before .before .before .before .before .before .loop .node) (c .before .before .before .before .before .before .before .before .before .before .before .loop .at) (c .before .before .before .before .before .before .before .before .before .before .before .loop .held) (c .before .before .before .before .before .before .before .before .before .before .before .loop .cells) (c .before .before .before .before .before .before .before .before .before .before .before .loop .inv) (c .before .before .before .before .before .before .before .before .before .before .loop-test .taken) (c .before .before .before .before .before .before .before .before .end-of .result) (c .before .before .before .before .before .before .before .before .end-of .ensures .is) (c .before .before .before .before .before .before .fill-tree .result) (c .before .before .before .before .before .before .fill-tree .last .1 .1 .1 .1 .1 .1 .1 .1 .0) (c .before .before .before .before .before .before .fill-tree .ensures) (omega (arith, c .before .before .before .before .before .before .fill-tree .kept .1 .1 .1 .1 .1 .1 .1 .1 .0)) (c .before .before .join-child .result) (c .before .before .join-child .last .1 .1 .1 .1 .1 .0) (c .before .before .join-child .ensures) (omega (arith, c .before .before .join-child .kept .1 .1 .1 .1 .1 .0, c .before .before .before .before .before .before .fill-tree .kept .1 .1 .1 .1 .1 .1 .1 .1 .0)) .1
+    passed-tree (c .before .before .before .before .before .before .before .before .before .before .before .before .before .before .before .before .before .before .args .part .now) (c .before .before .before .before .before .before .before .before .before .before .before .before .before .before .before .before .before .before .args .i) (c .before .before .before .before .before .before .before .before .before .before .before .before .before .before .before .before .before .before .args .above) (c .before .before .before .before .before .before .before .before .before .before .before .before .before .before .before .before .before .before .args .ports) (c .before .before .before .before .before .before .before .before .before .before .before .before .before .before .before .before .before .before .args .sets) (c .before .before .before .before .before .before .before .before .before .before .before .before .before .before .before .before .before .before .args .depth) (c .before .before .before .before .before .before .before .before .before .before .before .before .before .before .before .before .before .before .args .width) (c .before .before .before .before .before .before .before .before .before .before .before .before .before .before .before .before .before .before .args .over) (c .before .before .before .before .before .before .before .before .before .before .before .before .before .before .before .before .before .before .args .masks .now) (c .before .before .before .before .before .before .before .before .before .before .before .before .before .before .before .before .before .before .args .cells .now) (c .before .before .before .before .before .before .before .before .before .before .before .before .before .loop .place) (c .before .before .before .before .before .before .before .before .before .before .before .before .before .loop .node) (c .before .before .before .before .before .before .before .before .before .before .before .before .before .loop .at) (c .before .before .before .before .before .before .before .before .before .before .before .before .before .loop .held) (c .before .before .before .before .before .before .before .before .before .before .before .before .before .loop .join) (c .before .before .before .before .before .before .before .before .before .before .before .before .before .loop .cells) (c .before .before .before .before .before .before .before .before .before .before .before .before .before .loop .inv) (c .before .before .before .before .before .before .before .before .before .before .before .before .loop-test .taken) (c .before .before .before .before .before .before .before .before .before .before .end-of .result) (c .before .before .before .before .before .before .before .before .before .before .end-of .ensures .is) (c .before .before .before .before .before .before .before .before .before .kind-of .result) (c .before .before .before .before .before .before .before .before .join-with .result) (c .before .before .before .before .before .before .before .before .before .kind-of .ensures) (c .before .before .before .before .before .before .before .before .join-with .ensures) (c .before .before .before .before .before .before .fill-tree .result) (c .before .before .before .before .before .before .fill-tree .last .1 .1 .1 .1 .1 .1 .1 .1 .0) (c .before .before .before .before .before .before .fill-tree .ensures) (omega (arith, c .before .before .before .before .before .before .fill-tree .kept .1 .1 .1 .1 .1 .1 .1 .1 .0)) (c .before .before .join-child .result) (c .before .before .join-child .last .1 .1 .1 .1 .1 .1 .0) (c .before .before .join-child .ensures) (omega (arith, c .before .before .join-child .kept .1 .1 .1 .1 .1 .1 .0, c .before .before .before .before .before .before .fill-tree .kept .1 .1 .1 .1 .1 .1 .1 .1 .0)) .1
 
 fill-children-join-held-requires : (t : ℕ) → fill-children-lts.Need-join-held-requires (fill-children-claims t) (fill-children-at t) fill-children.Post fill-children-Inv-loop fill-children-μ-loop
 fill-children-join-held-requires t c κs =
-    (held-placed (c .before .before .before .before .before .before .args .part .now) (c .before .before .before .before .before .before .args .i) (c .before .before .before .before .before .before .args .above) (c .before .before .before .before .before .before .args .ports) (c .before .before .before .before .before .before .args .sets) (c .before .before .before .before .before .before .args .depth) (c .before .before .before .before .before .before .args .width) (c .before .before .before .before .before .before .args .over) (c .before .before .before .before .before .before .args .masks .now) (c .before .before .before .before .before .before .args .cells .now) (c .before .before .loop .place) (c .before .before .loop .node) (c .before .before .loop .at) (c .before .before .loop .held) (c .before .before .loop .cells) (c .before .before .loop .inv) (length (c .before .before .loop .cells)) (omega (arith, c .before .before .loop .inv .placed .trees .room)), held-lows (c .before .before .before .before .before .before .args .part .now) (c .before .before .before .before .before .before .args .i) (c .before .before .before .before .before .before .args .above) (c .before .before .before .before .before .before .args .ports) (c .before .before .before .before .before .before .args .sets) (c .before .before .before .before .before .before .args .depth) (c .before .before .before .before .before .before .args .width) (c .before .before .before .before .before .before .args .over) (c .before .before .before .before .before .before .args .masks .now) (c .before .before .before .before .before .before .args .cells .now) (c .before .before .loop .place) (c .before .before .loop .node) (c .before .before .loop .at) (c .before .before .loop .held) (c .before .before .loop .cells) (c .before .before .loop .inv))
+    (held-placed (c .before .before .before .before .before .before .before .args .part .now) (c .before .before .before .before .before .before .before .args .i) (c .before .before .before .before .before .before .before .args .above) (c .before .before .before .before .before .before .before .args .ports) (c .before .before .before .before .before .before .before .args .sets) (c .before .before .before .before .before .before .before .args .depth) (c .before .before .before .before .before .before .before .args .width) (c .before .before .before .before .before .before .before .args .over) (c .before .before .before .before .before .before .before .args .masks .now) (c .before .before .before .before .before .before .before .args .cells .now) (c .before .before .loop .place) (c .before .before .loop .node) (c .before .before .loop .at) (c .before .before .loop .held) (c .before .before .loop .join) (c .before .before .loop .cells) (c .before .before .loop .inv) (length (c .before .before .loop .cells)) (omega (arith, c .before .before .loop .inv .placed .trees .room)), held-lows (c .before .before .before .before .before .before .before .args .part .now) (c .before .before .before .before .before .before .before .args .i) (c .before .before .before .before .before .before .before .args .above) (c .before .before .before .before .before .before .before .args .ports) (c .before .before .before .before .before .before .before .args .sets) (c .before .before .before .before .before .before .before .args .depth) (c .before .before .before .before .before .before .before .args .width) (c .before .before .before .before .before .before .before .args .over) (c .before .before .before .before .before .before .before .args .masks .now) (c .before .before .before .before .before .before .before .args .cells .now) (c .before .before .loop .place) (c .before .before .loop .node) (c .before .before .loop .at) (c .before .before .loop .held) (c .before .before .loop .join) (c .before .before .loop .cells) (c .before .before .loop .inv))
 
 fill-children-same-length : (t : ℕ) → fill-children-lts.Need-same-length (fill-children-claims t) (fill-children-at t) fill-children.Post fill-children-Inv-loop fill-children-μ-loop
 fill-children-same-length t c =
@@ -141,7 +153,7 @@ fill-children-same-length t c =
 
 fill-children-returns : (t : ℕ) → fill-children-lts.Need-returns (fill-children-claims t) (fill-children-at t) fill-children.Post fill-children-Inv-loop fill-children-μ-loop
 fill-children-returns t c =
-    passed-all (c .before .before .before .before .before .before .before .before .before .args .part .now) (c .before .before .before .before .before .before .before .before .before .args .i) (c .before .before .before .before .before .before .before .before .before .args .above) (c .before .before .before .before .before .before .before .before .before .args .ports) (c .before .before .before .before .before .before .before .before .before .args .sets) (c .before .before .before .before .before .before .before .before .before .args .depth) (c .before .before .before .before .before .before .before .before .before .args .width) (c .before .before .before .before .before .before .before .before .before .args .over) (c .before .before .before .before .before .before .before .before .before .args .masks .now) (c .before .before .before .before .before .before .before .before .before .args .cells .now) (c .before .before .before .before .before .loop .place) (c .before .before .before .before .before .loop .node) (c .before .before .before .before .before .loop .at) (c .before .before .before .before .before .loop .held) (c .before .before .before .before .before .loop .cells) (c .before .before .before .before .before .loop .inv) (c .before .before .join-held .last .1 .1 .1 .0) (c .before .before .before .before .loop-test .left) (c .before .before .join-held .ensures)
+    passed-all (c .before .before .before .before .before .before .before .before .before .before .args .part .now) (c .before .before .before .before .before .before .before .before .before .before .args .i) (c .before .before .before .before .before .before .before .before .before .before .args .above) (c .before .before .before .before .before .before .before .before .before .before .args .ports) (c .before .before .before .before .before .before .before .before .before .before .args .sets) (c .before .before .before .before .before .before .before .before .before .before .args .depth) (c .before .before .before .before .before .before .before .before .before .before .args .width) (c .before .before .before .before .before .before .before .before .before .before .args .over) (c .before .before .before .before .before .before .before .before .before .before .args .masks .now) (c .before .before .before .before .before .before .before .before .before .before .args .cells .now) (c .before .before .before .before .before .loop .place) (c .before .before .before .before .before .loop .node) (c .before .before .before .before .before .loop .at) (c .before .before .before .before .before .loop .held) (c .before .before .before .before .before .loop .join) (c .before .before .before .before .before .loop .cells) (c .before .before .before .before .before .loop .inv) (c .before .before .join-held .last .1 .1 .1 .0) (c .before .before .before .before .loop-test .left) (c .before .before .join-held .ensures)
 
 fill-tree-kind-of-requires : (t : ℕ) → fill-tree-lts.Need-kind-of-requires (fill-tree-claims t) (fill-tree-at t) fill-tree.Post
 unfolding recordLength
@@ -297,11 +309,14 @@ pub +fill-children+fill-tree-spec : {M : Type 1} → statement M
     fill-children.Post
     fill-children-Inv-loop
     fill-children-μ-loop
+    (fill-children-begin-join-requires t)
     (fill-children-loop-holds t)
     (fill-children-sub-tree t)
     (fill-children-part-tree-start t)
     (fill-children-part-tree-end t)
     (fill-children-end-of-requires t)
+    (fill-children-kind-of-requires t)
+    (fill-children-join-with-requires t)
     (fill-children-fill-tree-requires t)
     (fill-children-join-child-requires t)
     (fill-children-sub-place t)

@@ -24,7 +24,7 @@ loop-holds c =
 gather-requires : tie.Need-gather-requires Inv-loop μ-loop
 gather-requires c κs =
     let r = row-within (c .before .before .loop .t) (c .before .before .before .before .args .over) (c .before .before .before .before .args .s) (omega arith) in
-    (c .before .before .before .before .pre .0, omega (arith, c .before .before .before .before .pre .2, c .before .before .loop .inv .1, r), low-part _ (c .before .before .before .before .args .join) (c .before .before .before .before .args .over) (c .before .before .loop .t) (c .before .before .before .before .args .at) (c .before .before .before .before .args .over * c .before .before .before .before .args .s) (c .before .before .loop .from) (c .before .before .before .before .args .s) (c .before .before .before .before .args .cells .now) (c .before .before .loop .cells) (c .before .before .loop .inv .0) (omega (arith, c .before .before .before .before .pre .1, c .before .before .loop .inv .1)) (omega (arith, c .before .before .loop .inv .1)) (omega (arith, c .before .before .loop .inv .1, r)) (c .before .before .before .before .pre .3))
+    (c .before .before .before .before .pre .0, omega (arith, c .before .before .before .before .pre .2, c .before .before .loop .inv .1, r), low-part _ (c .before .before .before .before .args .join) (c .before .before .before .before .args .over) (c .before .before .loop .t) (c .before .before .before .before .args .at) (c .before .before .before .before .args .over * c .before .before .before .before .args .s) (c .before .before .loop .from) (c .before .before .before .before .args .s) (c .before .before .before .before .args .cells .now) (c .before .before .loop .cells) (c .before .before .loop .inv .0) (omega (arith, c .before .before .before .before .pre .1, c .before .before .loop .inv .1)) (omega (arith, c .before .before .loop .inv .1)) (omega (arith, c .before .before .loop .inv .1, r)) (c .before .before .before .before .pre .3), c .before .before .before .before .pre .4)
 
 mul-cells : tie.Need-mul-cells Inv-loop μ-loop
 mul-cells c =

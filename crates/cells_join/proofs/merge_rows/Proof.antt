@@ -6,7 +6,7 @@ use native.Mathlib.Nat.{zero-add}
 use native.Mathlib.Omega.{arith}
 use lib.ListN.{length, getD}
 use Rattle.logic.proofs.Written.{Written, start, all-first}
-use Rattle.cells_join.specs.inner.Joined.{merged, LowTwo, Low}
+use Rattle.cells_join.specs.inner.Joined.{merged, limitOf, LowTwo, Low}
 use Rattle.cells_join.proofs.Prefix.{step-low, joinedAt}
 use Rattle.cells_join.proofs.Held.{low-kept, rows-more, rows-all}
 use Rattle.cells_join.proofs.merge_rows.Statement.{statement}
@@ -62,7 +62,7 @@ slice-read-meet-of c =
 meet-of-requires : tie.Need-meet-of-requires Inv-loop μ-loop
 unfolding LowTwo Low
 meet-of-requires c κs =
-    λ h. (λ _. rw (c .before .step-of .ensures) (step-low (c .before .before .before .before .before .before .before .args .join) (c .before .before .before .before .before .before .before .args .first) (getD (c .before .before .before .before .before .loop .cells) (c .before .before .before .before .before .loop .t) 0) (getD (c .before .before .before .before .before .loop .cells) (c .before .before .before .before .before .before .before .args .held + c .before .before .before .before .before .loop .t) 0) h (low-kept _ (c .before .before .before .before .before .before .before .args .join) (c .before .before .before .before .before .before .before .args .over) (c .before .before .before .before .before .loop .t) (c .before .before .before .before .before .before .before .args .held + c .before .before .before .before .before .loop .t) (c .before .before .before .before .before .before .before .args .cells .now) (c .before .before .before .before .before .loop .cells) (c .before .before .before .before .before .loop .inv .0) (omega arith) (λ k. c .before .before .before .before .before .before .before .pre .3 (c .before .before .before .before .before .loop .t) (omega arith) k) h)), low-kept _ (c .before .before .before .before .before .before .before .args .join) (c .before .before .before .before .before .before .before .args .over) (c .before .before .before .before .before .loop .t) (c .before .before .before .before .before .before .before .args .at + c .before .before .before .before .before .loop .t) (c .before .before .before .before .before .before .before .args .cells .now) (c .before .before .before .before .before .loop .cells) (c .before .before .before .before .before .loop .inv .0) (omega arith) (λ k. c .before .before .before .before .before .before .before .pre .4 (c .before .before .before .before .before .loop .t) (omega arith) k) h)
+    λ h. (λ _. rw (c .before .step-of .ensures) (step-low (c .before .before .before .before .before .before .before .args .join) (c .before .before .before .before .before .before .before .args .first) (getD (c .before .before .before .before .before .loop .cells) (c .before .before .before .before .before .loop .t) 0) (getD (c .before .before .before .before .before .loop .cells) (c .before .before .before .before .before .before .before .args .held + c .before .before .before .before .before .loop .t) 0) (limitOf (c .before .before .before .before .before .before .before .args .join)) h (low-kept _ (c .before .before .before .before .before .before .before .args .join) (c .before .before .before .before .before .before .before .args .over) (c .before .before .before .before .before .loop .t) (c .before .before .before .before .before .before .before .args .held + c .before .before .before .before .before .loop .t) (c .before .before .before .before .before .before .before .args .cells .now) (c .before .before .before .before .before .loop .cells) (c .before .before .before .before .before .loop .inv .0) (omega arith) (λ k. c .before .before .before .before .before .before .before .pre .3 (c .before .before .before .before .before .loop .t) (omega arith) k) h)), low-kept _ (c .before .before .before .before .before .before .before .args .join) (c .before .before .before .before .before .before .before .args .over) (c .before .before .before .before .before .loop .t) (c .before .before .before .before .before .before .before .args .at + c .before .before .before .before .before .loop .t) (c .before .before .before .before .before .before .before .args .cells .now) (c .before .before .before .before .before .loop .cells) (c .before .before .before .before .before .loop .inv .0) (omega arith) (λ k. c .before .before .before .before .before .before .before .pre .4 (c .before .before .before .before .before .loop .t) (omega arith) k) h)
 
 mul-cells : tie.Need-mul-cells Inv-loop μ-loop
 mul-cells c =
