@@ -3,7 +3,7 @@ use mathlib.Core.Path.{_≡_, sym, ap, ap₂, _∙_}
 use mathlib.Core.Bool.{Bool, cond}
 use mathlib.Core.List.{List, _++_, append-assoc}
 use Prim.Native.Nat.{ℕ, _+_, _-_, _*_, _/_, _%_, _^_, _≤_, _<_, min}
-use native.Mathlib.Nat.{mod-lt, div-div-eq-div-mul, one-le-pow}
+use native.Mathlib.Nat.{mod-lt, one-le-pow}
 use native.Mathlib.Omega.{arith}
 use lib.Arith.{digits-div, mod-mul}
 use lib.Dec.{eqb}
@@ -17,6 +17,7 @@ use Rattle.logic.proofs.Written.{written, from-first, behind-first}
 use Rattle.cells_runs.specs.inner.Ports.{digitAt}
 use Rattle.cells_runs.proofs.Rounds.{row-port}
 use Rattle.cells_runs.proofs.Runs.{tabulate-add}
+use Rattle.cells_members.proofs.Few.{in-shifted}
 
 low-half : (mask t : ℕ) → t < 32 → inMask (mask % 4294967296) t ≡ inMask mask t
 unfolding inMask
@@ -28,11 +29,6 @@ low-half mask t h =
     let quotient : mask % 4294967296 / 2 ^ t ≡ mask / 2 ^ t % 2 ^ (32 - t) =
     ap (λ (x : ℕ). mask % x / 2 ^ t) whole ∙ ap (λ (x : ℕ). x / 2 ^ t) (mod-mul mask m c) ∙ digits-div (mask / 2 ^ t % 2 ^ (32 - t)) (mod-lt mask c) in
     ap (λ (x : ℕ). eqb x 1) (ap (λ (x : ℕ). x % 2) (quotient ∙ ap (λ (x : ℕ). mask / 2 ^ t % 2 ^ x) j) ∙ mod-mod-pow (mask / 2 ^ t) (31 - t) 1)
-
-high-half : (mask t : ℕ) → inMask (mask / 4294967296) t ≡ inMask mask (32 + t)
-unfolding inMask
-high-half mask t =
-    ap (λ (x : ℕ). eqb (x % 2) 1) (div-div-eq-div-mul mask 4294967296 (2 ^ t) ∙ ap (λ (x : ℕ). mask / x) (sym (pow-add 2 32 t)))
 
 -- A row in two runs, the ports below 32 and the others, where there are any.
 pub halves-row : (inside outside mask ports row low : ℕ) (xs ys zs : List ℕ) → row ≤ ports → low ≡ min row 32
@@ -51,7 +47,7 @@ halves-row inside outside mask ports row low xs ys zs few low-is first second =
     let high-part : tabulate (row - low) g ≡ tabulate (row - low) (λ t. h (low + t)) =
     tabulate-cong (row - low) g (λ t. h (low + t)) (λ t q.
     let e : 32 + t ≡ low + t = omega arith in
-    ap (λ (b : Bool). cond b inside outside) (high-half mask t ∙ ap (inMask mask) e ∙ number (low + t) (omega arith))) in
+    ap (λ (b : Bool). cond b inside outside) (in-shifted mask 32 t ∙ ap (inMask mask) e ∙ number (low + t) (omega arith))) in
     let rest : drop (low + (row - low)) ys ≡ drop row xs =
     ap₂ drop whole first ∙ behind-first f low row xs (omega arith) in
     second ∙ (λ j. low-part j ++ (high-part j ++ rest j)) ∙ sym (append-assoc (tabulate low h) (tabulate (row - low) (λ t. h (low + t))) (drop row xs))

@@ -1,3 +1,4 @@
 -- Laws.
 pub mod Halves
+pub mod Few
 pub mod Penalties

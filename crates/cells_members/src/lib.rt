@@ -17,6 +17,9 @@ ghost use Rattle.cells_runs.specs.inner.Ports.{digitAt, RunsPlaced, Round};
 // What a mask is divided by into its two halves of 32 bits.
 const HALF: u64 = 4294967296;
 
+// Up to how many ports of a set are written one by one, each at the cost of two or three vectors.
+const FEW: u32 = 8;
+
 // One number if port p is in the set, else another.
 fn member_penalty(inside: u32, outside: u32, mask: u64, p: u32) -> u32
     requires { ⌜ p < 64 ⌝ }
@@ -51,6 +54,34 @@ fn put_half(inside: u32, outside: u32, half: u32, from: usize, len: usize, cells
     }
 }
 
+// Whether a row is long, and its set has few ports.
+fn is_sparse(mask: u64, row: usize) -> bool {
+    if row <= 32 {
+        return false;
+    }
+    u64::count_ones(mask) <= FEW
+}
+
+// A row of a set of few ports: every cell as outside the set, and then each port's own.
+fn put_few(inside: u32, outside: u32, mask: u64, row: usize, cells: &mut [u32])
+    requires { ⌜ (row ≤ 64) × (row ≤ length (now cells)) ⌝ }
+    ensures { λ _. ⌜ now (cells .exit) ≡ tabulate row (λ t. cond (inMask mask t) inside outside) ++ drop row (now (cells .entry)) ⌝ }
+{
+    put_run(0, row, outside, cells);
+    let mut p = 0;
+    let mut rest = mask;
+    while p < row {
+        let gap = u64::trailing_zeros(rest) as usize;
+        let next = p + gap;
+        if row <= next {
+            return;
+        }
+        cells[next] = inside;
+        rest = (rest >> gap) / 2;
+        p = next + 1;
+    }
+}
+
 // `put_round` for the innermost variable: each cell has a port of its own, so that none costs a loop.
 fn put_row(
     inside: u32,
@@ -64,6 +95,10 @@ fn put_row(
     ensures { λ r. ⌜ Round ports 1 width r × (now (cells .exit) ≡ tabulate r (λ t. cond (inMask mask (digitAt ports 1 t)) inside outside) ++ drop r (now (cells .entry))) ⌝ }
 {
     let row = lesser(ports as usize, width);
+    if is_sparse(mask, row) {
+        put_few(inside, outside, mask, row, cells);
+        return row;
+    }
     let low = lesser(row, 32);
     put_half(inside, outside, (mask % HALF) as u32, 0, low, cells);
     put_half(inside, outside, (mask / HALF) as u32, low, row - low, cells);
