@@ -35,7 +35,7 @@ use cells_walk::with_port;
 use std::num::wrapping_add_u32;
 ghost use mathlib.Core.Bool.{true};
 ghost use Rattle.cells_walk.specs.inner.Root.{RootReady, RootGives};
-ghost use Rattle.cells_try.specs.inner.Walking.{CellReady, CellTouched, QuantifierReady, CellGives, TreesReady, TreesGive, PairReady, PortsSo, RowReady, RowGives, RowCellsReady, RowJoinReady, RowJoins, RowTreesReady, RowTreesGive};
+ghost use Rattle.cells_visit.specs.inner.Walking.{CellReady, CellTouched, QuantifierReady, CellGives, TreesReady, TreesGive, PairReady, PortsSo, RowReady, RowGives, RowCellsReady, RowJoinReady, RowJoins, RowTreesReady, RowTreesGive};
 
 // A cell's old number, its new one, and how many cells at or below it differ from before.
 fn cell_after(

@@ -38,9 +38,9 @@ ghost use mathlib.Core.Path.{_≡_};
 ghost use mathlib.Core.Bool.{true};
 ghost use Prim.Native.Nat.{_+_, _<_};
 ghost use lib.ListN.{length, getD, set};
-ghost use Rattle.cells_walk.specs.inner.Root.{RootReady, RootGives};
-ghost use Rattle.cells_try.specs.inner.Walking.{CellReady, CellTouched, QuantifierReady, CellGives, TreesReady, TreesGive, PairReady, PortsSo, RowGives, RowCellsReady, RowJoinReady, RowJoins, RowTreesReady, RowTreesGive};
-ghost use Rattle.cells_write.specs.inner.Writing.{CellWrites, TreesWrite, PortsWrite, RowWriteReady, RowWrites, RowTreesWrite, RootWrites};
+ghost use Rattle.cells_walk.specs.inner.Root.{RootReady, RootGives, RootWrites};
+ghost use Rattle.cells_visit.specs.inner.Walking.{CellReady, CellTouched, QuantifierReady, CellGives, TreesReady, TreesGive, PairReady, PortsSo, RowGives, RowCellsReady, RowJoinReady, RowJoins, RowTreesReady, RowTreesGive};
+ghost use Rattle.cells_visit.specs.inner.Writing.{CellWrites, TreesWrite, PortsWrite, RowWriteReady, RowWrites, RowTreesWrite};
 
 // Writes a cell's number at a place of its node.
 fn put_cell(firsts: &[u32; 512], i: usize, place: usize, value: u32, cells: &mut [u32])

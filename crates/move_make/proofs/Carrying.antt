@@ -14,8 +14,7 @@ use Rattle.logic.specs.Change.{pairsChange, newCells}
 use Rattle.cells_touch.specs.declared.Changed.{Changed}
 use Rattle.cells_touch.specs.inner.Hits.{Tells}
 use Rattle.cells_sum.specs.declared.After.{After}
-use Rattle.cells_walk.specs.inner.Root.{RootGives}
-use Rattle.cells_write.specs.inner.Writing.{RootWrites}
+use Rattle.cells_walk.specs.inner.Root.{RootGives, RootWrites}
 use Rattle.contracts.specs.MoveCall.{cellsAfter}
 use Rattle.contracts.proofs.Within.{named-length}
 use Rattle.move_try.specs.inner.Trying.{LegalMove}

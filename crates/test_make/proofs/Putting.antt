@@ -16,8 +16,7 @@ use Rattle.logic.proofs.Moves.{mask-flip}
 use Rattle.cells_touch.specs.declared.Changed.{Changed}
 use Rattle.cells_touch.specs.inner.Hits.{Describes}
 use Rattle.cells_sum.specs.declared.After.{After}
-use Rattle.cells_walk.specs.inner.Root.{RootReady, RootGives}
-use Rattle.cells_write.specs.inner.Writing.{RootWrites}
+use Rattle.cells_walk.specs.inner.Root.{RootReady, RootGives, RootWrites}
 use Rattle.contracts.proofs.Within.{within-none, none-within, flip-none}
 use Rattle.call_open.specs.inner.Opening.{OpenPlan}
 use Rattle.call_open.proofs.OpenPlan.{own-length, same-plan, sets-fit, ports-fit, masks-long, masks-ready, change-ready}

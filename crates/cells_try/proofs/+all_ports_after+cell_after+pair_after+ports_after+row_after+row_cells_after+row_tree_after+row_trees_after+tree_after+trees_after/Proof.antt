@@ -4,8 +4,8 @@ use Prim.Native.Nat.{ℕ, _+_, _-_, _*_, _<_}
 use native.Mathlib.Omega.{arith}
 use borrow.Author.Needs.{needs}
 use borrow.Author.Tests.{not-true, not-false}
-use Rattle.cells_try.proofs.Walking.{node-low, cell-room, record-room, place-low, times-fits, literal-ready, touched-ready, quantifier-ready, child-low, ports-ready, trees-ready, gives-untouched, gives-literal, quantifier-gives, gives-trees, some-left, Onward, onward-first, onward-next, onward-last}
-use Rattle.cells_try.proofs.Rowing.{port-ready, first-ready, row-low, row-fits-64, digits-ready, row-within, part-room, part-old, port-gives, gives-literal-row, gives-joint-row, row-trees-ready, row-cells-ready, RowPassed, row-start, row-step, row-finished, joins-kept, joins-row, ports-row, any-row, pair-of, ports-by-row, pair-first, pair-next, pair-only, pair-second, pair-last, row-left, again, by-rows, RowsOnward, rows-onward-first, rows-onward-next, rows-onward-last}
+use Rattle.cells_visit.proofs.Walking.{node-low, cell-room, record-room, place-low, times-fits, literal-ready, touched-ready, quantifier-ready, child-low, ports-ready, trees-ready, gives-untouched, gives-literal, quantifier-gives, gives-trees, some-left, Onward, onward-first, onward-next, onward-last}
+use Rattle.cells_visit.proofs.Rowing.{port-ready, first-ready, row-low, row-fits-64, digits-ready, row-within, part-room, part-old, port-gives, gives-literal-row, gives-joint-row, row-trees-ready, row-cells-ready, RowPassed, row-start, row-step, row-finished, joins-kept, joins-row, ports-row, any-row, pair-of, ports-by-row, pair-first, pair-next, pair-only, pair-second, pair-last, row-left, again, by-rows, RowsOnward, rows-onward-first, rows-onward-next, rows-onward-last}
 use Rattle.cells_sum.specs.declared.Sum.{Sum}
 use Rattle.cells_sum.specs.inner.Walk.{Joined}
 use Prim.Native.Nat.{ℕ, _<_}

@@ -1,5 +1,5 @@
 use borrow.Author.Needs.{needs}
-use Rattle.cells_try.proofs.Rooted.{root-ready, root-gives}
+use Rattle.cells_visit.proofs.Rooted.{root-ready, root-gives}
 use Rattle.cells_try.proofs.root_after.Statement.{statement}
 use Rattle.cells_try.proofs.root_after.Tie as tie
 

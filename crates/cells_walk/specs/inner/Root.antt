@@ -1,8 +1,8 @@
 -- The walk of a whole plan: where it begins, and what the root comes to.
 use mathlib.Core.Path.{_≡_}
-use mathlib.Core.List.{List}
+use mathlib.Core.List.{List, _++_}
 use Prim.Native.Nat.{ℕ, _≤_}
-use lib.ListN.{length, getD, take}
+use lib.ListN.{length, getD, take, drop}
 use Rattle.logic.specs.Formula.{Plan}
 use Rattle.logic.specs.Configuration.{spelled}
 use Rattle.logic.specs.Change.{Change, newCells, differing}
@@ -44,3 +44,9 @@ pub record RootAfter (P : Plan) (ch : Change) (masks cells : List ℕ) (r : Afte
 
 unfoldable pub RootGives : ℕ → Changed → List ℕ → List ℕ → List ℕ → After → Type 0
 RootGives u c bytes masks cells r = (P : Plan) (ch : Change) → decode bytes ≡ sound P → Describes u ch c → RootAfter P ch masks cells r
+
+-- A walk that writes: the plan's own cells are the new ones, and the rest of the table is as it was.
+unfoldable pub RootWrites : ℕ → Changed → List ℕ → List ℕ → List ℕ → List ℕ → Type 0
+RootWrites u c bytes masks old new =
+    (P : Plan) (ch : Change) → decode bytes ≡ sound P → Describes u ch c
+    → new ≡ newCells P (spelled P masks) ch (take (ownCells P) old) ++ drop (ownCells P) old

@@ -4,9 +4,9 @@ use Prim.Native.Nat.{ℕ, _+_, _-_, _*_, _<_}
 use native.Mathlib.Omega.{arith}
 use borrow.Author.Needs.{needs}
 use borrow.Author.Tests.{not-true, not-false}
-use Rattle.cells_try.proofs.Walking.{node-low, cell-room, record-room, place-low, times-fits, literal-ready, touched-ready, quantifier-ready, child-low, ports-ready, trees-ready, gives-untouched, gives-literal, quantifier-gives, gives-trees, some-left}
-use Rattle.cells_try.proofs.Rowing.{port-ready, first-ready, row-low, row-fits-64, digits-ready, row-within, part-room, part-old, copy-old, port-gives, gives-literal-row, gives-joint-row, row-trees-ready, row-cells-ready, RowPassed, row-start, row-step, row-finished, joins-kept, joins-row, ports-row, any-row, ports-by-row, pair-of, pair-first, pair-next, pair-only, pair-second, pair-last, row-left, again, by-rows}
-use Rattle.cells_write.proofs.Writes.{room-kept, all-fit, cell-kept, moved-as, untouched-moved, literal-moved, ports-moved, trees-moved, port-gives-later, row-below, pair-wrote-one, second-next, pair-wrote-two, RowCarried, row-carried-start, row-carried-step, row-carried-all, literal-row-moved, joint-row-moved, row-unmoved, Ahead, ahead-first, ahead-next, ahead-last, RowsAhead, rows-ahead-first, rows-ahead-next, rows-ahead-last}
+use Rattle.cells_visit.proofs.Walking.{node-low, cell-room, record-room, place-low, times-fits, literal-ready, touched-ready, quantifier-ready, child-low, ports-ready, trees-ready, gives-untouched, gives-literal, quantifier-gives, gives-trees, some-left}
+use Rattle.cells_visit.proofs.Rowing.{port-ready, first-ready, row-low, row-fits-64, digits-ready, row-within, part-room, part-old, copy-old, port-gives, gives-literal-row, gives-joint-row, row-trees-ready, row-cells-ready, RowPassed, row-start, row-step, row-finished, joins-kept, joins-row, ports-row, any-row, ports-by-row, pair-of, pair-first, pair-next, pair-only, pair-second, pair-last, row-left, again, by-rows}
+use Rattle.cells_visit.proofs.Writes.{room-kept, all-fit, cell-kept, moved-as, untouched-moved, literal-moved, ports-moved, trees-moved, port-gives-later, row-below, pair-wrote-one, second-next, pair-wrote-two, RowCarried, row-carried-start, row-carried-step, row-carried-all, literal-row-moved, joint-row-moved, row-unmoved, Ahead, ahead-first, ahead-next, ahead-last, RowsAhead, rows-ahead-first, rows-ahead-next, rows-ahead-last}
 use Prim.Native.Nat.{ℕ, _<_}
 use borrow.Fn.Kinds.{In}
 use borrow.Fn.PlainCycle.{Measures, is, falls, and}

@@ -1,6 +1,5 @@
 use borrow.Author.Needs.{needs}
-use Rattle.cells_try.proofs.Rooted.{root-ready}
-use Rattle.cells_write.proofs.Rooted.{root-moved}
+use Rattle.cells_visit.proofs.Rooted.{root-ready, root-moved}
 use Rattle.cells_write.proofs.root_written.Statement.{statement}
 use Rattle.cells_write.proofs.root_written.Tie as tie
 

@@ -1,20 +1,17 @@
 -- What the walk that writes in place leaves in the table, beside what the reading walk gives.
 use mathlib.Core.Path.{_≡_}
-use mathlib.Core.List.{List, _++_}
+use mathlib.Core.List.{List}
 use Prim.Native.Nat.{ℕ, suc, _+_, _≤_}
-use lib.ListN.{length, take, drop}
-use Rattle.logic.specs.Formula.{Node, Forest, none, tree, Plan, nodeCount}
-use Rattle.logic.specs.Configuration.{configured, inMasks, spelled}
+use lib.ListN.{length}
+use Rattle.logic.specs.Formula.{Node, Forest, none, tree, nodeCount}
+use Rattle.logic.specs.Configuration.{configured, inMasks}
 use Rattle.logic.specs.Truth.{Tuple}
-use Rattle.logic.specs.Cells.{ownCells}
-use Rattle.logic.specs.Change.{Change, newCells}
-use Rattle.table_format.specs.Decode.{sound, decode}
+use Rattle.logic.specs.Change.{Change}
 use Rattle.cells_touch.specs.declared.Changed.{Changed}
-use Rattle.cells_touch.specs.inner.Hits.{Describes}
 use Rattle.table_format.specs.Rules.{treeCount}
 use Rattle.cells_walk.specs.inner.Below.{Only, Row, Wrote}
 use Rattle.cells_walk.specs.inner.Visit.{Visit, RowVisit}
-use Rattle.cells_try.specs.inner.Walking.{WalkReady, OldRow, RowReady}
+use Rattle.cells_visit.specs.inner.Walking.{WalkReady, OldRow, RowReady}
 
 -- The walk stands before a node's row, has room for its new numbers, and has kept the old ones.
 pub record RowWriteReady (u sets : ℕ) (c : Changed) (bytes firsts ends uses masks cells : List ℕ) (i d row digits word : ℕ) (old out : List ℕ) : Type 0 where
@@ -55,9 +52,3 @@ RowTreesWrite u sets c bytes firsts ends uses masks old i until d row digits wor
     (ch : Change) (f : Forest) (b : ℕ) (e : Tuple) → WalkReady u sets c masks old ch
     → RowVisit u sets ch bytes firsts ends uses old i f b d e row digits word → until ≡ i + nodeCount f
     → Wrote u (configured u sets (inMasks masks)) ch f b (suc d) (Row u e) old new
-
--- A whole plan: its own cells are the new ones, and the rest of the table is as it was.
-unfoldable pub RootWrites : ℕ → Changed → List ℕ → List ℕ → List ℕ → List ℕ → Type 0
-RootWrites u c bytes masks old new =
-    (P : Plan) (ch : Change) → decode bytes ≡ sound P → Describes u ch c
-    → new ≡ newCells P (spelled P masks) ch (take (ownCells P) old) ++ drop (ownCells P) old

@@ -1,18 +1,23 @@
 -- The walk from the root of a plan that passed its check. Assumes nothing.
-use mathlib.Core.Path.{_≡_, subst}
-use mathlib.Core.List.{List, []}
+use mathlib.Core.Path.{_≡_, sym, subst}
+use mathlib.Core.List.{List, [], _++_}
 use Prim.Native.Nat.{ℕ}
-use Rattle.logic.specs.Formula.{root, none, tree, Plan}
+use lib.ListN.{take, drop}
+use Rattle.logic.specs.Formula.{root, Forest, none, tree, Plan}
 use Rattle.logic.specs.Configuration.{spelled, configuration}
-use Rattle.logic.specs.Change.{Change}
+use Rattle.logic.specs.Cells.{ownCells}
+use Rattle.logic.specs.Change.{Change, newCells}
 use Rattle.table_format.proofs.Encoding.{decode-sound, one-plan}
 use Rattle.cells_touch.specs.declared.Changed.{Changed}
 use Rattle.cells_touch.specs.inner.Hits.{Describes, firstWord}
 use Rattle.cells_sum.specs.declared.After.{After}
+use Rattle.cells_walk.specs.inner.Below.{Only, Wrote}
 use Rattle.cells_walk.specs.inner.Visit.{Visit}
-use Rattle.cells_walk.specs.inner.Root.{RootReady, RootAfter, RootGives}
-use Rattle.cells_walk.proofs.Rooting.{below-root, root-visit, root-after}
-use Rattle.cells_try.specs.inner.Walking.{WalkReady, CellReady, CellGives}
+use Rattle.cells_walk.specs.inner.Root.{RootReady, RootAfter, RootGives, RootWrites}
+use Rattle.cells_walk.proofs.InPlace.{wrote-whole}
+use Rattle.cells_walk.proofs.Rooting.{facts, below-root, formula-is, root-visit, root-after}
+use Rattle.cells_visit.specs.inner.Walking.{WalkReady, CellReady, CellGives}
+use Rattle.cells_visit.specs.inner.Writing.{CellWrites}
 
 module _ (u sets : ℕ) (c : Changed) (bytes firsts ends uses masks cells : List ℕ) (r : RootReady u sets c bytes firsts ends uses masks cells) where
   -- under any change that is told so
@@ -42,3 +47,23 @@ module _ (u sets : ℕ) (c : Changed) (bytes firsts ends uses masks cells : List
       subst (λ (Q : Plan). RootAfter Q ch masks cells x) one
       (root-after (r .plan) bytes (r .decodes) ch masks cells x (r .own-cells)
       (rw (r .sets-are) at (rw (r .ports-are) at (gives ch root (below-root (r .plan) bytes (r .decodes)) none 0 [] (ready-for ch says) (rw h (visit-for ch says))))))
+
+  -- the walk that writes leaves the new cells of the whole plan in place of the old ones
+  root-writes : (word : ℕ) (new : List ℕ) → word ≡ firstWord c → CellWrites u sets c bytes firsts ends uses masks cells 0 0 0 0 word new
+      → RootWrites u c bytes masks cells new
+  unfolding RootWrites CellWrites spelled configuration
+  root-writes word new h writes P ch d says =
+      let Q = r .plan in
+      let one : Q ≡ P = one-plan bytes Q P (decode-sound bytes Q (r .decodes)) (decode-sound bytes P d) in
+      let f = below-root Q bytes (r .decodes) in
+      let w : Wrote (Q .ports) (spelled Q masks) ch (tree root f none) 0 0 (Only []) cells new =
+      rw (r .sets-are) at (rw (r .ports-are) at (writes ch root f none 0 [] (ready-for ch says) (rw h (visit-for ch says)))) in
+      subst (λ (R : Plan). new ≡ newCells R (spelled R masks) ch (take (ownCells R) cells) ++ drop (ownCells R) cells) one
+      (wrote-whole Q (facts Q bytes (r .decodes) .ports1) (spelled Q masks) ch cells new (r .own-cells)
+      (subst (λ (g : Forest). Wrote (Q .ports) (spelled Q masks) ch g 0 0 (Only []) cells new) (sym (formula-is Q bytes (r .decodes))) w))
+
+  pub root-moved : (word : ℕ) (x : After) (new : List ℕ) → word ≡ firstWord c
+      → CellGives u sets c bytes firsts ends uses masks cells 0 0 0 0 word x × CellWrites u sets c bytes firsts ends uses masks cells 0 0 0 0 word new
+      → RootGives u c bytes masks cells x × RootWrites u c bytes masks cells new
+  root-moved word x new h both =
+      (root-gives word x h (both .0), root-writes word new h (both .1))

@@ -3,3 +3,4 @@ pub mod Remaining
 pub mod Rooted
 pub mod Rowing
 pub mod Walking
+pub mod Writes

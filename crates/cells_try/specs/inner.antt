@@ -1,2 +1,0 @@
--- What only proofs and inner contracts use.
-pub mod Walking

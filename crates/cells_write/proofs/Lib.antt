@@ -1,3 +1,0 @@
--- Laws.
-pub mod Rooted
-pub mod Writes
