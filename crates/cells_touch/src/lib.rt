@@ -4,7 +4,7 @@ use logic::bit;
 use logic::wide;
 ghost use mathlib.Core.Path.{_≡_};
 ghost use Prim.Native.Nat.{_<_};
-ghost use Rattle.cells_touch.specs.inner.Hits.{meets, level, otherLevels, atPort, firstWord, restWord, portWord, variableBits, sizeBit, changeAt, Tells};
+ghost use Rattle.cells_touch.specs.inner.Hits.{meets, level, otherLevels, atPort, firstWord, restWord, portWord, variableBits, sizeBit, changeAt, changeIn, Tells};
 
 // A change: the ports p and q, the sets that change at p, those that change at q, and those that are resized. The words have
 // four bits a set, as the table of uses has.
@@ -14,6 +14,46 @@ pub struct Changed {
     pub psets: u64,
     pub qsets: u64,
     pub resized: u64,
+}
+
+// A port as a number among others.
+fn port_number(port: usize) -> u64
+    ensures { λ r. ⌜ r ≡ port ⌝ }
+{
+    port as u64
+}
+
+// A number as a port.
+fn number_port(number: u64) -> usize
+    ensures { λ r. ⌜ r ≡ number ⌝ }
+{
+    number as usize
+}
+
+// A change as five numbers, which a walk lends on: a struct would be copied at every visit.
+pub fn numbers_of(c: Changed) -> [u64; 5]
+    ensures { λ r. ⌜ changeIn r ≡ c ⌝ }
+{
+    [
+        port_number(c.p),
+        port_number(c.q),
+        c.psets,
+        c.qsets,
+        c.resized,
+    ]
+}
+
+// The change that five numbers say.
+pub fn change_in(numbers: &[u64; 5]) -> Changed
+    ensures { λ r. ⌜ r ≡ changeIn (now (numbers .entry)) ⌝ }
+{
+    Changed {
+        p: number_port(numbers[0]),
+        q: number_port(numbers[1]),
+        psets: numbers[2],
+        qsets: numbers[3],
+        resized: numbers[4],
+    }
 }
 
 // Whether a node that uses sets so is touched at a tuple of this word.
@@ -65,10 +105,10 @@ pub fn rest_word(word: u64, depth: usize) -> u64
 }
 
 // The word of a tuple with port x, below a quantifier at this depth.
-pub fn port_word(c: Changed, word: u64, depth: usize, x: usize) -> u64
-    ensures { λ r. ⌜ r ≡ portWord c word depth x ⌝ }
+pub fn port_word(c: &[u64; 5], word: u64, depth: usize, x: usize) -> u64
+    ensures { λ r. ⌜ r ≡ portWord (changeIn (now (c .entry))) word depth x ⌝ }
 {
-    rest_word(word, depth) | (at_port(c, x) & level_of(depth))
+    rest_word(word, depth) | (at_port(change_in(c), x) & level_of(depth))
 }
 
 // The bits of a set that say which variables it is tested at.

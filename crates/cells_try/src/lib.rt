@@ -1,10 +1,8 @@
 // The walk over the touched cells that only reads. Paper 01, section One move.
 use cells_row::begin_row;
-use cells_row::cells_from;
 use cells_row::copy_row;
 use cells_row::count_row;
 use cells_row::fill_row;
-use cells_row::gather_row;
 use cells_row::join_row;
 use cells_row::keep_row;
 use cells_row::put_port;
@@ -16,24 +14,29 @@ use cells_sum::join;
 use cells_sum::outcome;
 use cells_touch::Changed;
 use cells_touch::first_word;
-use cells_touch::meet;
+use cells_touch::numbers_of;
 use cells_touch::port_word;
-use cells_touch::rest_word;
+use cells_walk::adds_at;
 use cells_walk::by_cells;
 use cells_walk::cell_at;
 use cells_walk::end_at;
+use cells_walk::every_at;
 use cells_walk::first_port;
+use cells_walk::higher_port;
 use cells_walk::is_quantifier;
 use cells_walk::kept;
 use cells_walk::kind_at;
 use cells_walk::literal_at;
 use cells_walk::literal_outcome;
+use cells_walk::lower_port;
 use cells_walk::next_port;
-use cells_walk::place_at;
-use cells_walk::uses_at;
+use cells_walk::row_at;
+use cells_walk::row_outcome;
+use cells_walk::touched_at;
 use cells_walk::with_port;
 use std::num::wrapping_add_u32;
 ghost use mathlib.Core.Bool.{true};
+ghost use Rattle.cells_touch.specs.inner.Hits.{changeIn};
 ghost use Rattle.cells_walk.specs.inner.Root.{RootReady, RootGives};
 ghost use Rattle.cells_visit.specs.inner.Walking.{CellReady, CellTouched, QuantifierReady, CellGives, TreesReady, TreesGive, PairReady, PortsSo, RowReady, RowGives, RowCellsReady, RowJoinReady, RowJoins, RowTreesReady, RowTreesGive};
 
@@ -47,19 +50,18 @@ fn cell_after(
     cells: &[u32],
     ports: usize,
     sets: usize,
-    c: Changed,
+    c: &[u64; 5],
     i: usize,
     depth: usize,
     place: usize,
     digits: u32,
     word: u64,
 ) -> After
-    requires { ⌜ CellReady ports sets c (now table) (now firsts) (now ends) (now uses) (now masks) (now cells) i depth place digits word ⌝ }
-    ensures { λ r. ⌜ CellGives ports sets c (now (table .entry)) (now (firsts .entry)) (now (ends .entry)) (now (uses .entry)) (now (masks .entry)) (now (cells .entry)) i depth place digits word r ⌝ }
+    requires { ⌜ CellReady ports sets (changeIn (now c)) (now table) (now firsts) (now ends) (now uses) (now masks) (now cells) i depth place digits word ⌝ }
+    ensures { λ r. ⌜ CellGives ports sets (changeIn (now (c .entry))) (now (table .entry)) (now (firsts .entry)) (now (ends .entry)) (now (uses .entry)) (now (masks .entry)) (now (cells .entry)) i depth place digits word r ⌝ }
 {
     let old = cell_at(firsts, i, place, cells);
-    let used = uses_at(uses, i);
-    if !meet(used, word) {
+    if !touched_at(uses, i, word) {
         return kept(firsts, i, place, cells);
     }
     let kind = kind_at(table, i);
@@ -117,15 +119,15 @@ fn tree_after(
     cells: &[u32],
     ports: usize,
     sets: usize,
-    c: Changed,
+    c: &[u64; 5],
     i: usize,
     depth: usize,
     place: usize,
     digits: u32,
     word: u64,
 ) -> After
-    requires { ⌜ CellTouched ports sets c (now table) (now firsts) (now ends) (now uses) (now masks) (now cells) i depth place digits word ⌝ }
-    ensures { λ r. ⌜ CellGives ports sets c (now (table .entry)) (now (firsts .entry)) (now (ends .entry)) (now (uses .entry)) (now (masks .entry)) (now (cells .entry)) i depth place digits word r ⌝ }
+    requires { ⌜ CellTouched ports sets (changeIn (now c)) (now table) (now firsts) (now ends) (now uses) (now masks) (now cells) i depth place digits word ⌝ }
+    ensures { λ r. ⌜ CellGives ports sets (changeIn (now (c .entry))) (now (table .entry)) (now (firsts .entry)) (now (ends .entry)) (now (uses .entry)) (now (masks .entry)) (now (cells .entry)) i depth place digits word r ⌝ }
 {
     if 5 <= kind_at(table, i) {
         let old = cell_at(firsts, i, place, cells);
@@ -159,7 +161,7 @@ fn trees_after(
     cells: &[u32],
     ports: usize,
     sets: usize,
-    c: Changed,
+    c: &[u64; 5],
     i: usize,
     until: usize,
     depth: usize,
@@ -169,13 +171,13 @@ fn trees_after(
     add: bool,
     acc: Sum,
 ) -> Sum
-    requires { ⌜ TreesReady ports sets c (now table) (now firsts) (now ends) (now uses) (now masks) (now cells) i until depth place digits word acc ⌝ }
-    ensures { λ r. ⌜ TreesGive ports sets c (now (table .entry)) (now (firsts .entry)) (now (ends .entry)) (now (uses .entry)) (now (masks .entry)) (now (cells .entry)) i until depth place digits word add acc r ⌝ }
+    requires { ⌜ TreesReady ports sets (changeIn (now c)) (now table) (now firsts) (now ends) (now uses) (now masks) (now cells) i until depth place digits word acc ⌝ }
+    ensures { λ r. ⌜ TreesGive ports sets (changeIn (now (c .entry))) (now (table .entry)) (now (firsts .entry)) (now (ends .entry)) (now (uses .entry)) (now (masks .entry)) (now (cells .entry)) i until depth place digits word add acc r ⌝ }
 {
     let mut sum = acc;
     let mut j = i;
     while j < until {
-        if meet(uses_at(uses, j), word) {
+        if touched_at(uses, j, word) {
             let r = tree_after(
                 table,
                 firsts,
@@ -212,17 +214,17 @@ fn ports_after(
     cells: &[u32],
     ports: usize,
     sets: usize,
-    c: Changed,
+    c: &[u64; 5],
     i: usize,
     depth: usize,
     place: usize,
     digits: u32,
     word: u64,
 ) -> After
-    requires { ⌜ QuantifierReady ports sets c (now table) (now firsts) (now ends) (now uses) (now masks) (now cells) i depth place digits word ⌝ }
-    ensures { λ r. ⌜ CellGives ports sets c (now (table .entry)) (now (firsts .entry)) (now (ends .entry)) (now (uses .entry)) (now (masks .entry)) (now (cells .entry)) i depth place digits word r ⌝ }
+    requires { ⌜ QuantifierReady ports sets (changeIn (now c)) (now table) (now firsts) (now ends) (now uses) (now masks) (now cells) i depth place digits word ⌝ }
+    ensures { λ r. ⌜ CellGives ports sets (changeIn (now (c .entry))) (now (table .entry)) (now (firsts .entry)) (now (ends .entry)) (now (uses .entry)) (now (masks .entry)) (now (cells .entry)) i depth place digits word r ⌝ }
 {
-    if !adds_of(kind_at(table, i)) {
+    if !adds_at(table, i) {
         return all_ports_after(
             table,
             firsts,
@@ -240,7 +242,7 @@ fn ports_after(
             word,
         );
     }
-    if meet(uses_at(uses, i + 1), rest_word(word, depth)) {
+    if every_at(uses, i + 1, word, depth) {
         return all_ports_after(
             table,
             firsts,
@@ -290,20 +292,21 @@ fn all_ports_after(
     cells: &[u32],
     ports: usize,
     sets: usize,
-    c: Changed,
+    c: &[u64; 5],
     i: usize,
     depth: usize,
     place: usize,
     digits: u32,
     word: u64,
 ) -> After
-    requires { ⌜ QuantifierReady ports sets c (now table) (now firsts) (now ends) (now uses) (now masks) (now cells) i depth place digits word ⌝ }
-    ensures { λ r. ⌜ CellGives ports sets c (now (table .entry)) (now (firsts .entry)) (now (ends .entry)) (now (uses .entry)) (now (masks .entry)) (now (cells .entry)) i depth place digits word r ⌝ }
+    requires { ⌜ QuantifierReady ports sets (changeIn (now c)) (now table) (now firsts) (now ends) (now uses) (now masks) (now cells) i depth place digits word ⌝ }
+    ensures { λ r. ⌜ CellGives ports sets (changeIn (now (c .entry))) (now (table .entry)) (now (firsts .entry)) (now (ends .entry)) (now (uses .entry)) (now (masks .entry)) (now (cells .entry)) i depth place digits word r ⌝ }
 {
     let old = cell_at(firsts, i, place, cells);
-    let add = adds_of(kind_at(table, i));
-    let begun = begin(add, old);
+    let add = adds_at(table, i);
     let row = place * ports;
+    let mut before = [0u32; 64];
+    copy_row(row_at(firsts, i + 1, row, cells), ports, &mut before);
     let mut new = [0u32; 64];
     let changed = row_after(
         table,
@@ -322,12 +325,7 @@ fn all_ports_after(
         word,
         &mut new,
     );
-    let before = cells_from(cells, place_at(firsts, i + 1, row));
-    let sum = Sum {
-        value: gather_row(add, begun.value, &new, before, ports),
-        changed: wrapping_add_u32(begun.changed, changed),
-    };
-    outcome(old, sum)
+    row_outcome(add, old, changed, &new, &before, ports)
 }
 
 // A sum with the child's cells at the ports of the change.
@@ -340,7 +338,7 @@ fn pair_after(
     cells: &[u32],
     ports: usize,
     sets: usize,
-    c: Changed,
+    c: &[u64; 5],
     i: usize,
     depth: usize,
     row: usize,
@@ -348,9 +346,11 @@ fn pair_after(
     word: u64,
     acc: Sum,
 ) -> Sum
-    requires { ⌜ PairReady ports sets c (now table) (now firsts) (now ends) (now uses) (now masks) (now cells) i depth row digits word acc ⌝ }
-    ensures { λ r. ⌜ PortsSo ports sets c (now (table .entry)) (now (firsts .entry)) (now (ends .entry)) (now (uses .entry)) (now (masks .entry)) (now (cells .entry)) i depth row digits word true ports acc r ⌝ }
+    requires { ⌜ PairReady ports sets (changeIn (now c)) (now table) (now firsts) (now ends) (now uses) (now masks) (now cells) i depth row digits word acc ⌝ }
+    ensures { λ r. ⌜ PortsSo ports sets (changeIn (now (c .entry))) (now (table .entry)) (now (firsts .entry)) (now (ends .entry)) (now (uses .entry)) (now (masks .entry)) (now (cells .entry)) i depth row digits word true ports acc r ⌝ }
 {
+    let p = lower_port(c);
+    let q = higher_port(c);
     let first = cell_after(
         table,
         firsts,
@@ -363,12 +363,12 @@ fn pair_after(
         c,
         i,
         depth + 1,
-        row + c.p,
-        with_port(digits, depth, c.p),
-        port_word(c, word, depth, c.p),
+        row + p,
+        with_port(digits, depth, p),
+        port_word(c, word, depth, p),
     );
     let sum = join(true, acc, first);
-    if c.q <= c.p {
+    if q <= p {
         return sum;
     }
     let second = cell_after(
@@ -383,9 +383,9 @@ fn pair_after(
         c,
         i,
         depth + 1,
-        row + c.q,
-        with_port(digits, depth, c.q),
-        port_word(c, word, depth, c.q),
+        row + q,
+        with_port(digits, depth, q),
+        port_word(c, word, depth, q),
     );
     join(true, sum, second)
 }
@@ -400,7 +400,7 @@ fn row_after(
     cells: &[u32],
     ports: usize,
     sets: usize,
-    c: Changed,
+    c: &[u64; 5],
     i: usize,
     depth: usize,
     row: usize,
@@ -408,12 +408,12 @@ fn row_after(
     word: u64,
     out: &mut [u32],
 ) -> u32
-    requires { ⌜ RowReady ports sets c (now table) (now firsts) (now ends) (now uses) (now masks) (now cells) i depth row digits word (now out) ⌝ }
-    ensures { λ r. ⌜ RowGives ports sets c (now (table .entry)) (now (firsts .entry)) (now (ends .entry)) (now (uses .entry)) (now (masks .entry)) (now (cells .entry)) i depth row digits word (now (out .exit)) r ⌝ }
+    requires { ⌜ RowReady ports sets (changeIn (now c)) (now table) (now firsts) (now ends) (now uses) (now masks) (now cells) i depth row digits word (now out) ⌝ }
+    ensures { λ r. ⌜ RowGives ports sets (changeIn (now (c .entry))) (now (table .entry)) (now (firsts .entry)) (now (ends .entry)) (now (uses .entry)) (now (masks .entry)) (now (cells .entry)) i depth row digits word (now (out .exit)) r ⌝ }
 {
-    let old = cells_from(cells, place_at(firsts, i, row));
+    let old = row_at(firsts, i, row, cells);
     let kind = kind_at(table, i);
-    let every = meet(uses_at(uses, i), rest_word(word, depth));
+    let every = every_at(uses, i, word, depth);
     if by_cells(every, kind) {
         copy_row(old, ports, out);
         return row_cells_after(
@@ -474,7 +474,7 @@ fn row_cells_after(
     cells: &[u32],
     ports: usize,
     sets: usize,
-    c: Changed,
+    c: &[u64; 5],
     i: usize,
     depth: usize,
     row: usize,
@@ -483,8 +483,8 @@ fn row_cells_after(
     every: bool,
     out: &mut [u32],
 ) -> u32
-    requires { ⌜ RowCellsReady ports sets c (now table) (now firsts) (now ends) (now uses) (now masks) (now cells) i depth row digits word every (now out) ⌝ }
-    ensures { λ r. ⌜ RowGives ports sets c (now (table .entry)) (now (firsts .entry)) (now (ends .entry)) (now (uses .entry)) (now (masks .entry)) (now (cells .entry)) i depth row digits word (now (out .exit)) r ⌝ }
+    requires { ⌜ RowCellsReady ports sets (changeIn (now c)) (now table) (now firsts) (now ends) (now uses) (now masks) (now cells) i depth row digits word every (now out) ⌝ }
+    ensures { λ r. ⌜ RowGives ports sets (changeIn (now (c .entry))) (now (table .entry)) (now (firsts .entry)) (now (ends .entry)) (now (uses .entry)) (now (masks .entry)) (now (cells .entry)) i depth row digits word (now (out .exit)) r ⌝ }
 {
     let mut changed = 0;
     let mut x = first_port(every, c);
@@ -522,7 +522,7 @@ fn row_trees_after(
     cells: &[u32],
     ports: usize,
     sets: usize,
-    c: Changed,
+    c: &[u64; 5],
     i: usize,
     until: usize,
     depth: usize,
@@ -532,8 +532,8 @@ fn row_trees_after(
     add: bool,
     out: &mut [u32],
 ) -> u32
-    requires { ⌜ RowTreesReady ports sets c (now table) (now firsts) (now ends) (now uses) (now masks) (now cells) i until depth row digits word (now out) 0 ⌝ }
-    ensures { λ r. ⌜ RowTreesGive ports sets c (now (table .entry)) (now (firsts .entry)) (now (ends .entry)) (now (uses .entry)) (now (masks .entry)) (now (cells .entry)) i until depth row digits word add (now (out .entry)) 0 (now (out .exit)) r ⌝ }
+    requires { ⌜ RowTreesReady ports sets (changeIn (now c)) (now table) (now firsts) (now ends) (now uses) (now masks) (now cells) i until depth row digits word (now out) 0 ⌝ }
+    ensures { λ r. ⌜ RowTreesGive ports sets (changeIn (now (c .entry))) (now (table .entry)) (now (firsts .entry)) (now (ends .entry)) (now (uses .entry)) (now (masks .entry)) (now (cells .entry)) i until depth row digits word add (now (out .entry)) 0 (now (out .exit)) r ⌝ }
 {
     let mut changed = 0;
     let mut j = i;
@@ -572,7 +572,7 @@ fn row_tree_after(
     cells: &[u32],
     ports: usize,
     sets: usize,
-    c: Changed,
+    c: &[u64; 5],
     i: usize,
     depth: usize,
     row: usize,
@@ -581,11 +581,11 @@ fn row_tree_after(
     add: bool,
     out: &mut [u32],
 ) -> u32
-    requires { ⌜ RowJoinReady ports sets c (now table) (now firsts) (now ends) (now uses) (now masks) (now cells) i depth row digits word (now out) ⌝ }
-    ensures { λ r. ⌜ RowJoins ports sets c (now (table .entry)) (now (firsts .entry)) (now (ends .entry)) (now (uses .entry)) (now (masks .entry)) (now (cells .entry)) i depth row digits word add (now (out .entry)) (now (out .exit)) r ⌝ }
+    requires { ⌜ RowJoinReady ports sets (changeIn (now c)) (now table) (now firsts) (now ends) (now uses) (now masks) (now cells) i depth row digits word (now out) ⌝ }
+    ensures { λ r. ⌜ RowJoins ports sets (changeIn (now (c .entry))) (now (table .entry)) (now (firsts .entry)) (now (ends .entry)) (now (uses .entry)) (now (masks .entry)) (now (cells .entry)) i depth row digits word add (now (out .entry)) (now (out .exit)) r ⌝ }
 {
-    let old = cells_from(cells, place_at(firsts, i, row));
-    if !meet(uses_at(uses, i), word) {
+    let old = row_at(firsts, i, row, cells);
+    if !touched_at(uses, i, word) {
         keep_row(add, old, ports, out);
         return 0;
     }
@@ -626,6 +626,7 @@ pub fn root_after(
     requires { ⌜ RootReady ports sets c (now table) (now firsts) (now ends) (now uses) (now masks) (now cells) ⌝ }
     ensures { λ r. ⌜ RootGives ports c (now (table .entry)) (now (masks .entry)) (now (cells .entry)) r ⌝ }
 {
+    let numbers = numbers_of(c);
     cell_after(
         table,
         firsts,
@@ -635,7 +636,7 @@ pub fn root_after(
         cells,
         ports,
         sets,
-        c,
+        &numbers,
         0,
         0,
         0,

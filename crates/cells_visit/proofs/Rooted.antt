@@ -28,8 +28,8 @@ module _ (u sets : ℕ) (c : Changed) (bytes firsts ends uses masks cells : List
       → Visit u sets ch bytes firsts ends uses cells 0 (tree root (below-root (r .plan) bytes (r .decodes)) none) 0 0 [] 0 0 (firstWord c)
   visit-for ch says = root-visit (r .plan) bytes (r .decodes) u (r .ports-are) sets (r .sets-are) c ch says firsts ends uses cells (r .indexed) (r .own-cells)
 
-  pub root-ready : (word : ℕ) → word ≡ firstWord c → CellReady u sets c bytes firsts ends uses masks cells 0 0 0 0 word
-  root-ready word h = record {
+  ready-here : (word : ℕ) → word ≡ firstWord c → CellReady u sets c bytes firsts ends uses masks cells 0 0 0 0 word
+  ready-here word h = record {
     change = r .change;
     node = root;
     children = below-root (r .plan) bytes (r .decodes);
@@ -40,13 +40,21 @@ module _ (u sets : ℕ) (c : Changed) (bytes firsts ends uses masks cells : List
     visit = rw h (visit-for (r .change) (r .says));
   }
 
-  pub root-gives : (word : ℕ) (x : After) → word ≡ firstWord c → CellGives u sets c bytes firsts ends uses masks cells 0 0 0 0 word x → RootGives u c bytes masks cells x
+  -- `told` is the change again, as the walk is lent it
+  pub root-ready : (told : Changed) → told ≡ c → (word : ℕ) → word ≡ firstWord c → CellReady u sets told bytes firsts ends uses masks cells 0 0 0 0 word
+  root-ready told q word h = subst (λ (x : Changed). CellReady u sets x bytes firsts ends uses masks cells 0 0 0 0 word) (sym q) (ready-here word h)
+
+  gives-here : (word : ℕ) (x : After) → word ≡ firstWord c → CellGives u sets c bytes firsts ends uses masks cells 0 0 0 0 word x → RootGives u c bytes masks cells x
   unfolding RootGives CellGives spelled configuration
-  root-gives word x h gives P ch d says =
+  gives-here word x h gives P ch d says =
       let one : r .plan ≡ P = one-plan bytes (r .plan) P (decode-sound bytes (r .plan) (r .decodes)) (decode-sound bytes P d) in
       subst (λ (Q : Plan). RootAfter Q ch masks cells x) one
       (root-after (r .plan) bytes (r .decodes) ch masks cells x (r .own-cells)
       (rw (r .sets-are) at (rw (r .ports-are) at (gives ch root (below-root (r .plan) bytes (r .decodes)) none 0 [] (ready-for ch says) (rw h (visit-for ch says))))))
+
+  pub root-gives : (told : Changed) → told ≡ c → (word : ℕ) (x : After) → word ≡ firstWord c → CellGives u sets told bytes firsts ends uses masks cells 0 0 0 0 word x
+      → RootGives u c bytes masks cells x
+  root-gives told q word x h gives = gives-here word x h (subst (λ (y : Changed). CellGives u sets y bytes firsts ends uses masks cells 0 0 0 0 word x) q gives)
 
   -- the walk that writes leaves the new cells of the whole plan in place of the old ones
   root-writes : (word : ℕ) (new : List ℕ) → word ≡ firstWord c → CellWrites u sets c bytes firsts ends uses masks cells 0 0 0 0 word new
@@ -62,8 +70,8 @@ module _ (u sets : ℕ) (c : Changed) (bytes firsts ends uses masks cells : List
       (wrote-whole Q (facts Q bytes (r .decodes) .ports1) (spelled Q masks) ch cells new (r .own-cells)
       (subst (λ (g : Forest). Wrote (Q .ports) (spelled Q masks) ch g 0 0 (Only []) cells new) (sym (formula-is Q bytes (r .decodes))) w))
 
-  pub root-moved : (word : ℕ) (x : After) (new : List ℕ) → word ≡ firstWord c
-      → CellGives u sets c bytes firsts ends uses masks cells 0 0 0 0 word x × CellWrites u sets c bytes firsts ends uses masks cells 0 0 0 0 word new
+  pub root-moved : (told : Changed) → told ≡ c → (word : ℕ) (x : After) (new : List ℕ) → word ≡ firstWord c
+      → CellGives u sets told bytes firsts ends uses masks cells 0 0 0 0 word x × CellWrites u sets told bytes firsts ends uses masks cells 0 0 0 0 word new
       → RootGives u c bytes masks cells x × RootWrites u c bytes masks cells new
-  root-moved word x new h both =
-      (root-gives word x h (both .0), root-writes word new h (both .1))
+  root-moved told q word x new h both =
+      (root-gives told q word x h (both .0), root-writes word new h (subst (λ (y : Changed). CellWrites u sets y bytes firsts ends uses masks cells 0 0 0 0 word new) q (both .1)))

@@ -38,9 +38,9 @@ use Rattle.cells_walk.proofs.Visits.{all-constants, port-visit, row-node, row-f
 use Rattle.cells_walk.proofs.Ports.{Reached, reached-first, reached-next, reached-all}
 use Rattle.cells_walk.proofs.Outcomes.{begun-fits, taken-fits, one-tree, port-more, port-skipped, ports-none}
 use Rattle.cells_walk.proofs.Rows.{row-kept, row-literal, row-joint, row-joined, rows-none, rows-more, row-gathered, RowUpTo, up-to-none, up-to-next, up-to-skip, up-to-all}
-use Rattle.cells_visit.specs.inner.Walking.{WalkReady, CellReady, CellGives, PortsReady, PairReady, PortsSo, OldRow, RowReady, RowGives, RowCellsReady, RowJoinReady, RowJoins, RowTreesReady, RowTreesGive}
+use Rattle.cells_visit.specs.inner.Walking.{WalkReady, CellReady, QuantifierReady, CellGives, PortsReady, PairReady, PortsSo, OldRow, RowReady, RowGives, RowCellsReady, RowJoinReady, RowJoins, RowTreesReady, RowTreesGive}
 use Rattle.cells_visit.proofs.Remaining.{Remaining, remains-first, remains-next}
-use Rattle.cells_visit.proofs.Walking.{cells-low, no-children, width-low, literal-here}
+use Rattle.cells_visit.proofs.Walking.{cells-low, no-children, width-low, literal-here, ports-ready, quantifier-gives}
 
 first-digits : (digits d : ℕ) → digits ≡ digits + 0 * 256 ^ d
 first-digits digits d = rw (zero-mul (256 ^ d)) (omega arith)
@@ -419,25 +419,58 @@ module _ (u sets : ℕ) (c : Changed) (bytes firsts ends uses masks cells : List
         (port-skipped u after ch (cellOf u cells) (tree n f none) b d e (x + m) acc r low (cells-low u sets c bytes firsts ends uses masks cells (ready .cells-fit))
         (or-false (touched ch n f ((x + m) ∷ e)) false (untouched-between i d row digits word ch n f none b e ready v h (x + m) (omega arith) (a .0) (a .1)) refl) before)
 
-    module _ (acc : Sum) (r : PairReady u sets c bytes firsts ends uses masks cells i d row digits word acc) where
+    -- p and q are the ports of the change
+    module _ (acc : Sum) (r : PairReady u sets c bytes firsts ends uses masks cells i d row digits word acc) (p q : ℕ) (pe : p ≡ c .p) (qe : q ≡ c .q) where
+      pub first-low : p < u
+      first-low = omega (arith, pe, r .ports .ready .says .order, r .ports .ready .says .below)
+
+      pub second-low : q < u
+      second-low = omega (arith, qe, r .ports .ready .says .below)
+
       pub pair-to : (s : Sum) (x x′ : ℕ) → x ≤ x′ → x′ ≤ u → ((y : ℕ) → x ≤ y → y < x′ → (y ≢ c .p) × (y ≢ c .q)) → So true x acc s → So true x′ acc s
       pair-to s x x′ l k apart so =
           let w : x + (x′ - x) ≡ x′ = omega arith in
           subst (λ (y : ℕ). So true y acc s) w (pair-skip acc s (r .ports .low) (r .few) (x′ - x) x (omega arith) (λ y g j. apart y g (omega arith)) so)
 
-      pub pair-first : So true (c .p) acc acc
+      pub pair-first : So true p acc acc
       pair-first =
           let order = r .ports .ready .says .order in
-          pair-to acc 0 (c .p) (omega arith) (omega (arith, r .ports .ready .says .below)) (λ y g l. (λ e. omega arith, λ e. omega arith)) (pair-begin acc (r .ports .few))
+          pair-to acc 0 p (omega arith) (omega (arith, first-low)) (λ y g l. (λ e. omega (arith, pe), λ e. omega (arith, pe))) (pair-begin acc (r .ports .few))
 
-      pub pair-only : (s : Sum) → c .q ≤ c .p → So true (suc (c .p)) acc s → So true u acc s
-      pair-only s h so = pair-to s (suc (c .p)) u (omega (arith, r .ports .ready .says .order, r .ports .ready .says .below)) (omega arith) (λ y g l. (λ e. omega arith, λ e. omega arith)) so
+      pub pair-only : (s : Sum) → q ≤ p → So true (suc p) acc s → So true u acc s
+      pair-only s h so = pair-to s (suc p) u first-low (omega arith) (λ y g l. (λ e. omega (arith, pe), λ e. omega (arith, qe))) so
 
-      pub pair-second : (s : Sum) → c .p < c .q → So true (suc (c .p)) acc s → So true (c .q) acc s
-      pair-second s h so = pair-to s (suc (c .p)) (c .q) (omega arith) (omega (arith, r .ports .ready .says .below)) (λ y g l. (λ e. omega arith, λ e. omega arith)) so
+      pub pair-second : (s : Sum) → p < q → So true (suc p) acc s → So true q acc s
+      pair-second s h so = pair-to s (suc p) q (omega arith) (omega (arith, second-low)) (λ y g l. (λ e. omega (arith, pe), λ e. omega (arith, qe))) so
 
-      pub pair-last : (s : Sum) → c .p < c .q → So true (suc (c .q)) acc s → So true u acc s
-      pair-last s h so = pair-to s (suc (c .q)) u (omega (arith, r .ports .ready .says .below)) (omega arith) (λ y g l. (λ e. omega arith, λ e. omega arith)) so
+      pub pair-last : (s : Sum) → p < q → So true (suc q) acc s → So true u acc s
+      pair-last s h so = pair-to s (suc q) u second-low (omega arith) (λ y g l. (λ e. omega (arith, pe), λ e. omega (arith, qe))) so
+
+  -- a touched quantifier's cell by the row of its child
+  module _ (i d place digits word : ℕ) (q : QuantifierReady u sets c bytes firsts ends uses masks cells i d place digits word) where
+    below-ready : PortsReady u sets c bytes firsts ends uses masks cells (i + 1) d (place * u) digits word record { value = begun true (getD cells (getD firsts i 0 + place) 0); changed = 0 }
+    below-ready =
+        ports-ready u sets c bytes firsts ends uses masks cells i d place digits word q (getD cells (getD firsts i 0 + place) 0) true
+        record { value = begun true (getD cells (getD firsts i 0 + place) 0); changed = 0 } refl (refl, refl)
+
+    pub child-row : (out : List ℕ) → u ≤ length out → RowReady u sets c bytes firsts ends uses masks cells (i + 1) d (place * u) digits word out
+    child-row = ports-row (i + 1) d (place * u) digits word record { value = begun true (getD cells (getD firsts i 0 + place) 0); changed = 0 } below-ready
+
+    pub some-child-row : RowReady u sets c bytes firsts ends uses masks cells (i + 1) d (place * u) digits word (tabulate u (λ _. 0))
+    some-child-row = any-row (i + 1) d (place * u) digits word record { value = begun true (getD cells (getD firsts i 0 + place) 0); changed = 0 } below-ready
+
+    pub row-quantifier-gives : (old : ℕ) (add : Bool) (before new : List ℕ) (more : ℕ) (r : After) → old ≡ getD cells (getD firsts i 0 + place) 0
+        → add ≡ eqb (kindField (recordAt bytes i) % 2) 1 → OldRow u firsts cells (i + 1) (place * u) before
+        → RowGives u sets c bytes firsts ends uses masks cells (i + 1) d (place * u) digits word new more
+        → (r .old ≡ old) × (r .value ≡ rowGathered add (begun add old) new before u) × (r .changed ≡ (indicator (not (eqb (r .value) old)) + more) % 4294967296)
+        → CellGives u sets c bytes firsts ends uses masks cells i d place digits word r
+    row-quantifier-gives old add before new more r o ad was gives out =
+        let start : Sum = record { value = begun add old; changed = 0 } in
+        let sums : Sum = record { value = r .value; changed = (0 + more) % 4294967296 } in
+        let differ = indicator (not (eqb (r .value) old)) in
+        let counted : (differ + more) % 4294967296 ≡ (differ + (0 + more) % 4294967296) % 4294967296 = omega arith in
+        quantifier-gives u sets c bytes firsts ends uses masks cells i d place digits word q old (kindField (recordAt bytes i)) add start sums r o refl ad (refl, refl)
+        (out .0, refl, out .2 ∙ counted) (ports-by-row (i + 1) d (place * u) digits word add before new more start sums was gives (out .1) refl)
 
   -- the rows of a forest's trees
   module _ (i until d row digits word : ℕ) where

@@ -33,7 +33,7 @@ use Rattle.cells_walk.proofs.Wrote.{wrote-untouched, wrote-none, wrote-empty, l
 use Rattle.cells_visit.specs.inner.Walking.{WalkReady, CellReady, CellGives, TreesReady, TreesGive, PairReady, RowGives, RowCellsReady, RowJoins, RowTreesReady, RowTreesGive}
 use Rattle.cells_visit.proofs.Remaining.{Remaining, remains-first, remains-next}
 use Rattle.cells_visit.proofs.Walking.{no-children, here, fits, touched-is, one-here, ports-here, trees-here, end-here, rest-few, none-left, next-ready}
-use Rattle.cells_visit.proofs.Rowing.{after-node, port-stands, untouched-between, PortGives, rows-ready, rows-left}
+use Rattle.cells_visit.proofs.Rowing.{after-node, port-stands, untouched-between, PortGives, first-low, second-low, rows-ready, rows-left}
 use Rattle.cells_visit.specs.inner.Writing.{CellWrites, TreesWrite, PortsWrite, RowWrites, RowTreesWrite}
 
 pub room-kept : (x : ℕ) (old new : List ℕ) → length new ≡ length old → x < length old → x < length new
@@ -325,29 +325,31 @@ module _ (u sets : ℕ) (c : Changed) (bytes firsts ends uses masks : List ℕ) 
       row-below mid so ch (tree n f (tree n′ f′ s)) b e ready v o = absurd (omega arith)
 
       -- the ports of the change alone: the first written, and the second after it
-      module _ (acc : Sum) (r : PairReady u sets c bytes firsts ends uses masks cells i d row digits word acc) (digits′ word′ : ℕ) (dg : digits′ ≡ digits + c .p * 256 ^ d)
-          (wd : word′ ≡ portWord c word d (c .p)) (mid : List ℕ) (one : CellWrites u sets c bytes firsts ends uses masks cells i (d + 1) (row + c .p) digits′ word′ mid) where
-        first-wrote : RowTo (suc (c .p)) mid
+      module _ (acc : Sum) (r : PairReady u sets c bytes firsts ends uses masks cells i d row digits word acc) (p q : ℕ) (pe : p ≡ c .p) (qe : q ≡ c .q)
+          (digits′ word′ : ℕ) (dg : digits′ ≡ digits + p * 256 ^ d) (wd : word′ ≡ portWord c word d p)
+          (mid : List ℕ) (one : CellWrites u sets c bytes firsts ends uses masks cells i (d + 1) (row + p) digits′ word′ mid) where
+        first-wrote : RowTo (suc p) mid
         first-wrote =
             let order = r .ports .ready .says .order in
-            let low : c .p < u = omega (arith, r .ports .ready .says .below) in
-            row-to-next (c .p) digits′ word′ low dg wd cells (r .ports .ready .cells-fit) refl
-            (row-to cells (r .few) 0 (c .p) (omega arith) (omega arith) (λ y g l. (λ e. omega arith, λ e. omega arith)) row-to-none) mid one
+            let low = first-low u sets c bytes firsts ends uses masks cells i d row digits word acc r p q pe qe in
+            row-to-next p digits′ word′ low dg wd cells (r .ports .ready .cells-fit) refl
+            (row-to cells (r .few) 0 p (omega arith) (omega arith) (λ y g l. (λ e. omega (arith, pe), λ e. omega (arith, pe))) row-to-none) mid one
 
-        pub pair-wrote-one : c .q ≤ c .p → PortsWrite u sets c bytes firsts ends uses masks cells i d row digits word mid
+        pub pair-wrote-one : q ≤ p → PortsWrite u sets c bytes firsts ends uses masks cells i d row digits word mid
         pair-wrote-one h =
-            row-below mid (row-to-all mid (row-to mid (r .few) (suc (c .p)) u (omega (arith, r .ports .ready .says .order, r .ports .ready .says .below)) (omega arith)
-            (λ y g l. (λ e. omega arith, λ e. omega arith)) first-wrote))
+            row-below mid (row-to-all mid (row-to mid (r .few) (suc p) u (first-low u sets c bytes firsts ends uses masks cells i d row digits word acc r p q pe qe) (omega arith)
+            (λ y g l. (λ e. omega (arith, pe), λ e. omega (arith, qe))) first-wrote))
 
-        pub second-next : c .p < c .q → RowTo (c .q) mid
-        second-next h = row-to mid (r .few) (suc (c .p)) (c .q) (omega arith) (omega (arith, r .ports .ready .says .below)) (λ y g l. (λ e. omega arith, λ e. omega arith)) first-wrote
+        pub second-next : p < q → RowTo q mid
+        second-next h = row-to mid (r .few) (suc p) q (omega arith) (omega (arith, qe, r .ports .ready .says .below)) (λ y g l. (λ e. omega (arith, pe), λ e. omega (arith, qe))) first-wrote
 
-        pub pair-wrote-two : c .p < c .q → (digits″ word″ : ℕ) → digits″ ≡ digits + c .q * 256 ^ d → word″ ≡ portWord c word d (c .q) → CellsFit mid → length mid ≡ length cells
-            → (new : List ℕ) → CellWrites u sets c bytes firsts ends uses masks mid i (d + 1) (row + c .q) digits″ word″ new
+        pub pair-wrote-two : p < q → (digits″ word″ : ℕ) → digits″ ≡ digits + q * 256 ^ d → word″ ≡ portWord c word d q → CellsFit mid → length mid ≡ length cells
+            → (new : List ℕ) → CellWrites u sets c bytes firsts ends uses masks mid i (d + 1) (row + q) digits″ word″ new
             → PortsWrite u sets c bytes firsts ends uses masks cells i d row digits word new
         pair-wrote-two h digits″ word″ dg″ wd″ fit long new two =
-            row-below new (row-to-all new (row-to new (r .few) (suc (c .q)) u (r .ports .ready .says .below) (omega arith) (λ y g l. (λ e. omega arith, λ e. omega arith))
-            (row-to-next (c .q) digits″ word″ (r .ports .ready .says .below) dg″ wd″ mid fit long (second-next h) new two)))
+            let high = second-low u sets c bytes firsts ends uses masks cells i d row digits word acc r p q pe qe in
+            row-below new (row-to-all new (row-to new (r .few) (suc q) u high (omega arith) (λ y g l. (λ e. omega (arith, pe), λ e. omega (arith, qe)))
+            (row-to-next q digits″ word″ high dg″ wd″ mid fit long (second-next h) new two)))
 
       -- The invariant of the loop, beside what the reading walk has passed.
       pub record RowCarried (every : Bool) (x : ℕ) (mid : List ℕ) : Type 0 where

@@ -1,12 +1,18 @@
 // The steps of a change's walk over the cells: a node's entries in the index, the tuple's ports, literals afresh, the ports to
 // visit. Paper 01, section One move.
+use cells_row::cells_from;
+use cells_row::gather_row;
 use cells_rule::literal_penalty;
 use cells_size::mask_at;
 use cells_size::set_size;
 use cells_sum::After;
 use cells_sum::Sum;
+use cells_sum::adds_of;
+use cells_sum::begin;
 use cells_sum::outcome;
-use cells_touch::Changed;
+use cells_touch::change_in;
+use cells_touch::meet;
+use cells_touch::rest_word;
 use logic::has_port;
 use logic::wide;
 use table_format::a_of;
@@ -18,9 +24,12 @@ ghost use mathlib.Core.Path.{_≡_};
 ghost use mathlib.Core.Bool.{cond, not, _&&_, _||_};
 ghost use Prim.Native.Nat.{_+_, _*_, _/_, _%_, _^_, _≤_, _<_};
 ghost use lib.Dec.{eqb, leb, ltb};
-ghost use lib.ListN.{length, getD};
+ghost use lib.ListN.{length, getD, drop};
 ghost use Rattle.logic.specs.Configuration.{indicator};
 ghost use Rattle.table_format.specs.Bytes.{recordLength, kindField, recordsOf, recordAt};
+ghost use Rattle.cells_touch.specs.inner.Hits.{meets, restWord, changeIn};
+ghost use Rattle.cells_sum.specs.inner.Walk.{begun};
+ghost use Rattle.cells_row.specs.inner.Row.{rowGathered};
 ghost use Rattle.cells_walk.specs.inner.Visit.{LiteralReady, Afresh, RecordReady, RecordAfresh};
 
 // The place of a node's cell in the cell table.
@@ -38,6 +47,14 @@ pub fn cell_at(firsts: &[u32; 512], i: usize, place: usize, cells: &[u32]) -> u3
 {
     let at = wide(firsts[i]) + place;
     cells[at]
+}
+
+// A node's row of cells, with all that stand behind it.
+pub fn row_at<'a>(firsts: &[u32; 512], i: usize, row: usize, cells: &'a [u32]) -> &'a [u32]
+    requires { ⌜ (i < 512) × (row ≤ 16777216) × (getD (now firsts) i 0 + row ≤ length (now cells)) ⌝ }
+    ensures { λ r. ⌜ now r ≡ drop (getD (now (firsts .entry)) i 0 + row) (now (cells .entry)) ⌝ }
+{
+    cells_from(cells, place_at(firsts, i, row))
 }
 
 // A cell that is not touched keeps its number, and so do all below it.
@@ -76,12 +93,36 @@ pub fn uses_at(uses: &[u64; 512], i: usize) -> u64
     uses[i]
 }
 
+// Whether node i is touched at a tuple of this word.
+pub fn touched_at(uses: &[u64; 512], i: usize, word: u64) -> bool
+    requires { ⌜ i < 512 ⌝ }
+    ensures { λ r. ⌜ r ≡ meets (getD (now (uses .entry)) i 0) word ⌝ }
+{
+    meet(uses_at(uses, i), word)
+}
+
+// Whether it is touched at every port, below a quantifier at this depth.
+pub fn every_at(uses: &[u64; 512], i: usize, word: u64, depth: usize) -> bool
+    requires { ⌜ i < 512 ⌝ }
+    ensures { λ r. ⌜ r ≡ meets (getD (now (uses .entry)) i 0) (restWord word depth) ⌝ }
+{
+    meet(uses_at(uses, i), rest_word(word, depth))
+}
+
 // A node's kind.
 pub fn kind_at(table: &[u8], i: usize) -> u8
     requires { ⌜ recordLength * i + recordLength ≤ length (recordsOf (now table)) ⌝ }
     ensures { λ r. ⌜ r ≡ kindField (recordAt (now (table .entry)) i) ⌝ }
 {
     kind_of(record_at(table, i))
+}
+
+// Whether a node adds.
+pub fn adds_at(table: &[u8], i: usize) -> bool
+    requires { ⌜ recordLength * i + recordLength ≤ length (recordsOf (now table)) ⌝ }
+    ensures { λ r. ⌜ r ≡ eqb (kindField (recordAt (now (table .entry)) i) % 2) 1 ⌝ }
+{
+    adds_of(kind_at(table, i))
 }
 
 // The port of a variable: eight bits each, the outermost variable lowest.
@@ -183,6 +224,28 @@ pub fn literal_outcome(
     )
 }
 
+// A touched quantifier's cell, from its old number and the row of its child: `changed` cells of the row and below it differ.
+pub fn row_outcome(
+    add: bool,
+    old: u32,
+    changed: u32,
+    new: &[u32],
+    before: &[u32],
+    ports: usize,
+) -> After
+    requires { ⌜ (ports ≤ length (now new)) × (ports ≤ length (now before)) ⌝ }
+    ensures { λ r. ⌜ (r .old ≡ old) × (r .value ≡ rowGathered add (begun add old) (now (new .entry)) (now (before .entry)) ports) × (r .changed ≡ (indicator (not (eqb (r .value) old)) + changed) % 4294967296) ⌝ }
+{
+    let value = gather_row(add, begin(add, old).value, new, before, ports);
+    outcome(
+        old,
+        Sum {
+            value: value,
+            changed: changed,
+        },
+    )
+}
+
 // Whether a node of a kind binds a variable.
 pub fn is_quantifier(kind: u8) -> bool
     ensures { λ r. ⌜ r ≡ (leb 1 kind && leb kind 2) ⌝ }
@@ -204,26 +267,40 @@ pub fn by_cells(every: bool, kind: u8) -> bool
     true
 }
 
+// The lower port of a change, and the higher.
+pub fn lower_port(c: &[u64; 5]) -> usize
+    ensures { λ r. ⌜ r ≡ changeIn (now (c .entry)) .p ⌝ }
+{
+    change_in(c).p
+}
+
+pub fn higher_port(c: &[u64; 5]) -> usize
+    ensures { λ r. ⌜ r ≡ changeIn (now (c .entry)) .q ⌝ }
+{
+    change_in(c).q
+}
+
 // The first port to visit, and the next.
-pub fn first_port(all: bool, c: Changed) -> usize
-    ensures { λ r. ⌜ r ≡ cond all 0 (c .p) ⌝ }
+pub fn first_port(all: bool, c: &[u64; 5]) -> usize
+    ensures { λ r. ⌜ r ≡ cond all 0 (changeIn (now (c .entry)) .p) ⌝ }
 {
     if all {
         return 0;
     }
-    c.p
+    lower_port(c)
 }
 
 // After the last of them it is the number of ports.
-pub fn next_port(all: bool, c: Changed, x: usize, ports: usize) -> usize
+pub fn next_port(all: bool, c: &[u64; 5], x: usize, ports: usize) -> usize
     requires { ⌜ x < ports ⌝ }
-    ensures { λ r. ⌜ r ≡ cond all (x + 1) (cond (ltb x (c .q)) (c .q) ports) ⌝ }
+    ensures { λ r. ⌜ r ≡ cond all (x + 1) (cond (ltb x (changeIn (now (c .entry)) .q)) (changeIn (now (c .entry)) .q) ports) ⌝ }
 {
     if all {
         return x + 1;
     }
-    if x < c.q {
-        return c.q;
+    let q = higher_port(c);
+    if x < q {
+        return q;
     }
     ports
 }

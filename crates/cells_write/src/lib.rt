@@ -1,10 +1,8 @@
 // The walk that writes the touched cells in place. Paper 01, section One move.
 use cells_row::begin_row;
-use cells_row::cells_from;
 use cells_row::copy_row;
 use cells_row::count_row;
 use cells_row::fill_row;
-use cells_row::gather_row;
 use cells_row::join_row;
 use cells_row::keep_row;
 use cells_row::put_port;
@@ -17,27 +15,33 @@ use cells_sum::join;
 use cells_sum::outcome;
 use cells_touch::Changed;
 use cells_touch::first_word;
-use cells_touch::meet;
+use cells_touch::numbers_of;
 use cells_touch::port_word;
-use cells_touch::rest_word;
+use cells_walk::adds_at;
 use cells_walk::by_cells;
 use cells_walk::cell_at;
 use cells_walk::end_at;
+use cells_walk::every_at;
 use cells_walk::first_port;
+use cells_walk::higher_port;
 use cells_walk::is_quantifier;
 use cells_walk::kept;
 use cells_walk::kind_at;
 use cells_walk::literal_at;
 use cells_walk::literal_outcome;
+use cells_walk::lower_port;
 use cells_walk::next_port;
 use cells_walk::place_at;
-use cells_walk::uses_at;
+use cells_walk::row_at;
+use cells_walk::row_outcome;
+use cells_walk::touched_at;
 use cells_walk::with_port;
 use std::num::wrapping_add_u32;
 ghost use mathlib.Core.Path.{_≡_};
 ghost use mathlib.Core.Bool.{true};
 ghost use Prim.Native.Nat.{_+_, _<_};
 ghost use lib.ListN.{length, getD, set};
+ghost use Rattle.cells_touch.specs.inner.Hits.{changeIn};
 ghost use Rattle.cells_walk.specs.inner.Root.{RootReady, RootGives, RootWrites};
 ghost use Rattle.cells_visit.specs.inner.Walking.{CellReady, CellTouched, QuantifierReady, CellGives, TreesReady, TreesGive, PairReady, PortsSo, RowGives, RowCellsReady, RowJoinReady, RowJoins, RowTreesReady, RowTreesGive};
 ghost use Rattle.cells_visit.specs.inner.Writing.{CellWrites, TreesWrite, PortsWrite, RowWriteReady, RowWrites, RowTreesWrite};
@@ -61,19 +65,18 @@ fn cell_written(
     cells: &mut [u32],
     ports: usize,
     sets: usize,
-    c: Changed,
+    c: &[u64; 5],
     i: usize,
     depth: usize,
     place: usize,
     digits: u32,
     word: u64,
 ) -> After
-    requires { ⌜ CellReady ports sets c (now table) (now firsts) (now ends) (now uses) (now masks) (now cells) i depth place digits word ⌝ }
-    ensures { λ r. ⌜ CellGives ports sets c (now (table .entry)) (now (firsts .entry)) (now (ends .entry)) (now (uses .entry)) (now (masks .entry)) (now (cells .entry)) i depth place digits word r × CellWrites ports sets c (now (table .entry)) (now (firsts .entry)) (now (ends .entry)) (now (uses .entry)) (now (masks .entry)) (now (cells .entry)) i depth place digits word (now (cells .exit)) ⌝ }
+    requires { ⌜ CellReady ports sets (changeIn (now c)) (now table) (now firsts) (now ends) (now uses) (now masks) (now cells) i depth place digits word ⌝ }
+    ensures { λ r. ⌜ CellGives ports sets (changeIn (now (c .entry))) (now (table .entry)) (now (firsts .entry)) (now (ends .entry)) (now (uses .entry)) (now (masks .entry)) (now (cells .entry)) i depth place digits word r × CellWrites ports sets (changeIn (now (c .entry))) (now (table .entry)) (now (firsts .entry)) (now (ends .entry)) (now (uses .entry)) (now (masks .entry)) (now (cells .entry)) i depth place digits word (now (cells .exit)) ⌝ }
 {
     let old = cell_at(firsts, i, place, &cells[..]);
-    let used = uses_at(uses, i);
-    if !meet(used, word) {
+    if !touched_at(uses, i, word) {
         return kept(firsts, i, place, &cells[..]);
     }
     let kind = kind_at(table, i);
@@ -134,15 +137,15 @@ fn tree_written(
     cells: &mut [u32],
     ports: usize,
     sets: usize,
-    c: Changed,
+    c: &[u64; 5],
     i: usize,
     depth: usize,
     place: usize,
     digits: u32,
     word: u64,
 ) -> After
-    requires { ⌜ CellTouched ports sets c (now table) (now firsts) (now ends) (now uses) (now masks) (now cells) i depth place digits word ⌝ }
-    ensures { λ r. ⌜ CellGives ports sets c (now (table .entry)) (now (firsts .entry)) (now (ends .entry)) (now (uses .entry)) (now (masks .entry)) (now (cells .entry)) i depth place digits word r × CellWrites ports sets c (now (table .entry)) (now (firsts .entry)) (now (ends .entry)) (now (uses .entry)) (now (masks .entry)) (now (cells .entry)) i depth place digits word (now (cells .exit)) ⌝ }
+    requires { ⌜ CellTouched ports sets (changeIn (now c)) (now table) (now firsts) (now ends) (now uses) (now masks) (now cells) i depth place digits word ⌝ }
+    ensures { λ r. ⌜ CellGives ports sets (changeIn (now (c .entry))) (now (table .entry)) (now (firsts .entry)) (now (ends .entry)) (now (uses .entry)) (now (masks .entry)) (now (cells .entry)) i depth place digits word r × CellWrites ports sets (changeIn (now (c .entry))) (now (table .entry)) (now (firsts .entry)) (now (ends .entry)) (now (uses .entry)) (now (masks .entry)) (now (cells .entry)) i depth place digits word (now (cells .exit)) ⌝ }
 {
     if 5 <= kind_at(table, i) {
         let old = cell_at(firsts, i, place, &cells[..]);
@@ -178,7 +181,7 @@ fn trees_written(
     cells: &mut [u32],
     ports: usize,
     sets: usize,
-    c: Changed,
+    c: &[u64; 5],
     i: usize,
     until: usize,
     depth: usize,
@@ -188,13 +191,13 @@ fn trees_written(
     add: bool,
     acc: Sum,
 ) -> Sum
-    requires { ⌜ TreesReady ports sets c (now table) (now firsts) (now ends) (now uses) (now masks) (now cells) i until depth place digits word acc ⌝ }
-    ensures { λ r. ⌜ TreesGive ports sets c (now (table .entry)) (now (firsts .entry)) (now (ends .entry)) (now (uses .entry)) (now (masks .entry)) (now (cells .entry)) i until depth place digits word add acc r × TreesWrite ports sets c (now (table .entry)) (now (firsts .entry)) (now (ends .entry)) (now (uses .entry)) (now (masks .entry)) (now (cells .entry)) i until depth place digits word (now (cells .exit)) ⌝ }
+    requires { ⌜ TreesReady ports sets (changeIn (now c)) (now table) (now firsts) (now ends) (now uses) (now masks) (now cells) i until depth place digits word acc ⌝ }
+    ensures { λ r. ⌜ TreesGive ports sets (changeIn (now (c .entry))) (now (table .entry)) (now (firsts .entry)) (now (ends .entry)) (now (uses .entry)) (now (masks .entry)) (now (cells .entry)) i until depth place digits word add acc r × TreesWrite ports sets (changeIn (now (c .entry))) (now (table .entry)) (now (firsts .entry)) (now (ends .entry)) (now (uses .entry)) (now (masks .entry)) (now (cells .entry)) i until depth place digits word (now (cells .exit)) ⌝ }
 {
     let mut sum = acc;
     let mut j = i;
     while j < until {
-        if meet(uses_at(uses, j), word) {
+        if touched_at(uses, j, word) {
             let r = tree_written(
                 table,
                 firsts,
@@ -231,17 +234,17 @@ fn ports_written(
     cells: &mut [u32],
     ports: usize,
     sets: usize,
-    c: Changed,
+    c: &[u64; 5],
     i: usize,
     depth: usize,
     place: usize,
     digits: u32,
     word: u64,
 ) -> After
-    requires { ⌜ QuantifierReady ports sets c (now table) (now firsts) (now ends) (now uses) (now masks) (now cells) i depth place digits word ⌝ }
-    ensures { λ r. ⌜ CellGives ports sets c (now (table .entry)) (now (firsts .entry)) (now (ends .entry)) (now (uses .entry)) (now (masks .entry)) (now (cells .entry)) i depth place digits word r × CellWrites ports sets c (now (table .entry)) (now (firsts .entry)) (now (ends .entry)) (now (uses .entry)) (now (masks .entry)) (now (cells .entry)) i depth place digits word (now (cells .exit)) ⌝ }
+    requires { ⌜ QuantifierReady ports sets (changeIn (now c)) (now table) (now firsts) (now ends) (now uses) (now masks) (now cells) i depth place digits word ⌝ }
+    ensures { λ r. ⌜ CellGives ports sets (changeIn (now (c .entry))) (now (table .entry)) (now (firsts .entry)) (now (ends .entry)) (now (uses .entry)) (now (masks .entry)) (now (cells .entry)) i depth place digits word r × CellWrites ports sets (changeIn (now (c .entry))) (now (table .entry)) (now (firsts .entry)) (now (ends .entry)) (now (uses .entry)) (now (masks .entry)) (now (cells .entry)) i depth place digits word (now (cells .exit)) ⌝ }
 {
-    if !adds_of(kind_at(table, i)) {
+    if !adds_at(table, i) {
         return all_ports_written(
             table,
             firsts,
@@ -259,7 +262,7 @@ fn ports_written(
             word,
         );
     }
-    if meet(uses_at(uses, i + 1), rest_word(word, depth)) {
+    if every_at(uses, i + 1, word, depth) {
         return all_ports_written(
             table,
             firsts,
@@ -310,26 +313,21 @@ fn all_ports_written(
     cells: &mut [u32],
     ports: usize,
     sets: usize,
-    c: Changed,
+    c: &[u64; 5],
     i: usize,
     depth: usize,
     place: usize,
     digits: u32,
     word: u64,
 ) -> After
-    requires { ⌜ QuantifierReady ports sets c (now table) (now firsts) (now ends) (now uses) (now masks) (now cells) i depth place digits word ⌝ }
-    ensures { λ r. ⌜ CellGives ports sets c (now (table .entry)) (now (firsts .entry)) (now (ends .entry)) (now (uses .entry)) (now (masks .entry)) (now (cells .entry)) i depth place digits word r × CellWrites ports sets c (now (table .entry)) (now (firsts .entry)) (now (ends .entry)) (now (uses .entry)) (now (masks .entry)) (now (cells .entry)) i depth place digits word (now (cells .exit)) ⌝ }
+    requires { ⌜ QuantifierReady ports sets (changeIn (now c)) (now table) (now firsts) (now ends) (now uses) (now masks) (now cells) i depth place digits word ⌝ }
+    ensures { λ r. ⌜ CellGives ports sets (changeIn (now (c .entry))) (now (table .entry)) (now (firsts .entry)) (now (ends .entry)) (now (uses .entry)) (now (masks .entry)) (now (cells .entry)) i depth place digits word r × CellWrites ports sets (changeIn (now (c .entry))) (now (table .entry)) (now (firsts .entry)) (now (ends .entry)) (now (uses .entry)) (now (masks .entry)) (now (cells .entry)) i depth place digits word (now (cells .exit)) ⌝ }
 {
     let old = cell_at(firsts, i, place, &cells[..]);
-    let add = adds_of(kind_at(table, i));
-    let begun = begin(add, old);
+    let add = adds_at(table, i);
     let row = place * ports;
     let mut before = [0u32; 64];
-    copy_row(
-        cells_from(&cells[..], place_at(firsts, i + 1, row)),
-        ports,
-        &mut before,
-    );
+    copy_row(row_at(firsts, i + 1, row, &cells[..]), ports, &mut before);
     let mut new = [0u32; 64];
     let changed = row_written(
         table,
@@ -349,12 +347,9 @@ fn all_ports_written(
         &before,
         &mut new,
     );
-    let sum = Sum {
-        value: gather_row(add, begun.value, &new, &before, ports),
-        changed: wrapping_add_u32(begun.changed, changed),
-    };
-    put_cell(firsts, i, place, sum.value, cells);
-    outcome(old, sum)
+    let r = row_outcome(add, old, changed, &new, &before, ports);
+    put_cell(firsts, i, place, r.value, cells);
+    r
 }
 
 // A sum with the child's cells at the ports of the change, written.
@@ -367,7 +362,7 @@ fn pair_written(
     cells: &mut [u32],
     ports: usize,
     sets: usize,
-    c: Changed,
+    c: &[u64; 5],
     i: usize,
     depth: usize,
     row: usize,
@@ -375,9 +370,11 @@ fn pair_written(
     word: u64,
     acc: Sum,
 ) -> Sum
-    requires { ⌜ PairReady ports sets c (now table) (now firsts) (now ends) (now uses) (now masks) (now cells) i depth row digits word acc ⌝ }
-    ensures { λ r. ⌜ PortsSo ports sets c (now (table .entry)) (now (firsts .entry)) (now (ends .entry)) (now (uses .entry)) (now (masks .entry)) (now (cells .entry)) i depth row digits word true ports acc r × PortsWrite ports sets c (now (table .entry)) (now (firsts .entry)) (now (ends .entry)) (now (uses .entry)) (now (masks .entry)) (now (cells .entry)) i depth row digits word (now (cells .exit)) ⌝ }
+    requires { ⌜ PairReady ports sets (changeIn (now c)) (now table) (now firsts) (now ends) (now uses) (now masks) (now cells) i depth row digits word acc ⌝ }
+    ensures { λ r. ⌜ PortsSo ports sets (changeIn (now (c .entry))) (now (table .entry)) (now (firsts .entry)) (now (ends .entry)) (now (uses .entry)) (now (masks .entry)) (now (cells .entry)) i depth row digits word true ports acc r × PortsWrite ports sets (changeIn (now (c .entry))) (now (table .entry)) (now (firsts .entry)) (now (ends .entry)) (now (uses .entry)) (now (masks .entry)) (now (cells .entry)) i depth row digits word (now (cells .exit)) ⌝ }
 {
+    let p = lower_port(c);
+    let q = higher_port(c);
     let first = cell_written(
         table,
         firsts,
@@ -390,12 +387,12 @@ fn pair_written(
         c,
         i,
         depth + 1,
-        row + c.p,
-        with_port(digits, depth, c.p),
-        port_word(c, word, depth, c.p),
+        row + p,
+        with_port(digits, depth, p),
+        port_word(c, word, depth, p),
     );
     let sum = join(true, acc, first);
-    if c.q <= c.p {
+    if q <= p {
         return sum;
     }
     let second = cell_written(
@@ -410,9 +407,9 @@ fn pair_written(
         c,
         i,
         depth + 1,
-        row + c.q,
-        with_port(digits, depth, c.q),
-        port_word(c, word, depth, c.q),
+        row + q,
+        with_port(digits, depth, q),
+        port_word(c, word, depth, q),
     );
     join(true, sum, second)
 }
@@ -428,7 +425,7 @@ fn row_written(
     cells: &mut [u32],
     ports: usize,
     sets: usize,
-    c: Changed,
+    c: &[u64; 5],
     i: usize,
     depth: usize,
     row: usize,
@@ -437,11 +434,11 @@ fn row_written(
     old: &[u32],
     out: &mut [u32],
 ) -> u32
-    requires { ⌜ RowWriteReady ports sets c (now table) (now firsts) (now ends) (now uses) (now masks) (now cells) i depth row digits word (now old) (now out) ⌝ }
-    ensures { λ r. ⌜ RowGives ports sets c (now (table .entry)) (now (firsts .entry)) (now (ends .entry)) (now (uses .entry)) (now (masks .entry)) (now (cells .entry)) i depth row digits word (now (out .exit)) r × RowWrites ports sets c (now (table .entry)) (now (firsts .entry)) (now (ends .entry)) (now (uses .entry)) (now (masks .entry)) (now (cells .entry)) i depth row digits word (now (cells .exit)) ⌝ }
+    requires { ⌜ RowWriteReady ports sets (changeIn (now c)) (now table) (now firsts) (now ends) (now uses) (now masks) (now cells) i depth row digits word (now old) (now out) ⌝ }
+    ensures { λ r. ⌜ RowGives ports sets (changeIn (now (c .entry))) (now (table .entry)) (now (firsts .entry)) (now (ends .entry)) (now (uses .entry)) (now (masks .entry)) (now (cells .entry)) i depth row digits word (now (out .exit)) r × RowWrites ports sets (changeIn (now (c .entry))) (now (table .entry)) (now (firsts .entry)) (now (ends .entry)) (now (uses .entry)) (now (masks .entry)) (now (cells .entry)) i depth row digits word (now (cells .exit)) ⌝ }
 {
     let kind = kind_at(table, i);
-    let every = meet(uses_at(uses, i), rest_word(word, depth));
+    let every = every_at(uses, i, word, depth);
     if by_cells(every, kind) {
         copy_row(old, ports, out);
         return row_cells_written(
@@ -504,7 +501,7 @@ fn row_cells_written(
     cells: &mut [u32],
     ports: usize,
     sets: usize,
-    c: Changed,
+    c: &[u64; 5],
     i: usize,
     depth: usize,
     row: usize,
@@ -513,8 +510,8 @@ fn row_cells_written(
     every: bool,
     out: &mut [u32],
 ) -> u32
-    requires { ⌜ RowCellsReady ports sets c (now table) (now firsts) (now ends) (now uses) (now masks) (now cells) i depth row digits word every (now out) ⌝ }
-    ensures { λ r. ⌜ RowGives ports sets c (now (table .entry)) (now (firsts .entry)) (now (ends .entry)) (now (uses .entry)) (now (masks .entry)) (now (cells .entry)) i depth row digits word (now (out .exit)) r × RowWrites ports sets c (now (table .entry)) (now (firsts .entry)) (now (ends .entry)) (now (uses .entry)) (now (masks .entry)) (now (cells .entry)) i depth row digits word (now (cells .exit)) ⌝ }
+    requires { ⌜ RowCellsReady ports sets (changeIn (now c)) (now table) (now firsts) (now ends) (now uses) (now masks) (now cells) i depth row digits word every (now out) ⌝ }
+    ensures { λ r. ⌜ RowGives ports sets (changeIn (now (c .entry))) (now (table .entry)) (now (firsts .entry)) (now (ends .entry)) (now (uses .entry)) (now (masks .entry)) (now (cells .entry)) i depth row digits word (now (out .exit)) r × RowWrites ports sets (changeIn (now (c .entry))) (now (table .entry)) (now (firsts .entry)) (now (ends .entry)) (now (uses .entry)) (now (masks .entry)) (now (cells .entry)) i depth row digits word (now (cells .exit)) ⌝ }
 {
     let mut changed = 0;
     let mut x = first_port(every, c);
@@ -552,7 +549,7 @@ fn row_trees_written(
     cells: &mut [u32],
     ports: usize,
     sets: usize,
-    c: Changed,
+    c: &[u64; 5],
     i: usize,
     until: usize,
     depth: usize,
@@ -562,8 +559,8 @@ fn row_trees_written(
     add: bool,
     out: &mut [u32],
 ) -> u32
-    requires { ⌜ RowTreesReady ports sets c (now table) (now firsts) (now ends) (now uses) (now masks) (now cells) i until depth row digits word (now out) 0 ⌝ }
-    ensures { λ r. ⌜ RowTreesGive ports sets c (now (table .entry)) (now (firsts .entry)) (now (ends .entry)) (now (uses .entry)) (now (masks .entry)) (now (cells .entry)) i until depth row digits word add (now (out .entry)) 0 (now (out .exit)) r × RowTreesWrite ports sets c (now (table .entry)) (now (firsts .entry)) (now (ends .entry)) (now (uses .entry)) (now (masks .entry)) (now (cells .entry)) i until depth row digits word (now (cells .exit)) ⌝ }
+    requires { ⌜ RowTreesReady ports sets (changeIn (now c)) (now table) (now firsts) (now ends) (now uses) (now masks) (now cells) i until depth row digits word (now out) 0 ⌝ }
+    ensures { λ r. ⌜ RowTreesGive ports sets (changeIn (now (c .entry))) (now (table .entry)) (now (firsts .entry)) (now (ends .entry)) (now (uses .entry)) (now (masks .entry)) (now (cells .entry)) i until depth row digits word add (now (out .entry)) 0 (now (out .exit)) r × RowTreesWrite ports sets (changeIn (now (c .entry))) (now (table .entry)) (now (firsts .entry)) (now (ends .entry)) (now (uses .entry)) (now (masks .entry)) (now (cells .entry)) i until depth row digits word (now (cells .exit)) ⌝ }
 {
     let mut changed = 0;
     let mut j = i;
@@ -602,7 +599,7 @@ fn row_tree_written(
     cells: &mut [u32],
     ports: usize,
     sets: usize,
-    c: Changed,
+    c: &[u64; 5],
     i: usize,
     depth: usize,
     row: usize,
@@ -611,16 +608,15 @@ fn row_tree_written(
     add: bool,
     out: &mut [u32],
 ) -> u32
-    requires { ⌜ RowJoinReady ports sets c (now table) (now firsts) (now ends) (now uses) (now masks) (now cells) i depth row digits word (now out) ⌝ }
-    ensures { λ r. ⌜ RowJoins ports sets c (now (table .entry)) (now (firsts .entry)) (now (ends .entry)) (now (uses .entry)) (now (masks .entry)) (now (cells .entry)) i depth row digits word add (now (out .entry)) (now (out .exit)) r × RowWrites ports sets c (now (table .entry)) (now (firsts .entry)) (now (ends .entry)) (now (uses .entry)) (now (masks .entry)) (now (cells .entry)) i depth row digits word (now (cells .exit)) ⌝ }
+    requires { ⌜ RowJoinReady ports sets (changeIn (now c)) (now table) (now firsts) (now ends) (now uses) (now masks) (now cells) i depth row digits word (now out) ⌝ }
+    ensures { λ r. ⌜ RowJoins ports sets (changeIn (now (c .entry))) (now (table .entry)) (now (firsts .entry)) (now (ends .entry)) (now (uses .entry)) (now (masks .entry)) (now (cells .entry)) i depth row digits word add (now (out .entry)) (now (out .exit)) r × RowWrites ports sets (changeIn (now (c .entry))) (now (table .entry)) (now (firsts .entry)) (now (ends .entry)) (now (uses .entry)) (now (masks .entry)) (now (cells .entry)) i depth row digits word (now (cells .exit)) ⌝ }
 {
-    let at = place_at(firsts, i, row);
-    if !meet(uses_at(uses, i), word) {
-        keep_row(add, cells_from(&cells[..], at), ports, out);
+    if !touched_at(uses, i, word) {
+        keep_row(add, row_at(firsts, i, row, &cells[..]), ports, out);
         return 0;
     }
     let mut old = [0u32; 64];
-    copy_row(cells_from(&cells[..], at), ports, &mut old);
+    copy_row(row_at(firsts, i, row, &cells[..]), ports, &mut old);
     let mut new = [0u32; 64];
     let changed = row_written(
         table,
@@ -659,6 +655,7 @@ pub fn root_written(
     requires { ⌜ RootReady ports sets c (now table) (now firsts) (now ends) (now uses) (now masks) (now cells) ⌝ }
     ensures { λ r. ⌜ RootGives ports c (now (table .entry)) (now (masks .entry)) (now (cells .entry)) r × RootWrites ports c (now (table .entry)) (now (masks .entry)) (now (cells .entry)) (now (cells .exit)) ⌝ }
 {
+    let numbers = numbers_of(c);
     cell_written(
         table,
         firsts,
@@ -668,7 +665,7 @@ pub fn root_written(
         cells,
         ports,
         sets,
-        c,
+        &numbers,
         0,
         0,
         0,

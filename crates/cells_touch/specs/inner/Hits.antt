@@ -3,9 +3,11 @@
 use mathlib.Core.Path.{_≡_}
 use mathlib.Core.Logic.{_≢_}
 use mathlib.Core.Bool.{Bool, true, false, cond, not}
+use mathlib.Core.List.{List}
 use Prim.Native.Nat.{ℕ, _+_, _-_, _*_, _^_, _%_, _≤_, _<_, min, max}
 use lib.Bits.{bitAnd, bitOr}
 use lib.Dec.{eqb}
+use lib.ListN.{getD}
 use Rattle.logic.specs.declared.Move.{Move}
 use Rattle.logic.specs.Formula.{Test, isin, notin, port, size, Plan}
 use Rattle.logic.specs.Configuration.{Sets, inMask}
@@ -43,6 +45,10 @@ pub record Describes (u : ℕ) (ch : Change) (c : Changed) : Type 0 where
   pub p-high : (S : ℕ) → S < 16 → inMask (c .psets) (4 * S + 3) ≡ false
   pub q-high : (S : ℕ) → S < 16 → inMask (c .qsets) (4 * S + 3) ≡ false
   pub resized-low : (S v : ℕ) → S < 16 → v < 3 → inMask (c .resized) (4 * S + v) ≡ false
+
+-- The change that five numbers say.
+unfoldable pub changeIn : List ℕ → Changed
+changeIn xs = record { p = getD xs 0 0; q = getD xs 1 0; psets = getD xs 2 0; qsets = getD xs 3 0; resized = getD xs 4 0 }
 
 -- The bit of variable d in every set, of its four, and all the other bits.
 unfoldable pub level : ℕ → ℕ

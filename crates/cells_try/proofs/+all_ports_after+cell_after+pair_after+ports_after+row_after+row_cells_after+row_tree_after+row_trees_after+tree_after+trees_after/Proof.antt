@@ -5,10 +5,10 @@ use native.Mathlib.Omega.{arith}
 use borrow.Author.Needs.{needs}
 use borrow.Author.Tests.{not-true, not-false}
 use Rattle.cells_visit.proofs.Walking.{node-low, cell-room, record-room, place-low, times-fits, literal-ready, touched-ready, quantifier-ready, child-low, ports-ready, trees-ready, gives-untouched, gives-literal, quantifier-gives, gives-trees, some-left, Onward, onward-first, onward-next, onward-last}
-use Rattle.cells_visit.proofs.Rowing.{port-ready, first-ready, row-low, row-fits-64, digits-ready, row-within, part-room, part-old, port-gives, gives-literal-row, gives-joint-row, row-trees-ready, row-cells-ready, RowPassed, row-start, row-step, row-finished, joins-kept, joins-row, ports-row, any-row, pair-of, ports-by-row, pair-first, pair-next, pair-only, pair-second, pair-last, row-left, again, by-rows, RowsOnward, rows-onward-first, rows-onward-next, rows-onward-last}
+use Rattle.cells_visit.proofs.Rowing.{port-ready, first-ready, row-low, row-fits-64, digits-ready, row-within, part-room, part-old, copy-old, port-gives, gives-literal-row, gives-joint-row, row-trees-ready, row-cells-ready, RowPassed, row-start, row-step, row-finished, joins-kept, joins-row, any-row, pair-of, first-low, second-low, child-row, some-child-row, row-quantifier-gives, pair-first, pair-next, pair-only, pair-second, pair-last, row-left, again, by-rows, RowsOnward, rows-onward-first, rows-onward-next, rows-onward-last}
 use Rattle.cells_sum.specs.declared.Sum.{Sum}
 use Rattle.cells_sum.specs.inner.Walk.{Joined}
-use Prim.Native.Nat.{ℕ, _<_}
+use Rattle.cells_touch.specs.inner.Hits.{changeIn}
 use borrow.Fn.Kinds.{In}
 use borrow.Fn.PlainCycle.{Measures, is, falls, and}
 use Rattle.cells_try.proofs.all_ports_after.Reads as all-ports-after
@@ -42,11 +42,9 @@ use Rattle.cells_try.proofs.trees_after.Reads as trees-after
 use Rattle.cells_try.proofs.trees_after.Kinds as trees-after-kinds
 use Rattle.cells_try.proofs.+all_ports_after+cell_after+pair_after+ports_after+row_after+row_cells_after+row_tree_after+row_trees_after+tree_after+trees_after.Lts-trees_after as trees-after-lts
 use Rattle.cells_row.proofs.begin_row.Reads as begin-row-reads
-use Rattle.cells_row.proofs.cells_from.Reads as cells-from-reads
 use Rattle.cells_row.proofs.copy_row.Reads as copy-row-reads
 use Rattle.cells_row.proofs.count_row.Reads as count-row-reads
 use Rattle.cells_row.proofs.fill_row.Reads as fill-row-reads
-use Rattle.cells_row.proofs.gather_row.Reads as gather-row-reads
 use Rattle.cells_row.proofs.join_row.Reads as join-row-reads
 use Rattle.cells_row.proofs.keep_row.Reads as keep-row-reads
 use Rattle.cells_row.proofs.put_port.Reads as put-port-reads
@@ -54,190 +52,189 @@ use Rattle.cells_sum.proofs.adds_of.Reads as adds-of-reads
 use Rattle.cells_sum.proofs.begin.Reads as begin-reads
 use Rattle.cells_sum.proofs.join.Reads as join-reads
 use Rattle.cells_sum.proofs.outcome.Reads as outcome-reads
-use Rattle.cells_touch.proofs.meet.Reads as meet-reads
 use Rattle.cells_touch.proofs.port_word.Reads as port-word-reads
-use Rattle.cells_touch.proofs.rest_word.Reads as rest-word-reads
+use Rattle.cells_walk.proofs.adds_at.Reads as adds-at-reads
 use Rattle.cells_walk.proofs.by_cells.Reads as by-cells-reads
 use Rattle.cells_walk.proofs.cell_at.Reads as cell-at-reads
 use Rattle.cells_walk.proofs.end_at.Reads as end-at-reads
+use Rattle.cells_walk.proofs.every_at.Reads as every-at-reads
 use Rattle.cells_walk.proofs.first_port.Reads as first-port-reads
+use Rattle.cells_walk.proofs.higher_port.Reads as higher-port-reads
 use Rattle.cells_walk.proofs.is_quantifier.Reads as is-quantifier-reads
 use Rattle.cells_walk.proofs.kept.Reads as kept-reads
 use Rattle.cells_walk.proofs.kind_at.Reads as kind-at-reads
 use Rattle.cells_walk.proofs.literal_at.Reads as literal-at-reads
 use Rattle.cells_walk.proofs.literal_outcome.Reads as literal-outcome-reads
+use Rattle.cells_walk.proofs.lower_port.Reads as lower-port-reads
 use Rattle.cells_walk.proofs.next_port.Reads as next-port-reads
-use Rattle.cells_walk.proofs.place_at.Reads as place-at-reads
-use Rattle.cells_walk.proofs.uses_at.Reads as uses-at-reads
+use Rattle.cells_walk.proofs.row_at.Reads as row-at-reads
+use Rattle.cells_walk.proofs.row_outcome.Reads as row-outcome-reads
+use Rattle.cells_walk.proofs.touched_at.Reads as touched-at-reads
 use Rattle.cells_walk.proofs.with_port.Reads as with-port-reads
 use Rattle.std.proofs.num.wrapping_add_u32.Reads as wrapping-add-u32-reads
-use Rattle.cells_try.proofs.+all_ports_after+cell_after+pair_after+ports_after+row_after+row_cells_after+row_tree_after+row_trees_after+tree_after+trees_after.{
-  statement,
-}
-use Rattle.cells_try.proofs.+all_ports_after+cell_after+pair_after+ports_after+row_after+row_cells_after+row_tree_after+row_trees_after+tree_after+trees_after.Tie.{
-  close,
-}
+use Rattle.cells_try.proofs.+all_ports_after+cell_after+pair_after+ports_after+row_after+row_cells_after+row_tree_after+row_trees_after+tree_after+trees_after.{statement}
+use Rattle.cells_try.proofs.+all_ports_after+cell_after+pair_after+ports_after+row_after+row_cells_after+row_tree_after+row_trees_after+tree_after+trees_after.Tie.{close}
 
-abbrev μ-all-ports-after : Measures 6 all-ports-after-kinds.ps ℕ
+abbrev μ-all-ports-after : Measures 7 all-ports-after-kinds.ps ℕ
 μ-all-ports-after κs a = 8 * (512 - a .1 .1 .1 .1 .1 .1 .1 .1 .1 .0)
 
-abbrev μ-cell-after : Measures 6 cell-after-kinds.ps ℕ
+abbrev μ-cell-after : Measures 7 cell-after-kinds.ps ℕ
 μ-cell-after κs a = 8 * (512 - a .1 .1 .1 .1 .1 .1 .1 .1 .1 .0) + 2
 
-abbrev μ-pair-after : Measures 6 pair-after-kinds.ps ℕ
+abbrev μ-pair-after : Measures 7 pair-after-kinds.ps ℕ
 μ-pair-after κs a = 8 * (512 - a .1 .1 .1 .1 .1 .1 .1 .1 .1 .0) + 3
 
-abbrev μ-ports-after : Measures 6 ports-after-kinds.ps ℕ
+abbrev μ-ports-after : Measures 7 ports-after-kinds.ps ℕ
 μ-ports-after κs a = 8 * (512 - a .1 .1 .1 .1 .1 .1 .1 .1 .1 .0) + 1
 
-abbrev μ-row-after : Measures 7 row-after-kinds.ps ℕ
+abbrev μ-row-after : Measures 8 row-after-kinds.ps ℕ
 μ-row-after κs a = 8 * (512 - a .1 .1 .1 .1 .1 .1 .1 .1 .1 .0) + 4
 
-abbrev μ-row-cells-after : Measures 7 row-cells-after-kinds.ps ℕ
+abbrev μ-row-cells-after : Measures 8 row-cells-after-kinds.ps ℕ
 μ-row-cells-after κs a = 8 * (512 - a .1 .1 .1 .1 .1 .1 .1 .1 .1 .0) + 3
 
-abbrev μ-row-tree-after : Measures 7 row-tree-after-kinds.ps ℕ
+abbrev μ-row-tree-after : Measures 8 row-tree-after-kinds.ps ℕ
 μ-row-tree-after κs a = 8 * (512 - a .1 .1 .1 .1 .1 .1 .1 .1 .1 .0) + 5
 
-abbrev μ-row-trees-after : Measures 7 row-trees-after-kinds.ps ℕ
+abbrev μ-row-trees-after : Measures 8 row-trees-after-kinds.ps ℕ
 μ-row-trees-after κs a = 8 * (512 - a .1 .1 .1 .1 .1 .1 .1 .1 .1 .0) + 6
 
-abbrev μ-tree-after : Measures 6 tree-after-kinds.ps ℕ
+abbrev μ-tree-after : Measures 7 tree-after-kinds.ps ℕ
 μ-tree-after κs a = 8 * (512 - a .1 .1 .1 .1 .1 .1 .1 .1 .1 .0) + 3
 
-abbrev μ-trees-after : Measures 6 trees-after-kinds.ps ℕ
+abbrev μ-trees-after : Measures 7 trees-after-kinds.ps ℕ
 μ-trees-after κs a = 8 * (512 - a .1 .1 .1 .1 .1 .1 .1 .1 .1 .0) + 4
 
-abbrev all-ports-after-at : ℕ → In 6 all-ports-after-kinds.ps
+abbrev all-ports-after-at : ℕ → In 7 all-ports-after-kinds.ps
 all-ports-after-at t =
     and
-    6
+    7
     all-ports-after-kinds.ps
-    (is 6 all-ports-after-kinds.ps μ-all-ports-after t)
+    (is 7 all-ports-after-kinds.ps μ-all-ports-after t)
     all-ports-after.Pre
 
-abbrev all-ports-after-below : ℕ → In 6 all-ports-after-kinds.ps
+abbrev all-ports-after-below : ℕ → In 7 all-ports-after-kinds.ps
 all-ports-after-below t =
     and
-    6
+    7
     all-ports-after-kinds.ps
-    (falls 6 all-ports-after-kinds.ps _<_ μ-all-ports-after t)
+    (falls 7 all-ports-after-kinds.ps _<_ μ-all-ports-after t)
     all-ports-after.Pre
 
-abbrev cell-after-at : ℕ → In 6 cell-after-kinds.ps
+abbrev cell-after-at : ℕ → In 7 cell-after-kinds.ps
 cell-after-at t =
-    and 6 cell-after-kinds.ps (is 6 cell-after-kinds.ps μ-cell-after t) cell-after.Pre
+    and 7 cell-after-kinds.ps (is 7 cell-after-kinds.ps μ-cell-after t) cell-after.Pre
 
-abbrev cell-after-below : ℕ → In 6 cell-after-kinds.ps
+abbrev cell-after-below : ℕ → In 7 cell-after-kinds.ps
 cell-after-below t =
-    and 6 cell-after-kinds.ps (falls 6 cell-after-kinds.ps _<_ μ-cell-after t) cell-after.Pre
+    and 7 cell-after-kinds.ps (falls 7 cell-after-kinds.ps _<_ μ-cell-after t) cell-after.Pre
 
-abbrev pair-after-at : ℕ → In 6 pair-after-kinds.ps
+abbrev pair-after-at : ℕ → In 7 pair-after-kinds.ps
 pair-after-at t =
-    and 6 pair-after-kinds.ps (is 6 pair-after-kinds.ps μ-pair-after t) pair-after.Pre
+    and 7 pair-after-kinds.ps (is 7 pair-after-kinds.ps μ-pair-after t) pair-after.Pre
 
-abbrev pair-after-below : ℕ → In 6 pair-after-kinds.ps
+abbrev pair-after-below : ℕ → In 7 pair-after-kinds.ps
 pair-after-below t =
-    and 6 pair-after-kinds.ps (falls 6 pair-after-kinds.ps _<_ μ-pair-after t) pair-after.Pre
+    and 7 pair-after-kinds.ps (falls 7 pair-after-kinds.ps _<_ μ-pair-after t) pair-after.Pre
 
-abbrev ports-after-at : ℕ → In 6 ports-after-kinds.ps
+abbrev ports-after-at : ℕ → In 7 ports-after-kinds.ps
 ports-after-at t =
-    and 6 ports-after-kinds.ps (is 6 ports-after-kinds.ps μ-ports-after t) ports-after.Pre
+    and 7 ports-after-kinds.ps (is 7 ports-after-kinds.ps μ-ports-after t) ports-after.Pre
 
-abbrev ports-after-below : ℕ → In 6 ports-after-kinds.ps
+abbrev ports-after-below : ℕ → In 7 ports-after-kinds.ps
 ports-after-below t =
-    and 6 ports-after-kinds.ps (falls 6 ports-after-kinds.ps _<_ μ-ports-after t) ports-after.Pre
+    and 7 ports-after-kinds.ps (falls 7 ports-after-kinds.ps _<_ μ-ports-after t) ports-after.Pre
 
-abbrev row-after-at : ℕ → In 7 row-after-kinds.ps
-row-after-at t = and 7 row-after-kinds.ps (is 7 row-after-kinds.ps μ-row-after t) row-after.Pre
+abbrev row-after-at : ℕ → In 8 row-after-kinds.ps
+row-after-at t = and 8 row-after-kinds.ps (is 8 row-after-kinds.ps μ-row-after t) row-after.Pre
 
-abbrev row-after-below : ℕ → In 7 row-after-kinds.ps
+abbrev row-after-below : ℕ → In 8 row-after-kinds.ps
 row-after-below t =
-    and 7 row-after-kinds.ps (falls 7 row-after-kinds.ps _<_ μ-row-after t) row-after.Pre
+    and 8 row-after-kinds.ps (falls 8 row-after-kinds.ps _<_ μ-row-after t) row-after.Pre
 
-abbrev row-cells-after-at : ℕ → In 7 row-cells-after-kinds.ps
+abbrev row-cells-after-at : ℕ → In 8 row-cells-after-kinds.ps
 row-cells-after-at t =
     and
-    7
+    8
     row-cells-after-kinds.ps
-    (is 7 row-cells-after-kinds.ps μ-row-cells-after t)
+    (is 8 row-cells-after-kinds.ps μ-row-cells-after t)
     row-cells-after.Pre
 
-abbrev row-cells-after-below : ℕ → In 7 row-cells-after-kinds.ps
+abbrev row-cells-after-below : ℕ → In 8 row-cells-after-kinds.ps
 row-cells-after-below t =
     and
-    7
+    8
     row-cells-after-kinds.ps
-    (falls 7 row-cells-after-kinds.ps _<_ μ-row-cells-after t)
+    (falls 8 row-cells-after-kinds.ps _<_ μ-row-cells-after t)
     row-cells-after.Pre
 
-abbrev row-tree-after-at : ℕ → In 7 row-tree-after-kinds.ps
+abbrev row-tree-after-at : ℕ → In 8 row-tree-after-kinds.ps
 row-tree-after-at t =
     and
-    7
+    8
     row-tree-after-kinds.ps
-    (is 7 row-tree-after-kinds.ps μ-row-tree-after t)
+    (is 8 row-tree-after-kinds.ps μ-row-tree-after t)
     row-tree-after.Pre
 
-abbrev row-tree-after-below : ℕ → In 7 row-tree-after-kinds.ps
+abbrev row-tree-after-below : ℕ → In 8 row-tree-after-kinds.ps
 row-tree-after-below t =
     and
-    7
+    8
     row-tree-after-kinds.ps
-    (falls 7 row-tree-after-kinds.ps _<_ μ-row-tree-after t)
+    (falls 8 row-tree-after-kinds.ps _<_ μ-row-tree-after t)
     row-tree-after.Pre
 
-abbrev row-trees-after-at : ℕ → In 7 row-trees-after-kinds.ps
+abbrev row-trees-after-at : ℕ → In 8 row-trees-after-kinds.ps
 row-trees-after-at t =
     and
-    7
+    8
     row-trees-after-kinds.ps
-    (is 7 row-trees-after-kinds.ps μ-row-trees-after t)
+    (is 8 row-trees-after-kinds.ps μ-row-trees-after t)
     row-trees-after.Pre
 
-abbrev row-trees-after-below : ℕ → In 7 row-trees-after-kinds.ps
+abbrev row-trees-after-below : ℕ → In 8 row-trees-after-kinds.ps
 row-trees-after-below t =
     and
-    7
+    8
     row-trees-after-kinds.ps
-    (falls 7 row-trees-after-kinds.ps _<_ μ-row-trees-after t)
+    (falls 8 row-trees-after-kinds.ps _<_ μ-row-trees-after t)
     row-trees-after.Pre
 
-abbrev tree-after-at : ℕ → In 6 tree-after-kinds.ps
+abbrev tree-after-at : ℕ → In 7 tree-after-kinds.ps
 tree-after-at t =
-    and 6 tree-after-kinds.ps (is 6 tree-after-kinds.ps μ-tree-after t) tree-after.Pre
+    and 7 tree-after-kinds.ps (is 7 tree-after-kinds.ps μ-tree-after t) tree-after.Pre
 
-abbrev tree-after-below : ℕ → In 6 tree-after-kinds.ps
+abbrev tree-after-below : ℕ → In 7 tree-after-kinds.ps
 tree-after-below t =
-    and 6 tree-after-kinds.ps (falls 6 tree-after-kinds.ps _<_ μ-tree-after t) tree-after.Pre
+    and 7 tree-after-kinds.ps (falls 7 tree-after-kinds.ps _<_ μ-tree-after t) tree-after.Pre
 
-abbrev trees-after-at : ℕ → In 6 trees-after-kinds.ps
+abbrev trees-after-at : ℕ → In 7 trees-after-kinds.ps
 trees-after-at t =
-    and 6 trees-after-kinds.ps (is 6 trees-after-kinds.ps μ-trees-after t) trees-after.Pre
+    and 7 trees-after-kinds.ps (is 7 trees-after-kinds.ps μ-trees-after t) trees-after.Pre
 
-abbrev trees-after-below : ℕ → In 6 trees-after-kinds.ps
+abbrev trees-after-below : ℕ → In 7 trees-after-kinds.ps
 trees-after-below t =
-    and 6 trees-after-kinds.ps (falls 6 trees-after-kinds.ps _<_ μ-trees-after t) trees-after.Pre
+    and 7 trees-after-kinds.ps (falls 7 trees-after-kinds.ps _<_ μ-trees-after t) trees-after.Pre
 
 -- what the callees of `all-ports-after` ask and give
 abbrev all-ports-after-claims : ℕ → all-ports-after-lts.Claims
-all-ports-after-claims t = (cell-at-reads.Asked, cell-at-reads.Learnt, kind-at-reads.Asked, kind-at-reads.Learnt, adds-of-reads.Asked, adds-of-reads.Learnt, begin-reads.Asked, begin-reads.Learnt, row-after-below t, row-after.Post, place-at-reads.Asked, place-at-reads.Learnt, cells-from-reads.Asked, cells-from-reads.Learnt, gather-row-reads.Asked, gather-row-reads.Learnt, wrapping-add-u32-reads.Asked, wrapping-add-u32-reads.Learnt, outcome-reads.Asked, outcome-reads.Learnt)
+all-ports-after-claims t = (cell-at-reads.Asked, cell-at-reads.Learnt, adds-at-reads.Asked, adds-at-reads.Learnt, row-at-reads.Asked, row-at-reads.Learnt, copy-row-reads.Asked, copy-row-reads.Learnt, row-after-below t, row-after.Post, row-outcome-reads.Asked, row-outcome-reads.Learnt)
 
 -- what the callees of `cell-after` ask and give
 abbrev cell-after-claims : ℕ → cell-after-lts.Claims
-cell-after-claims t = (cell-at-reads.Asked, cell-at-reads.Learnt, uses-at-reads.Asked, uses-at-reads.Learnt, meet-reads.Asked, meet-reads.Learnt, kept-reads.Asked, kept-reads.Learnt, kind-at-reads.Asked, kind-at-reads.Learnt, literal-outcome-reads.Asked, literal-outcome-reads.Learnt, is-quantifier-reads.Asked, is-quantifier-reads.Learnt, ports-after-below t, ports-after.Post, adds-of-reads.Asked, adds-of-reads.Learnt, end-at-reads.Asked, end-at-reads.Learnt, begin-reads.Asked, begin-reads.Learnt, trees-after-below t, trees-after.Post, outcome-reads.Asked, outcome-reads.Learnt)
+cell-after-claims t = (cell-at-reads.Asked, cell-at-reads.Learnt, touched-at-reads.Asked, touched-at-reads.Learnt, kept-reads.Asked, kept-reads.Learnt, kind-at-reads.Asked, kind-at-reads.Learnt, literal-outcome-reads.Asked, literal-outcome-reads.Learnt, is-quantifier-reads.Asked, is-quantifier-reads.Learnt, ports-after-below t, ports-after.Post, adds-of-reads.Asked, adds-of-reads.Learnt, end-at-reads.Asked, end-at-reads.Learnt, begin-reads.Asked, begin-reads.Learnt, trees-after-below t, trees-after.Post, outcome-reads.Asked, outcome-reads.Learnt)
 
 -- what the callees of `pair-after` ask and give
 abbrev pair-after-claims : ℕ → pair-after-lts.Claims
-pair-after-claims t = (with-port-reads.Asked, with-port-reads.Learnt, port-word-reads.Asked, port-word-reads.Learnt, cell-after-below t, cell-after.Post, join-reads.Asked, join-reads.Learnt)
+pair-after-claims t = (lower-port-reads.Asked, lower-port-reads.Learnt, higher-port-reads.Asked, higher-port-reads.Learnt, with-port-reads.Asked, with-port-reads.Learnt, port-word-reads.Asked, port-word-reads.Learnt, cell-after-below t, cell-after.Post, join-reads.Asked, join-reads.Learnt)
 
 -- what the callees of `ports-after` ask and give
 abbrev ports-after-claims : ℕ → ports-after-lts.Claims
-ports-after-claims t = (kind-at-reads.Asked, kind-at-reads.Learnt, adds-of-reads.Asked, adds-of-reads.Learnt, all-ports-after-below t, all-ports-after.Post, uses-at-reads.Asked, uses-at-reads.Learnt, rest-word-reads.Asked, rest-word-reads.Learnt, meet-reads.Asked, meet-reads.Learnt, cell-at-reads.Asked, cell-at-reads.Learnt, begin-reads.Asked, begin-reads.Learnt, pair-after-below t, pair-after.Post, outcome-reads.Asked, outcome-reads.Learnt)
+ports-after-claims t = (adds-at-reads.Asked, adds-at-reads.Learnt, all-ports-after-below t, all-ports-after.Post, every-at-reads.Asked, every-at-reads.Learnt, cell-at-reads.Asked, cell-at-reads.Learnt, begin-reads.Asked, begin-reads.Learnt, pair-after-below t, pair-after.Post, outcome-reads.Asked, outcome-reads.Learnt)
 
 -- what the callees of `row-after` ask and give
 abbrev row-after-claims : ℕ → row-after-lts.Claims
-row-after-claims t = (place-at-reads.Asked, place-at-reads.Learnt, cells-from-reads.Asked, cells-from-reads.Learnt, kind-at-reads.Asked, kind-at-reads.Learnt, uses-at-reads.Asked, uses-at-reads.Learnt, rest-word-reads.Asked, rest-word-reads.Learnt, meet-reads.Asked, meet-reads.Learnt, by-cells-reads.Asked, by-cells-reads.Learnt, copy-row-reads.Asked, copy-row-reads.Learnt, row-cells-after-below t, row-cells-after.Post, literal-at-reads.Asked, literal-at-reads.Learnt, fill-row-reads.Asked, fill-row-reads.Learnt, count-row-reads.Asked, count-row-reads.Learnt, adds-of-reads.Asked, adds-of-reads.Learnt, begin-row-reads.Asked, begin-row-reads.Learnt, end-at-reads.Asked, end-at-reads.Learnt, row-trees-after-below t, row-trees-after.Post, wrapping-add-u32-reads.Asked, wrapping-add-u32-reads.Learnt)
+row-after-claims t = (row-at-reads.Asked, row-at-reads.Learnt, kind-at-reads.Asked, kind-at-reads.Learnt, every-at-reads.Asked, every-at-reads.Learnt, by-cells-reads.Asked, by-cells-reads.Learnt, copy-row-reads.Asked, copy-row-reads.Learnt, row-cells-after-below t, row-cells-after.Post, literal-at-reads.Asked, literal-at-reads.Learnt, fill-row-reads.Asked, fill-row-reads.Learnt, count-row-reads.Asked, count-row-reads.Learnt, adds-of-reads.Asked, adds-of-reads.Learnt, begin-row-reads.Asked, begin-row-reads.Learnt, end-at-reads.Asked, end-at-reads.Learnt, row-trees-after-below t, row-trees-after.Post, wrapping-add-u32-reads.Asked, wrapping-add-u32-reads.Learnt)
 
 -- what the callees of `row-cells-after` ask and give
 abbrev row-cells-after-claims : ℕ → row-cells-after-lts.Claims
@@ -245,7 +242,7 @@ row-cells-after-claims t = (first-port-reads.Asked, first-port-reads.Learnt, wit
 
 -- what the callees of `row-tree-after` ask and give
 abbrev row-tree-after-claims : ℕ → row-tree-after-lts.Claims
-row-tree-after-claims t = (place-at-reads.Asked, place-at-reads.Learnt, cells-from-reads.Asked, cells-from-reads.Learnt, uses-at-reads.Asked, uses-at-reads.Learnt, meet-reads.Asked, meet-reads.Learnt, keep-row-reads.Asked, keep-row-reads.Learnt, row-after-below t, row-after.Post, join-row-reads.Asked, join-row-reads.Learnt)
+row-tree-after-claims t = (row-at-reads.Asked, row-at-reads.Learnt, touched-at-reads.Asked, touched-at-reads.Learnt, keep-row-reads.Asked, keep-row-reads.Learnt, row-after-below t, row-after.Post, join-row-reads.Asked, join-row-reads.Learnt)
 
 -- what the callees of `row-trees-after` ask and give
 abbrev row-trees-after-claims : ℕ → row-trees-after-lts.Claims
@@ -257,31 +254,40 @@ tree-after-claims t = (kind-at-reads.Asked, kind-at-reads.Learnt, cell-at-reads.
 
 -- what the callees of `trees-after` ask and give
 abbrev trees-after-claims : ℕ → trees-after-lts.Claims
-trees-after-claims t = (uses-at-reads.Asked, uses-at-reads.Learnt, meet-reads.Asked, meet-reads.Learnt, tree-after-below t, tree-after.Post, join-reads.Asked, join-reads.Learnt, kept-reads.Asked, kept-reads.Learnt, end-at-reads.Asked, end-at-reads.Learnt)
+trees-after-claims t = (touched-at-reads.Asked, touched-at-reads.Learnt, tree-after-below t, tree-after.Post, join-reads.Asked, join-reads.Learnt, kept-reads.Asked, kept-reads.Learnt, end-at-reads.Asked, end-at-reads.Learnt)
 
 all-ports-after-cell-at-requires : (t : ℕ) → all-ports-after-lts.Need-cell-at-requires (all-ports-after-claims t) (all-ports-after-at t) all-ports-after.Post
 all-ports-after-cell-at-requires t c κs =
     (node-low _ _ _ _ _ _ _ _ _ _ _ _ _ _ (c .before .before .before .pre .1 .cell .begins), cell-room _ _ _ _ _ _ _ _ _ _ _ _ _ _ (c .before .before .before .pre .1 .cell .begins))
 
-all-ports-after-kind-at-requires : (t : ℕ) → all-ports-after-lts.Need-kind-at-requires (all-ports-after-claims t) (all-ports-after-at t) all-ports-after.Post
-all-ports-after-kind-at-requires t c κs =
+all-ports-after-adds-at-requires : (t : ℕ) → all-ports-after-lts.Need-adds-at-requires (all-ports-after-claims t) (all-ports-after-at t) all-ports-after.Post
+all-ports-after-adds-at-requires t c κs =
     record-room _ _ _ _ _ _ _ _ _ _ _ _ _ _ (c .before .before .before .before .pre .1 .cell .begins)
-
-all-ports-after-adds-of-requires : (t : ℕ) → all-ports-after-lts.Need-adds-of-requires (all-ports-after-claims t) (all-ports-after-at t) all-ports-after.Post
-all-ports-after-adds-of-requires t c κs =
-    search needs
-
-all-ports-after-begin-requires : (t : ℕ) → all-ports-after-lts.Need-begin-requires (all-ports-after-claims t) (all-ports-after-at t) all-ports-after.Post
-all-ports-after-begin-requires t c κs =
-    search needs
 
 all-ports-after-mul-row : (t : ℕ) → all-ports-after-lts.Need-mul-row (all-ports-after-claims t) (all-ports-after-at t) all-ports-after.Post
 all-ports-after-mul-row t c =
-    record { fits = times-fits _ _ (place-low _ _ _ _ _ _ _ _ _ _ _ _ _ _ (c .before .before .before .before .before .before .before .pre .1 .cell .begins)) }
+    record { fits = times-fits _ _ (place-low _ _ _ _ _ _ _ _ _ _ _ _ _ _ (c .before .before .before .before .before .pre .1 .cell .begins)) }
+
+all-ports-after-add-row-at : (t : ℕ) → all-ports-after-lts.Need-add-row-at (all-ports-after-claims t) (all-ports-after-at t) all-ports-after.Post
+all-ports-after-add-row-at t c =
+    omega (arith, child-low _ _ _ _ _ _ _ _ _ _ _ _ _ _ (c .before .before .before .before .before .pre .1))
+
+all-ports-after-row-at-requires : (t : ℕ) → all-ports-after-lts.Need-row-at-requires (all-ports-after-claims t) (all-ports-after-at t) all-ports-after.Post
+all-ports-after-row-at-requires t c κs =
+    (child-low _ _ _ _ _ _ _ _ _ _ _ _ _ _ (c .before .before .before .before .before .pre .1), row-low _ _ _ _ _ _ _ _ _ _ _ _ _ _ _ (some-child-row _ _ _ _ _ _ _ _ _ _ _ _ _ _ (c .before .before .before .before .before .pre .1)), omega (arith, row-within _ _ _ _ _ _ _ _ _ _ _ _ _ _ _ (some-child-row _ _ _ _ _ _ _ _ _ _ _ _ _ _ (c .before .before .before .before .before .pre .1)) _ refl))
+
+all-ports-after-slice-aggregate-copy-row :
+    (t : ℕ) → all-ports-after-lts.Need-slice-aggregate-copy-row (all-ports-after-claims t) (all-ports-after-at t) all-ports-after.Post
+all-ports-after-slice-aggregate-copy-row t c =
+    search needs
+
+all-ports-after-copy-row-requires : (t : ℕ) → all-ports-after-lts.Need-copy-row-requires (all-ports-after-claims t) (all-ports-after-at t) all-ports-after.Post
+all-ports-after-copy-row-requires t c κs =
+    (part-room _ _ _ _ _ _ _ _ _ _ _ _ _ _ _ (some-child-row _ _ _ _ _ _ _ _ _ _ _ _ _ _ (c .before .before .before .before .before .before .before .pre .1)) _ _ refl (c .before .row-at .ensures), c .before .before .before .before .before .before .before .pre .1 .cell .begins .ready .masks-settled .ports64)
 
 all-ports-after-add-row-after : (t : ℕ) → all-ports-after-lts.Need-add-row-after (all-ports-after-claims t) (all-ports-after-at t) all-ports-after.Post
 all-ports-after-add-row-after t c =
-    omega (arith, child-low _ _ _ _ _ _ _ _ _ _ _ _ _ _ (c .before .before .before .before .before .before .before .pre .1))
+    omega (arith, child-low _ _ _ _ _ _ _ _ _ _ _ _ _ _ (c .before .before .before .before .before .before .before .before .before .pre .1))
 
 all-ports-after-slice-aggregate-row-after :
     (t : ℕ) → all-ports-after-lts.Need-slice-aggregate-row-after (all-ports-after-claims t) (all-ports-after-at t) all-ports-after.Post
@@ -290,73 +296,53 @@ all-ports-after-slice-aggregate-row-after t c =
 
 all-ports-after-row-after-requires : (t : ℕ) → all-ports-after-lts.Need-row-after-requires (all-ports-after-claims t) (all-ports-after-at t) all-ports-after.Post
 all-ports-after-row-after-requires t c κs =
-    (omega (arith, c .before .before .before .before .before .before .before .before .pre .0, child-low _ _ _ _ _ _ _ _ _ _ _ _ _ _ (c .before .before .before .before .before .before .before .before .pre .1)), ports-row _ _ _ _ _ _ _ _ _ _ _ _ _ _ _ (ports-ready _ _ _ _ _ _ _ _ _ _ _ _ _ _ (c .before .before .before .before .before .before .before .before .pre .1) _ _ _ (c .before .before .before .before .cell-at .ensures) (c .before .begin .ensures)) _ (c .before .before .before .before .before .before .before .before .pre .1 .cell .begins .ready .masks-settled .ports64))
+    (omega (arith, c .before .before .before .before .before .before .before .before .before .before .pre .0, child-low _ _ _ _ _ _ _ _ _ _ _ _ _ _ (c .before .before .before .before .before .before .before .before .before .before .pre .1)), child-row _ _ _ _ _ _ _ _ _ _ _ _ _ _ (c .before .before .before .before .before .before .before .before .before .before .pre .1) _ (c .before .before .before .before .before .before .before .before .before .before .pre .1 .cell .begins .ready .masks-settled .ports64))
 
-all-ports-after-add-place-at : (t : ℕ) → all-ports-after-lts.Need-add-place-at (all-ports-after-claims t) (all-ports-after-at t) all-ports-after.Post
-all-ports-after-add-place-at t c =
-    omega (arith, child-low _ _ _ _ _ _ _ _ _ _ _ _ _ _ (c .before .before .before .before .before .before .before .before .before .before .pre .1))
-
-all-ports-after-place-at-requires : (t : ℕ) → all-ports-after-lts.Need-place-at-requires (all-ports-after-claims t) (all-ports-after-at t) all-ports-after.Post
-all-ports-after-place-at-requires t c κs =
-    (child-low _ _ _ _ _ _ _ _ _ _ _ _ _ _ (c .before .before .before .before .before .before .before .before .before .before .pre .1), row-low _ _ _ _ _ _ _ _ _ _ _ _ _ _ _ (any-row _ _ _ _ _ _ _ _ _ _ _ _ _ _ _ (ports-ready _ _ _ _ _ _ _ _ _ _ _ _ _ _ (c .before .before .before .before .before .before .before .before .before .before .pre .1) _ _ _ (c .before .before .before .before .before .before .cell-at .ensures) (c .before .before .before .begin .ensures))))
-
-all-ports-after-cells-from-requires : (t : ℕ) → all-ports-after-lts.Need-cells-from-requires (all-ports-after-claims t) (all-ports-after-at t) all-ports-after.Post
-all-ports-after-cells-from-requires t c κs =
-    omega (arith, row-within _ _ _ _ _ _ _ _ _ _ _ _ _ _ _ (any-row _ _ _ _ _ _ _ _ _ _ _ _ _ _ _ (ports-ready _ _ _ _ _ _ _ _ _ _ _ _ _ _ (c .before .before .before .before .before .before .before .before .before .before .before .pre .1) _ _ _ (c .before .before .before .before .before .before .before .cell-at .ensures) (c .before .before .before .before .begin .ensures))) _ (c .place-at .ensures))
-
-all-ports-after-slice-aggregate-gather-row :
-    (t : ℕ) → all-ports-after-lts.Need-slice-aggregate-gather-row (all-ports-after-claims t) (all-ports-after-at t) all-ports-after.Post
-all-ports-after-slice-aggregate-gather-row t c =
+all-ports-after-slice-aggregate-row-outcome :
+    (t : ℕ) → all-ports-after-lts.Need-slice-aggregate-row-outcome (all-ports-after-claims t) (all-ports-after-at t) all-ports-after.Post
+all-ports-after-slice-aggregate-row-outcome t c =
     search needs
 
-all-ports-after-gather-row-requires : (t : ℕ) → all-ports-after-lts.Need-gather-row-requires (all-ports-after-claims t) (all-ports-after-at t) all-ports-after.Post
-all-ports-after-gather-row-requires t c κs =
-    (omega (arith, c .before .before .before .before .row-after .kept .1 .1 .1 .1 .1 .1 .1 .1 .1 .1 .1 .1 .1 .1 .0, c .before .before .before .before .before .before .before .before .before .before .before .before .before .pre .1 .cell .begins .ready .masks-settled .ports64), part-room _ _ _ _ _ _ _ _ _ _ _ _ _ _ _ (any-row _ _ _ _ _ _ _ _ _ _ _ _ _ _ _ (ports-ready _ _ _ _ _ _ _ _ _ _ _ _ _ _ (c .before .before .before .before .before .before .before .before .before .before .before .before .before .pre .1) _ _ _ (c .before .before .before .before .before .before .before .before .before .cell-at .ensures) (c .before .before .before .before .before .before .begin .ensures))) _ _ (c .before .before .place-at .ensures) (c .before .cells-from .ensures))
-
-all-ports-after-wrapping-add-u32-requires :
-    (t : ℕ) → all-ports-after-lts.Need-wrapping-add-u32-requires (all-ports-after-claims t) (all-ports-after-at t) all-ports-after.Post
-all-ports-after-wrapping-add-u32-requires t c κs =
+all-ports-after-slice-aggregate-row-outcome-2 :
+    (t : ℕ) → all-ports-after-lts.Need-slice-aggregate-row-outcome-2 (all-ports-after-claims t) (all-ports-after-at t) all-ports-after.Post
+all-ports-after-slice-aggregate-row-outcome-2 t c =
     search needs
 
-all-ports-after-outcome-requires : (t : ℕ) → all-ports-after-lts.Need-outcome-requires (all-ports-after-claims t) (all-ports-after-at t) all-ports-after.Post
-all-ports-after-outcome-requires t c κs =
-    search needs
+all-ports-after-row-outcome-requires : (t : ℕ) → all-ports-after-lts.Need-row-outcome-requires (all-ports-after-claims t) (all-ports-after-at t) all-ports-after.Post
+all-ports-after-row-outcome-requires t c κs =
+    (omega (arith, c .before .before .before .row-after .kept .1 .1 .1 .1 .1 .1 .1 .1 .1 .1 .1 .1 .1 .1 .0, c .before .before .before .before .before .before .before .before .before .before .before .before .before .before .pre .1 .cell .begins .ready .masks-settled .ports64), omega (arith, c .before .before .before .before .before .before .copy-row .kept .1 .1 .0, c .before .before .before .before .before .before .before .before .before .before .before .before .before .before .pre .1 .cell .begins .ready .masks-settled .ports64))
 
 all-ports-after-returns : (t : ℕ) → all-ports-after-lts.Need-returns (all-ports-after-claims t) (all-ports-after-at t) all-ports-after.Post
 all-ports-after-returns t c =
-    quantifier-gives _ _ _ _ _ _ _ _ _ _ _ _ _ _ (c .before .before .before .before .before .before .before .before .before .before .before .before .before .before .before .before .pre .1) _ _ _ _ _ _ (c .before .before .before .before .before .before .before .before .before .before .before .before .cell-at .ensures) (c .before .before .before .before .before .before .before .before .before .before .before .kind-at .ensures) (c .before .before .before .before .before .before .before .before .before .before .adds-of .ensures) (c .before .before .before .before .before .before .before .before .before .begin .ensures) (c .outcome .ensures) (ports-by-row _ _ _ _ _ _ _ _ _ _ _ _ _ _ _ _ _ _ _ _ (part-old _ _ _ _ _ _ _ (c .before .before .before .before .before .place-at .ensures) (c .before .before .before .before .cells-from .ensures)) (c .before .before .before .before .before .before .before .row-after .ensures) (c .before .before .gather-row .ensures) (c .before .wrapping-add-u32 .ensures))
+    row-quantifier-gives _ _ _ _ _ _ _ _ _ _ _ _ _ _ (c .before .before .before .before .before .before .before .before .before .before .before .before .before .before .before .pre .1) _ _ _ _ _ _ (c .before .before .before .before .before .before .before .before .before .before .before .cell-at .ensures) (c .before .before .before .before .before .before .before .before .before .before .adds-at .ensures) (copy-old _ _ _ _ _ _ _ _ (part-old _ _ _ _ _ _ _ refl (c .before .before .before .before .before .before .before .before .before .row-at .ensures)) (c .before .before .before .before .before .before .before .copy-row .ensures)) (c .before .before .before .before .row-after .ensures) (c .row-outcome .ensures)
 
 cell-after-cell-at-requires : (t : ℕ) → cell-after-lts.Need-cell-at-requires (cell-after-claims t) (cell-after-at t) cell-after.Post
 cell-after-cell-at-requires t c κs =
     (node-low _ _ _ _ _ _ _ _ _ _ _ _ _ _ (c .before .before .before .pre .1), cell-room _ _ _ _ _ _ _ _ _ _ _ _ _ _ (c .before .before .before .pre .1))
 
-cell-after-uses-at-requires : (t : ℕ) → cell-after-lts.Need-uses-at-requires (cell-after-claims t) (cell-after-at t) cell-after.Post
-cell-after-uses-at-requires t c κs =
+cell-after-touched-at-requires : (t : ℕ) → cell-after-lts.Need-touched-at-requires (cell-after-claims t) (cell-after-at t) cell-after.Post
+cell-after-touched-at-requires t c κs =
     node-low _ _ _ _ _ _ _ _ _ _ _ _ _ _ (c .before .before .before .before .pre .1)
-
-cell-after-meet-requires : (t : ℕ) → cell-after-lts.Need-meet-requires (cell-after-claims t) (cell-after-at t) cell-after.Post
-cell-after-meet-requires t c κs =
-    search needs
 
 cell-after-kept-requires : (t : ℕ) → cell-after-lts.Need-kept-requires (cell-after-claims t) (cell-after-at t) cell-after.Post
 cell-after-kept-requires t c κs =
-    (node-low _ _ _ _ _ _ _ _ _ _ _ _ _ _ (c .before .before .before .before .before .before .before .pre .1), cell-room _ _ _ _ _ _ _ _ _ _ _ _ _ _ (c .before .before .before .before .before .before .before .pre .1))
+    (node-low _ _ _ _ _ _ _ _ _ _ _ _ _ _ (c .before .before .before .before .before .before .pre .1), cell-room _ _ _ _ _ _ _ _ _ _ _ _ _ _ (c .before .before .before .before .before .before .pre .1))
 
 cell-after-returns : (t : ℕ) → cell-after-lts.Need-returns (cell-after-claims t) (cell-after-at t) cell-after.Post
 cell-after-returns t c =
-    gives-untouched _ _ _ _ _ _ _ _ _ _ _ _ _ _ _ _ (c .kept .ensures .0) (c .before .before .before .uses-at .ensures) _ (sym (c .before .before .meet .ensures) ∙ not-true _ (c .before .if1 .taken)) refl (c .kept .ensures .1) (c .kept .ensures .2)
+    gives-untouched _ _ _ _ _ _ _ _ _ _ _ _ _ _ _ _ (c .kept .ensures .0) refl _ (sym (c .before .before .touched-at .ensures) ∙ not-true _ (c .before .if1 .taken)) refl (c .kept .ensures .1) (c .kept .ensures .2)
 
 cell-after-kind-at-requires : (t : ℕ) → cell-after-lts.Need-kind-at-requires (cell-after-claims t) (cell-after-at t) cell-after.Post
 cell-after-kind-at-requires t c κs =
-    record-room _ _ _ _ _ _ _ _ _ _ _ _ _ _ (c .before .before .before .before .before .before .before .pre .1)
+    record-room _ _ _ _ _ _ _ _ _ _ _ _ _ _ (c .before .before .before .before .before .before .pre .1)
 
 cell-after-literal-outcome-requires : (t : ℕ) → cell-after-lts.Need-literal-outcome-requires (cell-after-claims t) (cell-after-at t) cell-after.Post
 cell-after-literal-outcome-requires t c κs =
-    literal-ready _ _ _ _ _ _ _ _ _ _ _ _ _ _ (c .before .before .before .before .before .before .before .before .before .pre .1) _ (c .before .kind-at .ensures) (c .if2 .taken)
+    literal-ready _ _ _ _ _ _ _ _ _ _ _ _ _ _ (c .before .before .before .before .before .before .before .before .pre .1) _ (c .before .kind-at .ensures) (c .if2 .taken)
 
 cell-after-returns-2 : (t : ℕ) → cell-after-lts.Need-returns-2 (cell-after-claims t) (cell-after-at t) cell-after.Post
 cell-after-returns-2 t c =
-    gives-literal _ _ _ _ _ _ _ _ _ _ _ _ _ _ _ _ (c .before .before .before .before .before .before .cell-at .ensures) (c .before .before .before .before .before .uses-at .ensures) _ (sym (c .before .before .before .before .meet .ensures) ∙ not-false _ (c .before .before .before .if1 .left)) (c .before .before .kind-at .ensures) _ _ (c .before .if2 .taken) (c .literal-outcome .ensures .0) (c .literal-outcome .ensures .1, refl, c .literal-outcome .ensures .2)
+    gives-literal _ _ _ _ _ _ _ _ _ _ _ _ _ _ _ _ (c .before .before .before .before .before .cell-at .ensures) refl _ (sym (c .before .before .before .before .touched-at .ensures) ∙ not-false _ (c .before .before .before .if1 .left)) (c .before .before .kind-at .ensures) _ _ (c .before .if2 .taken) (c .literal-outcome .ensures .0) (c .literal-outcome .ensures .1, refl, c .literal-outcome .ensures .2)
 
 cell-after-is-quantifier-requires : (t : ℕ) → cell-after-lts.Need-is-quantifier-requires (cell-after-claims t) (cell-after-at t) cell-after.Post
 cell-after-is-quantifier-requires t c κs =
@@ -364,7 +350,7 @@ cell-after-is-quantifier-requires t c κs =
 
 cell-after-ports-after-requires : (t : ℕ) → cell-after-lts.Need-ports-after-requires (cell-after-claims t) (cell-after-at t) cell-after.Post
 cell-after-ports-after-requires t c κs =
-    (omega (arith, c .before .before .before .before .before .before .before .before .before .before .before .pre .0), quantifier-ready _ _ _ _ _ _ _ _ _ _ _ _ _ _ (c .before .before .before .before .before .before .before .before .before .before .before .pre .1) _ _ _ (c .before .before .before .before .before .before .uses-at .ensures) (c .before .before .before .before .before .meet .ensures) (not-false _ (c .before .before .before .before .if1 .left)) (c .before .before .before .kind-at .ensures) (sym (c .before .is-quantifier .ensures) ∙ c .if3 .taken))
+    (omega (arith, c .before .before .before .before .before .before .before .before .before .before .pre .0), quantifier-ready _ _ _ _ _ _ _ _ _ _ _ _ _ _ (c .before .before .before .before .before .before .before .before .before .before .pre .1) _ _ _ refl (c .before .before .before .before .before .touched-at .ensures) (not-false _ (c .before .before .before .before .if1 .left)) (c .before .before .before .kind-at .ensures) (sym (c .before .is-quantifier .ensures) ∙ c .if3 .taken))
 
 cell-after-returns-3 : (t : ℕ) → cell-after-lts.Need-returns-3 (cell-after-claims t) (cell-after-at t) cell-after.Post
 cell-after-returns-3 t c =
@@ -376,11 +362,11 @@ cell-after-adds-of-requires t c κs =
 
 cell-after-add-trees-after : (t : ℕ) → cell-after-lts.Need-add-trees-after (cell-after-claims t) (cell-after-at t) cell-after.Post
 cell-after-add-trees-after t c =
-    omega (arith, node-low _ _ _ _ _ _ _ _ _ _ _ _ _ _ (c .before .before .before .before .before .before .before .before .before .before .before .before .pre .1))
+    omega (arith, node-low _ _ _ _ _ _ _ _ _ _ _ _ _ _ (c .before .before .before .before .before .before .before .before .before .before .before .pre .1))
 
 cell-after-end-at-requires : (t : ℕ) → cell-after-lts.Need-end-at-requires (cell-after-claims t) (cell-after-at t) cell-after.Post
 cell-after-end-at-requires t c κs =
-    node-low _ _ _ _ _ _ _ _ _ _ _ _ _ _ (c .before .before .before .before .before .before .before .before .before .before .before .before .pre .1)
+    node-low _ _ _ _ _ _ _ _ _ _ _ _ _ _ (c .before .before .before .before .before .before .before .before .before .before .before .pre .1)
 
 cell-after-begin-requires : (t : ℕ) → cell-after-lts.Need-begin-requires (cell-after-claims t) (cell-after-at t) cell-after.Post
 cell-after-begin-requires t c κs =
@@ -388,7 +374,7 @@ cell-after-begin-requires t c κs =
 
 cell-after-trees-after-requires : (t : ℕ) → cell-after-lts.Need-trees-after-requires (cell-after-claims t) (cell-after-at t) cell-after.Post
 cell-after-trees-after-requires t c κs =
-    (omega (arith, c .before .before .before .before .before .before .before .before .before .before .before .before .before .before .pre .0, node-low _ _ _ _ _ _ _ _ _ _ _ _ _ _ (c .before .before .before .before .before .before .before .before .before .before .before .before .before .before .pre .1)), trees-ready _ _ _ _ _ _ _ _ _ _ _ _ _ _ (c .before .before .before .before .before .before .before .before .before .before .before .before .before .before .pre .1) _ _ _ _ (c .before .before .before .before .before .before .kind-at .ensures) (c .begin .ensures) _ (c .before .end-at .ensures) (c .before .before .before .before .before .if2 .left) (sym (c .before .before .before .before .is-quantifier .ensures) ∙ c .before .before .before .if3 .left))
+    (omega (arith, c .before .before .before .before .before .before .before .before .before .before .before .before .before .pre .0, node-low _ _ _ _ _ _ _ _ _ _ _ _ _ _ (c .before .before .before .before .before .before .before .before .before .before .before .before .before .pre .1)), trees-ready _ _ _ _ _ _ _ _ _ _ _ _ _ _ (c .before .before .before .before .before .before .before .before .before .before .before .before .before .pre .1) _ _ _ _ (c .before .before .before .before .before .before .kind-at .ensures) (c .begin .ensures) _ (c .before .end-at .ensures) (c .before .before .before .before .before .if2 .left) (sym (c .before .before .before .before .is-quantifier .ensures) ∙ c .before .before .before .if3 .left))
 
 cell-after-outcome-requires : (t : ℕ) → cell-after-lts.Need-outcome-requires (cell-after-claims t) (cell-after-at t) cell-after.Post
 cell-after-outcome-requires t c κs =
@@ -396,19 +382,27 @@ cell-after-outcome-requires t c κs =
 
 cell-after-returns-4 : (t : ℕ) → cell-after-lts.Need-returns-4 (cell-after-claims t) (cell-after-at t) cell-after.Post
 cell-after-returns-4 t c =
-    gives-trees _ _ _ _ _ _ _ _ _ _ _ _ _ _ _ _ (c .before .before .before .before .before .before .before .before .before .before .before .before .cell-at .ensures) (c .before .before .before .before .before .before .before .before .before .before .before .uses-at .ensures) _ (sym (c .before .before .before .before .before .before .before .before .before .before .meet .ensures) ∙ not-false _ (c .before .before .before .before .before .before .before .before .before .if1 .left)) (c .before .before .before .before .before .before .before .before .kind-at .ensures) _ _ _ _ (c .before .before .before .before .adds-of .ensures) (c .before .before .begin .ensures) (c .outcome .ensures) _ (c .before .before .before .end-at .ensures) (c .before .before .before .before .before .before .before .if2 .left) (sym (c .before .before .before .before .before .before .is-quantifier .ensures) ∙ c .before .before .before .before .before .if3 .left) (c .before .trees-after .ensures)
+    gives-trees _ _ _ _ _ _ _ _ _ _ _ _ _ _ _ _ (c .before .before .before .before .before .before .before .before .before .before .before .cell-at .ensures) refl _ (sym (c .before .before .before .before .before .before .before .before .before .before .touched-at .ensures) ∙ not-false _ (c .before .before .before .before .before .before .before .before .before .if1 .left)) (c .before .before .before .before .before .before .before .before .kind-at .ensures) _ _ _ _ (c .before .before .before .before .adds-of .ensures) (c .before .before .begin .ensures) (c .outcome .ensures) _ (c .before .before .before .end-at .ensures) (c .before .before .before .before .before .before .before .if2 .left) (sym (c .before .before .before .before .before .before .is-quantifier .ensures) ∙ c .before .before .before .before .before .if3 .left) (c .before .trees-after .ensures)
+
+pair-after-lower-port-requires : (t : ℕ) → pair-after-lts.Need-lower-port-requires (pair-after-claims t) (pair-after-at t) pair-after.Post
+pair-after-lower-port-requires t c κs =
+    search needs
+
+pair-after-higher-port-requires : (t : ℕ) → pair-after-lts.Need-higher-port-requires (pair-after-claims t) (pair-after-at t) pair-after.Post
+pair-after-higher-port-requires t c κs =
+    search needs
 
 pair-after-add-cell-after : (t : ℕ) → pair-after-lts.Need-add-cell-after (pair-after-claims t) (pair-after-at t) pair-after.Post
 pair-after-add-cell-after t c =
-    omega (arith, c .before .before .before .pre .1 .ports .visit .depth)
+    omega (arith, c .before .before .before .before .before .pre .1 .ports .visit .depth)
 
 pair-after-add-cell-after-2 : (t : ℕ) → pair-after-lts.Need-add-cell-after-2 (pair-after-claims t) (pair-after-at t) pair-after.Post
 pair-after-add-cell-after-2 t c =
-    record { fits = row-fits-64 _ _ _ _ _ _ _ _ _ _ _ _ _ _ _ (any-row _ _ _ _ _ _ _ _ _ _ _ _ _ _ _ (c .before .before .before .before .pre .1 .ports)) _ (omega (arith, c .before .before .before .before .pre .1 .ports .ready .says .order, c .before .before .before .before .pre .1 .ports .ready .says .below)) }
+    record { fits = row-fits-64 _ _ _ _ _ _ _ _ _ _ _ _ _ _ _ (any-row _ _ _ _ _ _ _ _ _ _ _ _ _ _ _ (c .before .before .before .before .before .pre .1 .ports)) _ (first-low _ _ _ _ _ _ _ _ _ _ _ _ _ _ _ (c .before .before .before .before .before .pre .1) _ _ (c .before .lower-port .ensures) (c .higher-port .ensures)) }
 
 pair-after-with-port-requires : (t : ℕ) → pair-after-lts.Need-with-port-requires (pair-after-claims t) (pair-after-at t) pair-after.Post
 pair-after-with-port-requires t c κs =
-    digits-ready _ _ _ _ _ _ _ _ _ _ _ _ _ _ _ (any-row _ _ _ _ _ _ _ _ _ _ _ _ _ _ _ (c .before .before .before .before .pre .1 .ports)) _ (omega (arith, c .before .before .before .before .pre .1 .ports .ready .says .order, c .before .before .before .before .pre .1 .ports .ready .says .below))
+    digits-ready _ _ _ _ _ _ _ _ _ _ _ _ _ _ _ (any-row _ _ _ _ _ _ _ _ _ _ _ _ _ _ _ (c .before .before .before .before .before .pre .1 .ports)) _ (first-low _ _ _ _ _ _ _ _ _ _ _ _ _ _ _ (c .before .before .before .before .before .pre .1) _ _ (c .before .lower-port .ensures) (c .higher-port .ensures))
 
 pair-after-port-word-requires : (t : ℕ) → pair-after-lts.Need-port-word-requires (pair-after-claims t) (pair-after-at t) pair-after.Post
 pair-after-port-word-requires t c κs =
@@ -416,7 +410,7 @@ pair-after-port-word-requires t c κs =
 
 pair-after-cell-after-requires : (t : ℕ) → pair-after-lts.Need-cell-after-requires (pair-after-claims t) (pair-after-at t) pair-after.Post
 pair-after-cell-after-requires t c κs =
-    (omega (arith, c .before .before .before .before .before .before .pre .0), port-ready _ _ _ _ _ _ _ _ _ _ _ _ _ _ _ (any-row _ _ _ _ _ _ _ _ _ _ _ _ _ _ _ (c .before .before .before .before .before .before .pre .1 .ports)) _ _ _ (omega (arith, c .before .before .before .before .before .before .pre .1 .ports .ready .says .order, c .before .before .before .before .before .before .pre .1 .ports .ready .says .below)) (c .before .with-port .ensures) (c .port-word .ensures))
+    (omega (arith, c .before .before .before .before .before .before .before .pre .0), port-ready _ _ _ _ _ _ _ _ _ _ _ _ _ _ _ (any-row _ _ _ _ _ _ _ _ _ _ _ _ _ _ _ (c .before .before .before .before .before .before .before .pre .1 .ports)) _ _ _ (first-low _ _ _ _ _ _ _ _ _ _ _ _ _ _ _ (c .before .before .before .before .before .before .before .pre .1) _ _ (c .before .before .before .lower-port .ensures) (c .before .before .higher-port .ensures)) (c .before .with-port .ensures) (c .port-word .ensures))
 
 pair-after-join-requires : (t : ℕ) → pair-after-lts.Need-join-requires (pair-after-claims t) (pair-after-at t) pair-after.Post
 pair-after-join-requires t c κs =
@@ -424,7 +418,7 @@ pair-after-join-requires t c κs =
 
 pair-after-returns : (t : ℕ) → pair-after-lts.Need-returns (pair-after-claims t) (pair-after-at t) pair-after.Post
 pair-after-returns t c =
-    pair-only _ _ _ _ _ _ _ _ _ _ _ _ _ _ _ (c .before .before .before .before .before .before .before .before .before .before .pre .1) _ (c .if1 .taken) (pair-next _ _ _ _ _ _ _ _ _ _ _ _ _ _ _ _ _ _ _ (pair-first _ _ _ _ _ _ _ _ _ _ _ _ _ _ _ (c .before .before .before .before .before .before .before .before .before .before .pre .1)) (port-gives _ _ _ _ _ _ _ _ _ _ _ _ _ _ _ _ _ _ (omega (arith, c .before .before .before .before .before .before .before .before .before .before .pre .1 .ports .ready .says .order, c .before .before .before .before .before .before .before .before .before .before .pre .1 .ports .ready .says .below)) (c .before .before .before .before .before .with-port .ensures) (c .before .before .before .before .port-word .ensures) (c .before .before .before .cell-after .ensures)) (c .before .before .join .ensures))
+    pair-only _ _ _ _ _ _ _ _ _ _ _ _ _ _ _ (c .before .before .before .before .before .before .before .before .before .before .pre .1) _ _ (c .before .before .before .before .before .before .lower-port .ensures) (c .before .before .before .before .before .higher-port .ensures) _ (c .if1 .taken) (pair-next _ _ _ _ _ _ _ _ _ _ _ _ _ _ _ _ _ _ _ (pair-first _ _ _ _ _ _ _ _ _ _ _ _ _ _ _ (c .before .before .before .before .before .before .before .before .before .before .pre .1) _ _ (c .before .before .before .before .before .before .lower-port .ensures) (c .before .before .before .before .before .higher-port .ensures)) (port-gives _ _ _ _ _ _ _ _ _ _ _ _ _ _ _ _ _ _ (first-low _ _ _ _ _ _ _ _ _ _ _ _ _ _ _ (c .before .before .before .before .before .before .before .before .before .before .pre .1) _ _ (c .before .before .before .before .before .before .lower-port .ensures) (c .before .before .before .before .before .higher-port .ensures)) (c .before .before .before .before .with-port .ensures) (c .before .before .before .port-word .ensures) (c .before .before .cell-after .ensures)) (c .before .join .ensures))
 
 pair-after-add-cell-after-3 : (t : ℕ) → pair-after-lts.Need-add-cell-after-3 (pair-after-claims t) (pair-after-at t) pair-after.Post
 pair-after-add-cell-after-3 t c =
@@ -432,11 +426,11 @@ pair-after-add-cell-after-3 t c =
 
 pair-after-add-cell-after-4 : (t : ℕ) → pair-after-lts.Need-add-cell-after-4 (pair-after-claims t) (pair-after-at t) pair-after.Post
 pair-after-add-cell-after-4 t c =
-    record { fits = row-fits-64 _ _ _ _ _ _ _ _ _ _ _ _ _ _ _ (any-row _ _ _ _ _ _ _ _ _ _ _ _ _ _ _ (c .before .before .before .before .before .before .before .before .before .before .before .pre .1 .ports)) _ (c .before .before .before .before .before .before .before .before .before .before .before .pre .1 .ports .ready .says .below) }
+    record { fits = row-fits-64 _ _ _ _ _ _ _ _ _ _ _ _ _ _ _ (any-row _ _ _ _ _ _ _ _ _ _ _ _ _ _ _ (c .before .before .before .before .before .before .before .before .before .before .pre .1 .ports)) _ (second-low _ _ _ _ _ _ _ _ _ _ _ _ _ _ _ (c .before .before .before .before .before .before .before .before .before .before .pre .1) _ _ (c .before .before .before .before .before .before .lower-port .ensures) (c .before .before .before .before .before .higher-port .ensures)) }
 
 pair-after-with-port-requires-2 : (t : ℕ) → pair-after-lts.Need-with-port-requires-2 (pair-after-claims t) (pair-after-at t) pair-after.Post
 pair-after-with-port-requires-2 t c κs =
-    digits-ready _ _ _ _ _ _ _ _ _ _ _ _ _ _ _ (any-row _ _ _ _ _ _ _ _ _ _ _ _ _ _ _ (c .before .before .before .before .before .before .before .before .before .before .before .pre .1 .ports)) _ (c .before .before .before .before .before .before .before .before .before .before .before .pre .1 .ports .ready .says .below)
+    digits-ready _ _ _ _ _ _ _ _ _ _ _ _ _ _ _ (any-row _ _ _ _ _ _ _ _ _ _ _ _ _ _ _ (c .before .before .before .before .before .before .before .before .before .before .pre .1 .ports)) _ (second-low _ _ _ _ _ _ _ _ _ _ _ _ _ _ _ (c .before .before .before .before .before .before .before .before .before .before .pre .1) _ _ (c .before .before .before .before .before .before .lower-port .ensures) (c .before .before .before .before .before .higher-port .ensures))
 
 pair-after-port-word-requires-2 : (t : ℕ) → pair-after-lts.Need-port-word-requires-2 (pair-after-claims t) (pair-after-at t) pair-after.Post
 pair-after-port-word-requires-2 t c κs =
@@ -444,7 +438,7 @@ pair-after-port-word-requires-2 t c κs =
 
 pair-after-cell-after-requires-2 : (t : ℕ) → pair-after-lts.Need-cell-after-requires-2 (pair-after-claims t) (pair-after-at t) pair-after.Post
 pair-after-cell-after-requires-2 t c κs =
-    (omega (arith, c .before .before .before .before .before .before .before .before .before .before .before .before .before .pre .0), port-ready _ _ _ _ _ _ _ _ _ _ _ _ _ _ _ (any-row _ _ _ _ _ _ _ _ _ _ _ _ _ _ _ (c .before .before .before .before .before .before .before .before .before .before .before .before .before .pre .1 .ports)) _ _ _ (c .before .before .before .before .before .before .before .before .before .before .before .before .before .pre .1 .ports .ready .says .below) (c .before .with-port2 .ensures) (c .port-word2 .ensures))
+    (omega (arith, c .before .before .before .before .before .before .before .before .before .before .before .before .pre .0), port-ready _ _ _ _ _ _ _ _ _ _ _ _ _ _ _ (any-row _ _ _ _ _ _ _ _ _ _ _ _ _ _ _ (c .before .before .before .before .before .before .before .before .before .before .before .before .pre .1 .ports)) _ _ _ (second-low _ _ _ _ _ _ _ _ _ _ _ _ _ _ _ (c .before .before .before .before .before .before .before .before .before .before .before .before .pre .1) _ _ (c .before .before .before .before .before .before .before .before .lower-port .ensures) (c .before .before .before .before .before .before .before .higher-port .ensures)) (c .before .with-port2 .ensures) (c .port-word2 .ensures))
 
 pair-after-join-requires-2 : (t : ℕ) → pair-after-lts.Need-join-requires-2 (pair-after-claims t) (pair-after-at t) pair-after.Post
 pair-after-join-requires-2 t c κs =
@@ -452,43 +446,31 @@ pair-after-join-requires-2 t c κs =
 
 pair-after-returns-2 : (t : ℕ) → pair-after-lts.Need-returns-2 (pair-after-claims t) (pair-after-at t) pair-after.Post
 pair-after-returns-2 t c =
-    pair-last _ _ _ _ _ _ _ _ _ _ _ _ _ _ _ (c .before .before .before .before .before .before .before .before .before .before .before .before .before .before .before .pre .1) _ (c .before .before .before .before .before .if1 .left) (pair-next _ _ _ _ _ _ _ _ _ _ _ _ _ _ _ _ _ _ _ (pair-second _ _ _ _ _ _ _ _ _ _ _ _ _ _ _ (c .before .before .before .before .before .before .before .before .before .before .before .before .before .before .before .pre .1) _ (c .before .before .before .before .before .if1 .left) (pair-next _ _ _ _ _ _ _ _ _ _ _ _ _ _ _ _ _ _ _ (pair-first _ _ _ _ _ _ _ _ _ _ _ _ _ _ _ (c .before .before .before .before .before .before .before .before .before .before .before .before .before .before .before .pre .1)) (port-gives _ _ _ _ _ _ _ _ _ _ _ _ _ _ _ _ _ _ (omega (arith, c .before .before .before .before .before .before .before .before .before .before .before .before .before .before .before .pre .1 .ports .ready .says .order, c .before .before .before .before .before .before .before .before .before .before .before .before .before .before .before .pre .1 .ports .ready .says .below)) (c .before .before .before .before .before .before .before .before .before .before .with-port .ensures) (c .before .before .before .before .before .before .before .before .before .port-word .ensures) (c .before .before .before .before .before .before .before .before .cell-after .ensures)) (c .before .before .before .before .before .before .before .join .ensures))) (port-gives _ _ _ _ _ _ _ _ _ _ _ _ _ _ _ _ _ _ (c .before .before .before .before .before .before .before .before .before .before .before .before .before .before .before .pre .1 .ports .ready .says .below) (c .before .before .before .with-port2 .ensures) (c .before .before .port-word2 .ensures) (c .before .cell-after2 .ensures)) (c .join2 .ensures))
+    pair-last _ _ _ _ _ _ _ _ _ _ _ _ _ _ _ (c .before .before .before .before .before .before .before .before .before .before .before .before .before .before .pre .1) _ _ (c .before .before .before .before .before .before .before .before .before .before .lower-port .ensures) (c .before .before .before .before .before .before .before .before .before .higher-port .ensures) _ (c .before .before .before .before .if1 .left) (pair-next _ _ _ _ _ _ _ _ _ _ _ _ _ _ _ _ _ _ _ (pair-second _ _ _ _ _ _ _ _ _ _ _ _ _ _ _ (c .before .before .before .before .before .before .before .before .before .before .before .before .before .before .pre .1) _ _ (c .before .before .before .before .before .before .before .before .before .before .lower-port .ensures) (c .before .before .before .before .before .before .before .before .before .higher-port .ensures) _ (c .before .before .before .before .if1 .left) (pair-next _ _ _ _ _ _ _ _ _ _ _ _ _ _ _ _ _ _ _ (pair-first _ _ _ _ _ _ _ _ _ _ _ _ _ _ _ (c .before .before .before .before .before .before .before .before .before .before .before .before .before .before .pre .1) _ _ (c .before .before .before .before .before .before .before .before .before .before .lower-port .ensures) (c .before .before .before .before .before .before .before .before .before .higher-port .ensures)) (port-gives _ _ _ _ _ _ _ _ _ _ _ _ _ _ _ _ _ _ (first-low _ _ _ _ _ _ _ _ _ _ _ _ _ _ _ (c .before .before .before .before .before .before .before .before .before .before .before .before .before .before .pre .1) _ _ (c .before .before .before .before .before .before .before .before .before .before .lower-port .ensures) (c .before .before .before .before .before .before .before .before .before .higher-port .ensures)) (c .before .before .before .before .before .before .before .before .with-port .ensures) (c .before .before .before .before .before .before .before .port-word .ensures) (c .before .before .before .before .before .before .cell-after .ensures)) (c .before .before .before .before .before .join .ensures))) (port-gives _ _ _ _ _ _ _ _ _ _ _ _ _ _ _ _ _ _ (second-low _ _ _ _ _ _ _ _ _ _ _ _ _ _ _ (c .before .before .before .before .before .before .before .before .before .before .before .before .before .before .pre .1) _ _ (c .before .before .before .before .before .before .before .before .before .before .lower-port .ensures) (c .before .before .before .before .before .before .before .before .before .higher-port .ensures)) (c .before .before .before .with-port2 .ensures) (c .before .before .port-word2 .ensures) (c .before .cell-after2 .ensures)) (c .join2 .ensures))
 
-ports-after-kind-at-requires : (t : ℕ) → ports-after-lts.Need-kind-at-requires (ports-after-claims t) (ports-after-at t) ports-after.Post
-ports-after-kind-at-requires t c κs =
+ports-after-adds-at-requires : (t : ℕ) → ports-after-lts.Need-adds-at-requires (ports-after-claims t) (ports-after-at t) ports-after.Post
+ports-after-adds-at-requires t c κs =
     record-room _ _ _ _ _ _ _ _ _ _ _ _ _ _ (c .before .before .before .pre .1 .cell .begins)
-
-ports-after-adds-of-requires : (t : ℕ) → ports-after-lts.Need-adds-of-requires (ports-after-claims t) (ports-after-at t) ports-after.Post
-ports-after-adds-of-requires t c κs =
-    search needs
 
 ports-after-all-ports-after-requires : (t : ℕ) → ports-after-lts.Need-all-ports-after-requires (ports-after-claims t) (ports-after-at t) ports-after.Post
 ports-after-all-ports-after-requires t c κs =
-    (omega (arith, c .before .before .before .before .before .before .pre .0), c .before .before .before .before .before .before .pre .1)
+    (omega (arith, c .before .before .before .before .before .pre .0), c .before .before .before .before .before .pre .1)
 
 ports-after-returns : (t : ℕ) → ports-after-lts.Need-returns (ports-after-claims t) (ports-after-at t) ports-after.Post
 ports-after-returns t c =
     c .all-ports-after .ensures
 
-ports-after-add-uses-at : (t : ℕ) → ports-after-lts.Need-add-uses-at (ports-after-claims t) (ports-after-at t) ports-after.Post
-ports-after-add-uses-at t c =
-    omega (arith, child-low _ _ _ _ _ _ _ _ _ _ _ _ _ _ (c .before .before .before .before .before .before .pre .1))
+ports-after-add-every-at : (t : ℕ) → ports-after-lts.Need-add-every-at (ports-after-claims t) (ports-after-at t) ports-after.Post
+ports-after-add-every-at t c =
+    omega (arith, child-low _ _ _ _ _ _ _ _ _ _ _ _ _ _ (c .before .before .before .before .before .pre .1))
 
-ports-after-uses-at-requires : (t : ℕ) → ports-after-lts.Need-uses-at-requires (ports-after-claims t) (ports-after-at t) ports-after.Post
-ports-after-uses-at-requires t c κs =
-    child-low _ _ _ _ _ _ _ _ _ _ _ _ _ _ (c .before .before .before .before .before .before .pre .1)
-
-ports-after-rest-word-requires : (t : ℕ) → ports-after-lts.Need-rest-word-requires (ports-after-claims t) (ports-after-at t) ports-after.Post
-ports-after-rest-word-requires t c κs =
-    search needs
-
-ports-after-meet-requires : (t : ℕ) → ports-after-lts.Need-meet-requires (ports-after-claims t) (ports-after-at t) ports-after.Post
-ports-after-meet-requires t c κs =
-    search needs
+ports-after-every-at-requires : (t : ℕ) → ports-after-lts.Need-every-at-requires (ports-after-claims t) (ports-after-at t) ports-after.Post
+ports-after-every-at-requires t c κs =
+    child-low _ _ _ _ _ _ _ _ _ _ _ _ _ _ (c .before .before .before .before .before .pre .1)
 
 ports-after-all-ports-after-requires-2 : (t : ℕ) → ports-after-lts.Need-all-ports-after-requires-2 (ports-after-claims t) (ports-after-at t) ports-after.Post
 ports-after-all-ports-after-requires-2 t c κs =
-    (omega (arith, c .before .before .before .before .before .before .before .before .before .before .pre .0), c .before .before .before .before .before .before .before .before .before .before .pre .1)
+    (omega (arith, c .before .before .before .before .before .before .before .pre .0), c .before .before .before .before .before .before .before .pre .1)
 
 ports-after-returns-2 : (t : ℕ) → ports-after-lts.Need-returns-2 (ports-after-claims t) (ports-after-at t) ports-after.Post
 ports-after-returns-2 t c =
@@ -496,15 +478,15 @@ ports-after-returns-2 t c =
 
 ports-after-cell-at-requires : (t : ℕ) → ports-after-lts.Need-cell-at-requires (ports-after-claims t) (ports-after-at t) ports-after.Post
 ports-after-cell-at-requires t c κs =
-    (node-low _ _ _ _ _ _ _ _ _ _ _ _ _ _ (c .before .before .before .before .before .before .before .before .before .before .pre .1 .cell .begins), cell-room _ _ _ _ _ _ _ _ _ _ _ _ _ _ (c .before .before .before .before .before .before .before .before .before .before .pre .1 .cell .begins))
+    (node-low _ _ _ _ _ _ _ _ _ _ _ _ _ _ (c .before .before .before .before .before .before .before .pre .1 .cell .begins), cell-room _ _ _ _ _ _ _ _ _ _ _ _ _ _ (c .before .before .before .before .before .before .before .pre .1 .cell .begins))
 
 ports-after-add-pair-after : (t : ℕ) → ports-after-lts.Need-add-pair-after (ports-after-claims t) (ports-after-at t) ports-after.Post
 ports-after-add-pair-after t c =
-    omega (arith, child-low _ _ _ _ _ _ _ _ _ _ _ _ _ _ (c .before .before .before .before .before .before .before .before .before .before .before .pre .1))
+    omega (arith, child-low _ _ _ _ _ _ _ _ _ _ _ _ _ _ (c .before .before .before .before .before .before .before .before .pre .1))
 
 ports-after-mul-pair-after : (t : ℕ) → ports-after-lts.Need-mul-pair-after (ports-after-claims t) (ports-after-at t) ports-after.Post
 ports-after-mul-pair-after t c =
-    record { fits = times-fits _ _ (place-low _ _ _ _ _ _ _ _ _ _ _ _ _ _ (c .before .before .before .before .before .before .before .before .before .before .before .pre .1 .cell .begins)) }
+    record { fits = times-fits _ _ (place-low _ _ _ _ _ _ _ _ _ _ _ _ _ _ (c .before .before .before .before .before .before .before .before .pre .1 .cell .begins)) }
 
 ports-after-begin-requires : (t : ℕ) → ports-after-lts.Need-begin-requires (ports-after-claims t) (ports-after-at t) ports-after.Post
 ports-after-begin-requires t c κs =
@@ -512,7 +494,7 @@ ports-after-begin-requires t c κs =
 
 ports-after-pair-after-requires : (t : ℕ) → ports-after-lts.Need-pair-after-requires (ports-after-claims t) (ports-after-at t) ports-after.Post
 ports-after-pair-after-requires t c κs =
-    (omega (arith, c .before .before .before .before .before .before .before .before .before .before .before .before .pre .0, child-low _ _ _ _ _ _ _ _ _ _ _ _ _ _ (c .before .before .before .before .before .before .before .before .before .before .before .before .pre .1)), pair-of _ _ _ _ _ _ _ _ _ _ _ _ _ _ _ _ _ _ (ports-ready _ _ _ _ _ _ _ _ _ _ _ _ _ _ (c .before .before .before .before .before .before .before .before .before .before .before .before .pre .1) _ _ _ (c .before .cell-at .ensures) (c .begin .ensures)) (c .before .before .before .before .before .uses-at .ensures) (c .before .before .before .before .rest-word .ensures) (c .before .before .before .meet .ensures) (c .before .before .if2 .left))
+    (omega (arith, c .before .before .before .before .before .before .before .before .before .pre .0, child-low _ _ _ _ _ _ _ _ _ _ _ _ _ _ (c .before .before .before .before .before .before .before .before .before .pre .1)), pair-of _ _ _ _ _ _ _ _ _ _ _ _ _ _ _ _ _ _ (ports-ready _ _ _ _ _ _ _ _ _ _ _ _ _ _ (c .before .before .before .before .before .before .before .before .before .pre .1) _ _ _ (c .before .cell-at .ensures) (c .begin .ensures)) refl refl (c .before .before .before .every-at .ensures) (c .before .before .if2 .left))
 
 ports-after-outcome-requires : (t : ℕ) → ports-after-lts.Need-outcome-requires (ports-after-claims t) (ports-after-at t) ports-after.Post
 ports-after-outcome-requires t c κs =
@@ -520,31 +502,19 @@ ports-after-outcome-requires t c κs =
 
 ports-after-returns-3 : (t : ℕ) → ports-after-lts.Need-returns-3 (ports-after-claims t) (ports-after-at t) ports-after.Post
 ports-after-returns-3 t c =
-    quantifier-gives _ _ _ _ _ _ _ _ _ _ _ _ _ _ (c .before .before .before .before .before .before .before .before .before .before .before .before .before .before .pre .1) _ _ _ _ _ _ (c .before .before .before .cell-at .ensures) (c .before .before .before .before .before .before .before .before .before .before .kind-at .ensures) (sym (not-false _ (c .before .before .before .before .before .before .before .before .if1 .left)) ∙ c .before .before .before .before .before .before .before .before .before .adds-of .ensures) (c .before .before .begin .ensures) (c .outcome .ensures) (c .before .pair-after .ensures)
+    quantifier-gives _ _ _ _ _ _ _ _ _ _ _ _ _ _ (c .before .before .before .before .before .before .before .before .before .before .before .pre .1) _ _ _ _ _ _ (c .before .before .before .cell-at .ensures) refl (sym (not-false _ (c .before .before .before .before .before .before .if1 .left)) ∙ c .before .before .before .before .before .before .before .adds-at .ensures) (c .before .before .begin .ensures) (c .outcome .ensures) (c .before .pair-after .ensures)
 
-row-after-place-at-requires : (t : ℕ) → row-after-lts.Need-place-at-requires (row-after-claims t) (row-after-at t) row-after.Post
-row-after-place-at-requires t c κs =
-    (node-low _ _ _ _ _ _ _ _ _ _ _ _ _ _ (first-ready _ _ _ _ _ _ _ _ _ _ _ _ _ _ _ (c .before .before .before .before .pre .1)), row-low _ _ _ _ _ _ _ _ _ _ _ _ _ _ _ (c .before .before .before .before .pre .1))
-
-row-after-cells-from-requires : (t : ℕ) → row-after-lts.Need-cells-from-requires (row-after-claims t) (row-after-at t) row-after.Post
-row-after-cells-from-requires t c κs =
-    omega (arith, row-within _ _ _ _ _ _ _ _ _ _ _ _ _ _ _ (c .before .before .before .before .before .pre .1) _ (c .place-at .ensures))
+row-after-row-at-requires : (t : ℕ) → row-after-lts.Need-row-at-requires (row-after-claims t) (row-after-at t) row-after.Post
+row-after-row-at-requires t c κs =
+    (node-low _ _ _ _ _ _ _ _ _ _ _ _ _ _ (first-ready _ _ _ _ _ _ _ _ _ _ _ _ _ _ _ (c .before .before .before .before .pre .1)), row-low _ _ _ _ _ _ _ _ _ _ _ _ _ _ _ (c .before .before .before .before .pre .1), omega (arith, row-within _ _ _ _ _ _ _ _ _ _ _ _ _ _ _ (c .before .before .before .before .pre .1) _ refl))
 
 row-after-kind-at-requires : (t : ℕ) → row-after-lts.Need-kind-at-requires (row-after-claims t) (row-after-at t) row-after.Post
 row-after-kind-at-requires t c κs =
-    record-room _ _ _ _ _ _ _ _ _ _ _ _ _ _ (first-ready _ _ _ _ _ _ _ _ _ _ _ _ _ _ _ (c .before .before .before .before .before .before .pre .1))
+    record-room _ _ _ _ _ _ _ _ _ _ _ _ _ _ (first-ready _ _ _ _ _ _ _ _ _ _ _ _ _ _ _ (c .before .before .before .before .before .pre .1))
 
-row-after-uses-at-requires : (t : ℕ) → row-after-lts.Need-uses-at-requires (row-after-claims t) (row-after-at t) row-after.Post
-row-after-uses-at-requires t c κs =
-    node-low _ _ _ _ _ _ _ _ _ _ _ _ _ _ (first-ready _ _ _ _ _ _ _ _ _ _ _ _ _ _ _ (c .before .before .before .before .before .before .before .pre .1))
-
-row-after-rest-word-requires : (t : ℕ) → row-after-lts.Need-rest-word-requires (row-after-claims t) (row-after-at t) row-after.Post
-row-after-rest-word-requires t c κs =
-    search needs
-
-row-after-meet-requires : (t : ℕ) → row-after-lts.Need-meet-requires (row-after-claims t) (row-after-at t) row-after.Post
-row-after-meet-requires t c κs =
-    search needs
+row-after-every-at-requires : (t : ℕ) → row-after-lts.Need-every-at-requires (row-after-claims t) (row-after-at t) row-after.Post
+row-after-every-at-requires t c κs =
+    node-low _ _ _ _ _ _ _ _ _ _ _ _ _ _ (first-ready _ _ _ _ _ _ _ _ _ _ _ _ _ _ _ (c .before .before .before .before .before .before .pre .1))
 
 row-after-by-cells-requires : (t : ℕ) → row-after-lts.Need-by-cells-requires (row-after-claims t) (row-after-at t) row-after.Post
 row-after-by-cells-requires t c κs =
@@ -552,11 +522,11 @@ row-after-by-cells-requires t c κs =
 
 row-after-copy-row-requires : (t : ℕ) → row-after-lts.Need-copy-row-requires (row-after-claims t) (row-after-at t) row-after.Post
 row-after-copy-row-requires t c κs =
-    (part-room _ _ _ _ _ _ _ _ _ _ _ _ _ _ _ (c .before .before .before .before .before .before .before .before .before .before .before .before .before .pre .1) _ _ (c .before .before .before .before .before .before .before .before .place-at .ensures) (c .before .before .before .before .before .before .before .cells-from .ensures), c .before .before .before .before .before .before .before .before .before .before .before .before .before .pre .1 .room)
+    (part-room _ _ _ _ _ _ _ _ _ _ _ _ _ _ _ (c .before .before .before .before .before .before .before .before .before .before .pre .1) _ _ refl (c .before .before .before .before .before .row-at .ensures), c .before .before .before .before .before .before .before .before .before .before .pre .1 .room)
 
 row-after-row-cells-after-requires : (t : ℕ) → row-after-lts.Need-row-cells-after-requires (row-after-claims t) (row-after-at t) row-after.Post
 row-after-row-cells-after-requires t c κs =
-    (omega (arith, c .before .before .before .before .before .before .before .before .before .before .before .before .before .before .before .before .before .pre .0), row-cells-ready _ _ _ _ _ _ _ _ _ _ _ _ _ _ _ _ (c .before .before .before .before .before .before .before .before .before .before .before .before .before .before .before .before .before .pre .1) _ (part-old _ _ _ _ _ _ _ (c .before .before .before .before .before .before .before .before .before .before .before .before .place-at .ensures) (c .before .before .before .before .before .before .before .before .before .before .before .cells-from .ensures)) _ _ _ (c .before .before .before .before .before .before .before .before .before .uses-at .ensures) (c .before .before .before .before .before .before .before .before .rest-word .ensures) (c .before .before .before .before .before .before .before .meet .ensures) omega (arith, c .before .before .before .copy-row .kept .1 .1 .0, c .before .before .before .before .before .before .before .before .before .before .before .before .before .before .before .before .before .pre .1 .room) (c .before .before .before .copy-row .ensures))
+    (omega (arith, c .before .before .before .before .before .before .before .before .before .before .before .before .before .before .pre .0), row-cells-ready _ _ _ _ _ _ _ _ _ _ _ _ _ _ _ _ (c .before .before .before .before .before .before .before .before .before .before .before .before .before .before .pre .1) _ (part-old _ _ _ _ _ _ _ refl (c .before .before .before .before .before .before .before .before .before .row-at .ensures)) _ _ _ refl refl (c .before .before .before .before .before .before .before .every-at .ensures) omega (arith, c .before .before .before .copy-row .kept .1 .1 .0, c .before .before .before .before .before .before .before .before .before .before .before .before .before .before .pre .1 .room) (c .before .before .before .copy-row .ensures))
 
 row-after-same-length : (t : ℕ) → row-after-lts.Need-same-length (row-after-claims t) (row-after-at t) row-after.Post
 row-after-same-length t c =
@@ -568,19 +538,19 @@ row-after-returns t c =
 
 row-after-add-literal-at : (t : ℕ) → row-after-lts.Need-add-literal-at (row-after-claims t) (row-after-at t) row-after.Post
 row-after-add-literal-at t c =
-    omega (arith, c .before .before .before .before .before .before .before .before .before .before .before .before .before .pre .1 .visit .depth)
+    omega (arith, c .before .before .before .before .before .before .before .before .before .before .pre .1 .visit .depth)
 
 row-after-literal-at-requires : (t : ℕ) → row-after-lts.Need-literal-at-requires (row-after-claims t) (row-after-at t) row-after.Post
 row-after-literal-at-requires t c κs =
-    literal-ready _ _ _ _ _ _ _ _ _ _ _ _ _ _ (first-ready _ _ _ _ _ _ _ _ _ _ _ _ _ _ _ (c .before .before .before .before .before .before .before .before .before .before .before .before .before .pre .1)) _ (c .before .before .before .before .before .before .kind-at .ensures) (c .if2 .taken)
+    literal-ready _ _ _ _ _ _ _ _ _ _ _ _ _ _ (first-ready _ _ _ _ _ _ _ _ _ _ _ _ _ _ _ (c .before .before .before .before .before .before .before .before .before .before .pre .1)) _ (c .before .before .before .before .kind-at .ensures) (c .if2 .taken)
 
 row-after-fill-row-requires : (t : ℕ) → row-after-lts.Need-fill-row-requires (row-after-claims t) (row-after-at t) row-after.Post
 row-after-fill-row-requires t c κs =
-    c .before .before .before .before .before .before .before .before .before .before .before .before .before .before .before .pre .1 .room
+    c .before .before .before .before .before .before .before .before .before .before .before .before .pre .1 .room
 
 row-after-count-row-requires : (t : ℕ) → row-after-lts.Need-count-row-requires (row-after-claims t) (row-after-at t) row-after.Post
 row-after-count-row-requires t c κs =
-    (omega (arith, c .before .before .before .fill-row .kept .1 .1 .0, c .before .before .before .before .before .before .before .before .before .before .before .before .before .before .before .before .before .before .before .pre .1 .room), part-room _ _ _ _ _ _ _ _ _ _ _ _ _ _ _ (c .before .before .before .before .before .before .before .before .before .before .before .before .before .before .before .before .before .before .before .pre .1) _ _ (c .before .before .before .before .before .before .before .before .before .before .before .before .before .before .place-at .ensures) (c .before .before .before .before .before .before .before .before .before .before .before .before .before .cells-from .ensures))
+    (omega (arith, c .before .before .before .fill-row .kept .1 .1 .0, c .before .before .before .before .before .before .before .before .before .before .before .before .before .before .before .before .pre .1 .room), part-room _ _ _ _ _ _ _ _ _ _ _ _ _ _ _ (c .before .before .before .before .before .before .before .before .before .before .before .before .before .before .before .before .pre .1) _ _ refl (c .before .before .before .before .before .before .before .before .before .before .before .row-at .ensures))
 
 row-after-same-length-2 : (t : ℕ) → row-after-lts.Need-same-length-2 (row-after-claims t) (row-after-at t) row-after.Post
 row-after-same-length-2 t c =
@@ -588,7 +558,7 @@ row-after-same-length-2 t c =
 
 row-after-returns-2 : (t : ℕ) → row-after-lts.Need-returns-2 (row-after-claims t) (row-after-at t) row-after.Post
 row-after-returns-2 t c =
-    gives-literal-row _ _ _ _ _ _ _ _ _ _ _ _ _ _ _ _ _ _ _ _ (part-old _ _ _ _ _ _ _ (c .before .before .before .before .before .before .before .before .before .before .before .before .before .before .before .place-at .ensures) (c .before .before .before .before .before .before .before .before .before .before .before .before .before .before .cells-from .ensures)) (c .before .before .before .before .before .before .before .before .before .before .before .before .before .kind-at .ensures) (c .before .before .before .before .before .before .before .before .before .before .before .before .uses-at .ensures) (c .before .before .before .before .before .before .before .before .before .before .before .rest-word .ensures) (c .before .before .before .before .before .before .before .before .before .before .meet .ensures) ((by-rows (c .before .before .before .before .before .before .before .before .before .before .meet .result) (c .before .before .before .before .before .before .before .before .before .before .before .before .before .kind-at .result) _ (c .before .before .before .before .before .before .before .before .before .by-cells .ensures) (c .before .before .before .before .before .before .before .before .if1 .left)) .0) _ _ _ (c .before .before .before .before .before .before .before .if2 .taken) (c .before .before .before .before .before .before .literal-at .ensures) (c .before .before .before .before .fill-row .ensures) (c .count-row .ensures)
+    gives-literal-row _ _ _ _ _ _ _ _ _ _ _ _ _ _ _ _ _ _ _ _ (part-old _ _ _ _ _ _ _ refl (c .before .before .before .before .before .before .before .before .before .before .before .before .row-at .ensures)) (c .before .before .before .before .before .before .before .before .before .before .before .kind-at .ensures) refl refl (c .before .before .before .before .before .before .before .before .before .before .every-at .ensures) ((by-rows (c .before .before .before .before .before .before .before .before .before .before .every-at .result) (c .before .before .before .before .before .before .before .before .before .before .before .kind-at .result) _ (c .before .before .before .before .before .before .before .before .before .by-cells .ensures) (c .before .before .before .before .before .before .before .before .if1 .left)) .0) _ _ _ (c .before .before .before .before .before .before .before .if2 .taken) (c .before .before .before .before .before .before .literal-at .ensures) (c .before .before .before .before .fill-row .ensures) (c .count-row .ensures)
 
 row-after-adds-of-requires : (t : ℕ) → row-after-lts.Need-adds-of-requires (row-after-claims t) (row-after-at t) row-after.Post
 row-after-adds-of-requires t c κs =
@@ -596,23 +566,23 @@ row-after-adds-of-requires t c κs =
 
 row-after-begin-row-requires : (t : ℕ) → row-after-lts.Need-begin-row-requires (row-after-claims t) (row-after-at t) row-after.Post
 row-after-begin-row-requires t c κs =
-    (part-room _ _ _ _ _ _ _ _ _ _ _ _ _ _ _ (c .before .before .before .before .before .before .before .before .before .before .before .before .before .before .before .pre .1) _ _ (c .before .before .before .before .before .before .before .before .before .before .place-at .ensures) (c .before .before .before .before .before .before .before .before .before .cells-from .ensures), c .before .before .before .before .before .before .before .before .before .before .before .before .before .before .before .pre .1 .room)
+    (part-room _ _ _ _ _ _ _ _ _ _ _ _ _ _ _ (c .before .before .before .before .before .before .before .before .before .before .before .before .pre .1) _ _ refl (c .before .before .before .before .before .before .before .row-at .ensures), c .before .before .before .before .before .before .before .before .before .before .before .before .pre .1 .room)
 
 row-after-add-row-trees-after : (t : ℕ) → row-after-lts.Need-add-row-trees-after (row-after-claims t) (row-after-at t) row-after.Post
 row-after-add-row-trees-after t c =
-    omega (arith, node-low _ _ _ _ _ _ _ _ _ _ _ _ _ _ (first-ready _ _ _ _ _ _ _ _ _ _ _ _ _ _ _ (c .before .before .before .before .before .before .before .before .before .before .before .before .before .before .before .before .before .before .pre .1)))
+    omega (arith, node-low _ _ _ _ _ _ _ _ _ _ _ _ _ _ (first-ready _ _ _ _ _ _ _ _ _ _ _ _ _ _ _ (c .before .before .before .before .before .before .before .before .before .before .before .before .before .before .before .pre .1)))
 
 row-after-end-at-requires : (t : ℕ) → row-after-lts.Need-end-at-requires (row-after-claims t) (row-after-at t) row-after.Post
 row-after-end-at-requires t c κs =
-    node-low _ _ _ _ _ _ _ _ _ _ _ _ _ _ (first-ready _ _ _ _ _ _ _ _ _ _ _ _ _ _ _ (c .before .before .before .before .before .before .before .before .before .before .before .before .before .before .before .before .before .before .pre .1))
+    node-low _ _ _ _ _ _ _ _ _ _ _ _ _ _ (first-ready _ _ _ _ _ _ _ _ _ _ _ _ _ _ _ (c .before .before .before .before .before .before .before .before .before .before .before .before .before .before .before .pre .1))
 
 row-after-row-trees-after-requires : (t : ℕ) → row-after-lts.Need-row-trees-after-requires (row-after-claims t) (row-after-at t) row-after.Post
 row-after-row-trees-after-requires t c κs =
-    (omega (arith, c .before .before .before .before .before .before .before .before .before .before .before .before .before .before .before .before .before .before .before .before .pre .0, node-low _ _ _ _ _ _ _ _ _ _ _ _ _ _ (first-ready _ _ _ _ _ _ _ _ _ _ _ _ _ _ _ (c .before .before .before .before .before .before .before .before .before .before .before .before .before .before .before .before .before .before .before .before .pre .1))), row-trees-ready _ _ _ _ _ _ _ _ _ _ _ _ _ _ _ _ (c .before .before .before .before .before .before .before .before .before .before .before .before .before .before .before .before .before .before .before .before .pre .1) _ _ _ _ (part-old _ _ _ _ _ _ _ (c .before .before .before .before .before .before .before .before .before .before .before .before .before .before .before .place-at .ensures) (c .before .before .before .before .before .before .before .before .before .before .before .before .before .before .cells-from .ensures)) (c .before .before .before .before .before .before .before .before .before .before .before .before .before .kind-at .ensures) (c .before .before .before .before .before .before .before .if2 .left) ((by-rows (c .before .before .before .before .before .before .before .before .before .before .meet .result) (c .before .before .before .before .before .before .before .before .before .before .before .before .before .kind-at .result) _ (c .before .before .before .before .before .before .before .before .before .by-cells .ensures) (c .before .before .before .before .before .before .before .before .if1 .left)) .1) (c .before .end-at .ensures) omega (arith, c .before .before .before .before .begin-row .kept .1 .1 .1 .0, c .before .before .before .before .before .before .before .before .before .before .before .before .before .before .before .before .before .before .before .before .pre .1 .room) (c .before .before .before .before .begin-row .ensures))
+    (omega (arith, c .before .before .before .before .before .before .before .before .before .before .before .before .before .before .before .before .before .pre .0, node-low _ _ _ _ _ _ _ _ _ _ _ _ _ _ (first-ready _ _ _ _ _ _ _ _ _ _ _ _ _ _ _ (c .before .before .before .before .before .before .before .before .before .before .before .before .before .before .before .before .before .pre .1))), row-trees-ready _ _ _ _ _ _ _ _ _ _ _ _ _ _ _ _ (c .before .before .before .before .before .before .before .before .before .before .before .before .before .before .before .before .before .pre .1) _ _ _ _ (part-old _ _ _ _ _ _ _ refl (c .before .before .before .before .before .before .before .before .before .before .before .before .row-at .ensures)) (c .before .before .before .before .before .before .before .before .before .before .before .kind-at .ensures) (c .before .before .before .before .before .before .before .if2 .left) ((by-rows (c .before .before .before .before .before .before .before .before .before .before .every-at .result) (c .before .before .before .before .before .before .before .before .before .before .before .kind-at .result) _ (c .before .before .before .before .before .before .before .before .before .by-cells .ensures) (c .before .before .before .before .before .before .before .before .if1 .left)) .1) (c .before .end-at .ensures) omega (arith, c .before .before .before .before .begin-row .kept .1 .1 .1 .0, c .before .before .before .before .before .before .before .before .before .before .before .before .before .before .before .before .before .pre .1 .room) (c .before .before .before .before .begin-row .ensures))
 
 row-after-count-row-requires-2 : (t : ℕ) → row-after-lts.Need-count-row-requires-2 (row-after-claims t) (row-after-at t) row-after.Post
 row-after-count-row-requires-2 t c κs =
-    (omega (arith, c .before .before .before .row-trees-after .kept .1 .1 .1 .1 .1 .1 .1 .1 .1 .1 .1 .1 .1 .1 .1 .1 .0, c .before .before .before .before .before .before .before .before .begin-row .kept .1 .1 .1 .0, c .before .before .before .before .before .before .before .before .before .before .before .before .before .before .before .before .before .before .before .before .before .before .before .before .pre .1 .room), part-room _ _ _ _ _ _ _ _ _ _ _ _ _ _ _ (c .before .before .before .before .before .before .before .before .before .before .before .before .before .before .before .before .before .before .before .before .before .before .before .before .pre .1) _ _ (c .before .before .before .before .before .before .before .before .before .before .before .before .before .before .before .before .before .before .before .place-at .ensures) (c .before .before .before .before .before .before .before .before .before .before .before .before .before .before .before .before .before .before .cells-from .ensures))
+    (omega (arith, c .before .before .before .row-trees-after .kept .1 .1 .1 .1 .1 .1 .1 .1 .1 .1 .1 .1 .1 .1 .1 .1 .0, c .before .before .before .before .before .before .before .before .begin-row .kept .1 .1 .1 .0, c .before .before .before .before .before .before .before .before .before .before .before .before .before .before .before .before .before .before .before .before .before .pre .1 .room), part-room _ _ _ _ _ _ _ _ _ _ _ _ _ _ _ (c .before .before .before .before .before .before .before .before .before .before .before .before .before .before .before .before .before .before .before .before .before .pre .1) _ _ refl (c .before .before .before .before .before .before .before .before .before .before .before .before .before .before .before .before .row-at .ensures))
 
 row-after-wrapping-add-u32-requires : (t : ℕ) → row-after-lts.Need-wrapping-add-u32-requires (row-after-claims t) (row-after-at t) row-after.Post
 row-after-wrapping-add-u32-requires t c κs =
@@ -624,10 +594,10 @@ row-after-same-length-3 t c =
 
 row-after-returns-3 : (t : ℕ) → row-after-lts.Need-returns-3 (row-after-claims t) (row-after-at t) row-after.Post
 row-after-returns-3 t c =
-    gives-joint-row _ _ _ _ _ _ _ _ _ _ _ _ _ _ _ _ _ _ _ _ (part-old _ _ _ _ _ _ _ (c .before .before .before .before .before .before .before .before .before .before .before .before .before .before .before .before .before .before .before .before .before .place-at .ensures) (c .before .before .before .before .before .before .before .before .before .before .before .before .before .before .before .before .before .before .before .before .cells-from .ensures)) (c .before .before .before .before .before .before .before .before .before .before .before .before .before .before .before .before .before .before .before .kind-at .ensures) (c .before .before .before .before .before .before .before .before .before .before .before .before .before .before .before .before .before .before .uses-at .ensures) (c .before .before .before .before .before .before .before .before .before .before .before .before .before .before .before .before .before .rest-word .ensures) (c .before .before .before .before .before .before .before .before .before .before .before .before .before .before .before .before .meet .ensures) ((by-rows (c .before .before .before .before .before .before .before .before .before .before .before .before .before .before .before .before .meet .result) (c .before .before .before .before .before .before .before .before .before .before .before .before .before .before .before .before .before .before .before .kind-at .result) _ (c .before .before .before .before .before .before .before .before .before .before .before .before .before .before .before .by-cells .ensures) (c .before .before .before .before .before .before .before .before .before .before .before .before .before .before .if1 .left)) .0) _ _ _ _ _ _ _ (c .before .before .before .before .before .before .before .before .before .before .before .before .before .if2 .left) ((by-rows (c .before .before .before .before .before .before .before .before .before .before .before .before .before .before .before .before .meet .result) (c .before .before .before .before .before .before .before .before .before .before .before .before .before .before .before .before .before .before .before .kind-at .result) _ (c .before .before .before .before .before .before .before .before .before .before .before .before .before .before .before .by-cells .ensures) (c .before .before .before .before .before .before .before .before .before .before .before .before .before .before .if1 .left)) .1) (c .before .before .before .before .before .before .before .end-at .ensures) (c .before .before .before .before .before .before .before .before .before .before .before .before .adds-of .ensures) (c .before .before .before .before .before .before .before .before .before .before .begin-row .ensures) (c .before .before .before .before .before .row-trees-after .ensures) (c .before .count-row2 .ensures) (c .wrapping-add-u32 .ensures)
+    gives-joint-row _ _ _ _ _ _ _ _ _ _ _ _ _ _ _ _ _ _ _ _ (part-old _ _ _ _ _ _ _ refl (c .before .before .before .before .before .before .before .before .before .before .before .before .before .before .before .before .before .before .row-at .ensures)) (c .before .before .before .before .before .before .before .before .before .before .before .before .before .before .before .before .before .kind-at .ensures) refl refl (c .before .before .before .before .before .before .before .before .before .before .before .before .before .before .before .before .every-at .ensures) ((by-rows (c .before .before .before .before .before .before .before .before .before .before .before .before .before .before .before .before .every-at .result) (c .before .before .before .before .before .before .before .before .before .before .before .before .before .before .before .before .before .kind-at .result) _ (c .before .before .before .before .before .before .before .before .before .before .before .before .before .before .before .by-cells .ensures) (c .before .before .before .before .before .before .before .before .before .before .before .before .before .before .if1 .left)) .0) _ _ _ _ _ _ _ (c .before .before .before .before .before .before .before .before .before .before .before .before .before .if2 .left) ((by-rows (c .before .before .before .before .before .before .before .before .before .before .before .before .before .before .before .before .every-at .result) (c .before .before .before .before .before .before .before .before .before .before .before .before .before .before .before .before .before .kind-at .result) _ (c .before .before .before .before .before .before .before .before .before .before .before .before .before .before .before .by-cells .ensures) (c .before .before .before .before .before .before .before .before .before .before .before .before .before .before .if1 .left)) .1) (c .before .before .before .before .before .before .before .end-at .ensures) (c .before .before .before .before .before .before .before .before .before .before .before .before .adds-of .ensures) (c .before .before .before .before .before .before .before .before .before .before .begin-row .ensures) (c .before .before .before .before .before .row-trees-after .ensures) (c .before .count-row2 .ensures) (c .wrapping-add-u32 .ensures)
 
 abbrev row-cells-after-Inv-loop : row-cells-after-lts.InvT-loop
-row-cells-after-Inv-loop table firsts ends uses masks cells ports sets c i depth row digits word every out₀ changed₀ x₀ out changed x = RowPassed ports sets c table firsts ends uses masks cells i depth row digits word every out₀ x out changed
+row-cells-after-Inv-loop table firsts ends uses masks cells ports sets c i depth row digits word every out₀ changed₀ x₀ out changed x = RowPassed ports sets (changeIn c) table firsts ends uses masks cells i depth row digits word every out₀ x out changed
 
 abbrev row-cells-after-μ-loop : row-cells-after-lts.MeasureT-loop
 row-cells-after-μ-loop table firsts ends uses masks cells ports sets c i depth row digits word every out₀ changed₀ x₀ out changed x = ports - x
@@ -689,25 +659,17 @@ row-cells-after-returns : (t : ℕ) → row-cells-after-lts.Need-returns (row-ce
 row-cells-after-returns t c =
     row-finished _ _ _ _ _ _ _ _ _ _ _ _ _ _ _ _ (c .before .before .before .before .before .before .before .pre .1) _ _ _ (c .before .loop .inv) (c .loop-test .left)
 
-row-tree-after-place-at-requires : (t : ℕ) → row-tree-after-lts.Need-place-at-requires (row-tree-after-claims t) (row-tree-after-at t) row-tree-after.Post
-row-tree-after-place-at-requires t c κs =
-    (node-low _ _ _ _ _ _ _ _ _ _ _ _ _ _ (first-ready _ _ _ _ _ _ _ _ _ _ _ _ _ _ _ (c .before .before .before .before .pre .1 .begins)), row-low _ _ _ _ _ _ _ _ _ _ _ _ _ _ _ (c .before .before .before .before .pre .1 .begins))
+row-tree-after-row-at-requires : (t : ℕ) → row-tree-after-lts.Need-row-at-requires (row-tree-after-claims t) (row-tree-after-at t) row-tree-after.Post
+row-tree-after-row-at-requires t c κs =
+    (node-low _ _ _ _ _ _ _ _ _ _ _ _ _ _ (first-ready _ _ _ _ _ _ _ _ _ _ _ _ _ _ _ (c .before .before .before .before .pre .1 .begins)), row-low _ _ _ _ _ _ _ _ _ _ _ _ _ _ _ (c .before .before .before .before .pre .1 .begins), omega (arith, row-within _ _ _ _ _ _ _ _ _ _ _ _ _ _ _ (c .before .before .before .before .pre .1 .begins) _ refl))
 
-row-tree-after-cells-from-requires : (t : ℕ) → row-tree-after-lts.Need-cells-from-requires (row-tree-after-claims t) (row-tree-after-at t) row-tree-after.Post
-row-tree-after-cells-from-requires t c κs =
-    omega (arith, row-within _ _ _ _ _ _ _ _ _ _ _ _ _ _ _ (c .before .before .before .before .before .pre .1 .begins) _ (c .place-at .ensures))
-
-row-tree-after-uses-at-requires : (t : ℕ) → row-tree-after-lts.Need-uses-at-requires (row-tree-after-claims t) (row-tree-after-at t) row-tree-after.Post
-row-tree-after-uses-at-requires t c κs =
-    node-low _ _ _ _ _ _ _ _ _ _ _ _ _ _ (first-ready _ _ _ _ _ _ _ _ _ _ _ _ _ _ _ (c .before .before .before .before .before .before .pre .1 .begins))
-
-row-tree-after-meet-requires : (t : ℕ) → row-tree-after-lts.Need-meet-requires (row-tree-after-claims t) (row-tree-after-at t) row-tree-after.Post
-row-tree-after-meet-requires t c κs =
-    search needs
+row-tree-after-touched-at-requires : (t : ℕ) → row-tree-after-lts.Need-touched-at-requires (row-tree-after-claims t) (row-tree-after-at t) row-tree-after.Post
+row-tree-after-touched-at-requires t c κs =
+    node-low _ _ _ _ _ _ _ _ _ _ _ _ _ _ (first-ready _ _ _ _ _ _ _ _ _ _ _ _ _ _ _ (c .before .before .before .before .before .pre .1 .begins))
 
 row-tree-after-keep-row-requires : (t : ℕ) → row-tree-after-lts.Need-keep-row-requires (row-tree-after-claims t) (row-tree-after-at t) row-tree-after.Post
 row-tree-after-keep-row-requires t c κs =
-    (part-room _ _ _ _ _ _ _ _ _ _ _ _ _ _ _ (c .before .before .before .before .before .before .before .before .before .before .pre .1 .begins) _ _ (c .before .before .before .before .before .place-at .ensures) (c .before .before .before .before .cells-from .ensures), c .before .before .before .before .before .before .before .before .before .before .pre .1 .begins .room)
+    (part-room _ _ _ _ _ _ _ _ _ _ _ _ _ _ _ (c .before .before .before .before .before .before .before .before .pre .1 .begins) _ _ refl (c .before .before .before .row-at .ensures), c .before .before .before .before .before .before .before .before .pre .1 .begins .room)
 
 row-tree-after-same-length : (t : ℕ) → row-tree-after-lts.Need-same-length (row-tree-after-claims t) (row-tree-after-at t) row-tree-after.Post
 row-tree-after-same-length t c =
@@ -715,7 +677,7 @@ row-tree-after-same-length t c =
 
 row-tree-after-returns : (t : ℕ) → row-tree-after-lts.Need-returns (row-tree-after-claims t) (row-tree-after-at t) row-tree-after.Post
 row-tree-after-returns t c =
-    joins-kept _ _ _ _ _ _ _ _ _ _ _ _ _ _ _ _ _ (part-old _ _ _ _ _ _ _ (c .before .before .before .before .before .before .before .before .place-at .ensures) (c .before .before .before .before .before .before .before .cells-from .ensures)) _ _ (c .before .before .before .before .before .before .before .before .before .before .before .before .before .pre .1) (c .before .before .before .before .before .before .uses-at .ensures) (sym (c .before .before .before .before .before .meet .ensures) ∙ not-true _ (c .before .before .before .before .if1 .taken)) (c .before .before .keep-row .ensures)
+    joins-kept _ _ _ _ _ _ _ _ _ _ _ _ _ _ _ _ _ (part-old _ _ _ _ _ _ _ refl (c .before .before .before .before .before .before .row-at .ensures)) _ _ (c .before .before .before .before .before .before .before .before .before .before .before .pre .1) refl (sym (c .before .before .before .before .before .touched-at .ensures) ∙ not-true _ (c .before .before .before .before .if1 .taken)) (c .before .before .keep-row .ensures)
 
 row-tree-after-slice-aggregate-row-after :
     (t : ℕ) → row-tree-after-lts.Need-slice-aggregate-row-after (row-tree-after-claims t) (row-tree-after-at t) row-tree-after.Post
@@ -724,7 +686,7 @@ row-tree-after-slice-aggregate-row-after t c =
 
 row-tree-after-row-after-requires : (t : ℕ) → row-tree-after-lts.Need-row-after-requires (row-tree-after-claims t) (row-tree-after-at t) row-tree-after.Post
 row-tree-after-row-after-requires t c κs =
-    (omega (arith, c .before .before .before .before .before .before .before .before .before .before .pre .0), again _ _ _ _ _ _ _ _ _ _ _ _ _ _ _ _ (c .before .before .before .before .before .before .before .before .before .before .pre .1 .begins) (c .before .before .before .before .before .before .before .before .before .before .pre .1 .begins .ready .masks-settled .ports64))
+    (omega (arith, c .before .before .before .before .before .before .before .before .pre .0), again _ _ _ _ _ _ _ _ _ _ _ _ _ _ _ _ (c .before .before .before .before .before .before .before .before .pre .1 .begins) (c .before .before .before .before .before .before .before .before .pre .1 .begins .ready .masks-settled .ports64))
 
 row-tree-after-slice-aggregate-join-row :
     (t : ℕ) → row-tree-after-lts.Need-slice-aggregate-join-row (row-tree-after-claims t) (row-tree-after-at t) row-tree-after.Post
@@ -733,7 +695,7 @@ row-tree-after-slice-aggregate-join-row t c =
 
 row-tree-after-join-row-requires : (t : ℕ) → row-tree-after-lts.Need-join-row-requires (row-tree-after-claims t) (row-tree-after-at t) row-tree-after.Post
 row-tree-after-join-row-requires t c κs =
-    (omega (arith, c .before .before .before .row-after .kept .1 .1 .1 .1 .1 .1 .1 .1 .1 .1 .1 .1 .1 .1 .0, c .before .before .before .before .before .before .before .before .before .before .before .before .before .before .pre .1 .begins .ready .masks-settled .ports64), part-room _ _ _ _ _ _ _ _ _ _ _ _ _ _ _ (c .before .before .before .before .before .before .before .before .before .before .before .before .before .before .pre .1 .begins) _ _ (c .before .before .before .before .before .before .before .before .before .place-at .ensures) (c .before .before .before .before .before .before .before .before .cells-from .ensures), c .before .before .before .before .before .before .before .before .before .before .before .before .before .before .pre .1 .begins .room)
+    (omega (arith, c .before .before .before .row-after .kept .1 .1 .1 .1 .1 .1 .1 .1 .1 .1 .1 .1 .1 .1 .0, c .before .before .before .before .before .before .before .before .before .before .before .before .pre .1 .begins .ready .masks-settled .ports64), part-room _ _ _ _ _ _ _ _ _ _ _ _ _ _ _ (c .before .before .before .before .before .before .before .before .before .before .before .before .pre .1 .begins) _ _ refl (c .before .before .before .before .before .before .before .row-at .ensures), c .before .before .before .before .before .before .before .before .before .before .before .before .pre .1 .begins .room)
 
 row-tree-after-same-length-2 : (t : ℕ) → row-tree-after-lts.Need-same-length-2 (row-tree-after-claims t) (row-tree-after-at t) row-tree-after.Post
 row-tree-after-same-length-2 t c =
@@ -741,10 +703,10 @@ row-tree-after-same-length-2 t c =
 
 row-tree-after-returns-2 : (t : ℕ) → row-tree-after-lts.Need-returns-2 (row-tree-after-claims t) (row-tree-after-at t) row-tree-after.Post
 row-tree-after-returns-2 t c =
-    joins-row _ _ _ _ _ _ _ _ _ _ _ _ _ _ _ _ _ (part-old _ _ _ _ _ _ _ (c .before .before .before .before .before .before .before .before .before .before .before .before .place-at .ensures) (c .before .before .before .before .before .before .before .before .before .before .before .cells-from .ensures)) _ _ _ (c .before .before .before .before .before .before .row-after .ensures) (c .before .before .join-row .ensures)
+    joins-row _ _ _ _ _ _ _ _ _ _ _ _ _ _ _ _ _ (part-old _ _ _ _ _ _ _ refl (c .before .before .before .before .before .before .before .before .before .before .row-at .ensures)) _ _ _ (c .before .before .before .before .before .before .row-after .ensures) (c .before .before .join-row .ensures)
 
 abbrev row-trees-after-Inv-loop : row-trees-after-lts.InvT-loop
-row-trees-after-Inv-loop table firsts ends uses masks cells ports sets c i until depth row digits word add out₀ changed₀ j₀ out changed j = RowsOnward ports sets c table firsts ends uses masks cells j₀ until depth row digits word add out₀ j out changed
+row-trees-after-Inv-loop table firsts ends uses masks cells ports sets c i until depth row digits word add out₀ changed₀ j₀ out changed j = RowsOnward ports sets (changeIn c) table firsts ends uses masks cells j₀ until depth row digits word add out₀ j out changed
 
 abbrev row-trees-after-μ-loop : row-trees-after-lts.MeasureT-loop
 row-trees-after-μ-loop table firsts ends uses masks cells ports sets c i until depth row digits word add out₀ changed₀ j₀ out changed j = until - j
@@ -808,7 +770,7 @@ tree-after-returns-2 t c =
     c .cell-after .ensures
 
 abbrev trees-after-Inv-loop : trees-after-lts.InvT-loop
-trees-after-Inv-loop table firsts ends uses masks cells ports sets c i until depth place digits word add sum₀ j₀ sum j = Onward ports sets c table firsts ends uses masks cells j₀ until depth place digits word add sum₀ j sum
+trees-after-Inv-loop table firsts ends uses masks cells ports sets c i until depth place digits word add sum₀ j₀ sum j = Onward ports sets (changeIn c) table firsts ends uses masks cells j₀ until depth place digits word add sum₀ j sum
 
 abbrev trees-after-μ-loop : trees-after-lts.MeasureT-loop
 trees-after-μ-loop table firsts ends uses masks cells ports sets c i until depth place digits word add sum₀ j₀ sum j = until - j
@@ -817,17 +779,13 @@ trees-after-loop-holds : (t : ℕ) → trees-after-lts.Need-loop-holds (trees-af
 trees-after-loop-holds t c =
     onward-first _ _ _ _ _ _ _ _ _ _ _ _ _ _ _ _ _ (c .before .before .before .pre .1)
 
-trees-after-uses-at-requires : (t : ℕ) → trees-after-lts.Need-uses-at-requires (trees-after-claims t) (trees-after-at t) trees-after.Post trees-after-Inv-loop trees-after-μ-loop
-trees-after-uses-at-requires t c κs =
+trees-after-touched-at-requires : (t : ℕ) → trees-after-lts.Need-touched-at-requires (trees-after-claims t) (trees-after-at t) trees-after.Post trees-after-Inv-loop trees-after-μ-loop
+trees-after-touched-at-requires t c κs =
     node-low _ _ _ _ _ _ _ _ _ _ _ _ _ _ (some-left _ _ _ _ _ _ _ _ _ _ _ _ _ _ _ _ (c .before .loop .inv .ready) (c .loop-test .taken))
-
-trees-after-meet-requires : (t : ℕ) → trees-after-lts.Need-meet-requires (trees-after-claims t) (trees-after-at t) trees-after.Post trees-after-Inv-loop trees-after-μ-loop
-trees-after-meet-requires t c κs =
-    search needs
 
 trees-after-tree-after-requires : (t : ℕ) → trees-after-lts.Need-tree-after-requires (trees-after-claims t) (trees-after-at t) trees-after.Post trees-after-Inv-loop trees-after-μ-loop
 trees-after-tree-after-requires t c κs =
-    (omega (arith, c .before .before .before .before .before .before .before .before .pre .0, c .before .before .before .before .loop .inv .late), touched-ready _ _ _ _ _ _ _ _ _ _ _ _ _ _ (some-left _ _ _ _ _ _ _ _ _ _ _ _ _ _ _ _ (c .before .before .before .before .loop .inv .ready) (c .before .before .before .loop-test .taken)) _ _ (c .before .before .uses-at .ensures) (c .before .meet .ensures) (c .if1 .taken))
+    (omega (arith, c .before .before .before .before .before .before .before .pre .0, c .before .before .before .loop .inv .late), touched-ready _ _ _ _ _ _ _ _ _ _ _ _ _ _ (some-left _ _ _ _ _ _ _ _ _ _ _ _ _ _ _ _ (c .before .before .before .loop .inv .ready) (c .before .before .loop-test .taken)) _ _ refl (c .before .touched-at .ensures) (c .if1 .taken))
 
 trees-after-join-requires : (t : ℕ) → trees-after-lts.Need-join-requires (trees-after-claims t) (trees-after-at t) trees-after.Post trees-after-Inv-loop trees-after-μ-loop
 trees-after-join-requires t c κs =
@@ -835,7 +793,7 @@ trees-after-join-requires t c κs =
 
 trees-after-kept-requires : (t : ℕ) → trees-after-lts.Need-kept-requires (trees-after-claims t) (trees-after-at t) trees-after.Post trees-after-Inv-loop trees-after-μ-loop
 trees-after-kept-requires t c κs =
-    let r = some-left _ _ _ _ _ _ _ _ _ _ _ _ _ _ _ _ (c .before .before .before .before .loop .inv .ready) (c .before .before .before .loop-test .taken) in (node-low _ _ _ _ _ _ _ _ _ _ _ _ _ _ r, cell-room _ _ _ _ _ _ _ _ _ _ _ _ _ _ r)
+    let r = some-left _ _ _ _ _ _ _ _ _ _ _ _ _ _ _ _ (c .before .before .before .loop .inv .ready) (c .before .before .loop-test .taken) in (node-low _ _ _ _ _ _ _ _ _ _ _ _ _ _ r, cell-room _ _ _ _ _ _ _ _ _ _ _ _ _ _ r)
 
 trees-after-join-requires-2 : (t : ℕ) → trees-after-lts.Need-join-requires-2 (trees-after-claims t) (trees-after-at t) trees-after.Post trees-after-Inv-loop trees-after-μ-loop
 trees-after-join-requires-2 t c κs =
@@ -843,15 +801,15 @@ trees-after-join-requires-2 t c κs =
 
 trees-after-end-at-requires : (t : ℕ) → trees-after-lts.Need-end-at-requires (trees-after-claims t) (trees-after-at t) trees-after.Post trees-after-Inv-loop trees-after-μ-loop
 trees-after-end-at-requires t c κs =
-    node-low _ _ _ _ _ _ _ _ _ _ _ _ _ _ (some-left _ _ _ _ _ _ _ _ _ _ _ _ _ _ _ _ (c .before .before .before .before .loop .inv .ready) (c .before .before .before .loop-test .taken))
+    node-low _ _ _ _ _ _ _ _ _ _ _ _ _ _ (some-left _ _ _ _ _ _ _ _ _ _ _ _ _ _ _ _ (c .before .before .before .loop .inv .ready) (c .before .before .loop-test .taken))
 
 trees-after-loop-less : (t : ℕ) → trees-after-lts.Need-loop-less (trees-after-claims t) (trees-after-at t) trees-after.Post trees-after-Inv-loop trees-after-μ-loop
 trees-after-loop-less t c =
-    let n = onward-next _ _ _ _ _ _ _ _ _ _ _ _ _ _ _ _ _ _ _ _ _ (c .before .before .before .before .before .loop .inv) (c .before .before .before .before .loop-test .taken) (c .end-at .ensures) (⊎-elim (λ w. record { found = w .1 .result; gives = w .1 .ensures; joined = subst (λ (x : Sum). Joined _ _ (w .1 .result) x) (sym (w .3)) (w .2 .ensures) }) (λ w. record { found = w .1 .result; gives = gives-untouched _ _ _ _ _ _ _ _ _ _ _ _ _ _ _ _ (w .1 .ensures .0) (c .before .before .before .uses-at .ensures) _ (sym (c .before .before .meet .ensures) ∙ w .0 .left) refl (w .1 .ensures .1) (w .1 .ensures .2); joined = subst (λ (x : Sum). Joined _ _ (w .1 .result) x) (sym (w .3)) (w .2 .ensures) }) (c .before .if1 .came)) in omega (arith, n .0, c .before .before .before .before .loop-test .taken)
+    let n = onward-next _ _ _ _ _ _ _ _ _ _ _ _ _ _ _ _ _ _ _ _ _ (c .before .before .before .before .loop .inv) (c .before .before .before .loop-test .taken) (c .end-at .ensures) (⊎-elim (λ w. record { found = w .1 .result; gives = w .1 .ensures; joined = subst (λ (x : Sum). Joined _ _ (w .1 .result) x) (sym (w .3)) (w .2 .ensures) }) (λ w. record { found = w .1 .result; gives = gives-untouched _ _ _ _ _ _ _ _ _ _ _ _ _ _ _ _ (w .1 .ensures .0) refl _ (sym (c .before .before .touched-at .ensures) ∙ w .0 .left) refl (w .1 .ensures .1) (w .1 .ensures .2); joined = subst (λ (x : Sum). Joined _ _ (w .1 .result) x) (sym (w .3)) (w .2 .ensures) }) (c .before .if1 .came)) in omega (arith, n .0, c .before .before .before .loop-test .taken)
 
 trees-after-loop-again : (t : ℕ) → trees-after-lts.Need-loop-again (trees-after-claims t) (trees-after-at t) trees-after.Post trees-after-Inv-loop trees-after-μ-loop
 trees-after-loop-again t c =
-    onward-next _ _ _ _ _ _ _ _ _ _ _ _ _ _ _ _ _ _ _ _ _ (c .before .before .before .before .before .loop .inv) (c .before .before .before .before .loop-test .taken) (c .end-at .ensures) (⊎-elim (λ w. record { found = w .1 .result; gives = w .1 .ensures; joined = subst (λ (x : Sum). Joined _ _ (w .1 .result) x) (sym (w .3)) (w .2 .ensures) }) (λ w. record { found = w .1 .result; gives = gives-untouched _ _ _ _ _ _ _ _ _ _ _ _ _ _ _ _ (w .1 .ensures .0) (c .before .before .before .uses-at .ensures) _ (sym (c .before .before .meet .ensures) ∙ w .0 .left) refl (w .1 .ensures .1) (w .1 .ensures .2); joined = subst (λ (x : Sum). Joined _ _ (w .1 .result) x) (sym (w .3)) (w .2 .ensures) }) (c .before .if1 .came)) .1
+    onward-next _ _ _ _ _ _ _ _ _ _ _ _ _ _ _ _ _ _ _ _ _ (c .before .before .before .before .loop .inv) (c .before .before .before .loop-test .taken) (c .end-at .ensures) (⊎-elim (λ w. record { found = w .1 .result; gives = w .1 .ensures; joined = subst (λ (x : Sum). Joined _ _ (w .1 .result) x) (sym (w .3)) (w .2 .ensures) }) (λ w. record { found = w .1 .result; gives = gives-untouched _ _ _ _ _ _ _ _ _ _ _ _ _ _ _ _ (w .1 .ensures .0) refl _ (sym (c .before .before .touched-at .ensures) ∙ w .0 .left) refl (w .1 .ensures .1) (w .1 .ensures .2); joined = subst (λ (x : Sum). Joined _ _ (w .1 .result) x) (sym (w .3)) (w .2 .ensures) }) (c .before .if1 .came)) .1
 
 trees-after-returns : (t : ℕ) → trees-after-lts.Need-returns (trees-after-claims t) (trees-after-at t) trees-after.Post trees-after-Inv-loop trees-after-μ-loop
 trees-after-returns t c =
@@ -875,27 +833,24 @@ pub +all-ports-after+cell-after+pair-after+ports-after+row-after+row-cells-after
     (all-ports-after-at t)
     all-ports-after.Post
     (all-ports-after-cell-at-requires t)
-    (all-ports-after-kind-at-requires t)
-    (all-ports-after-adds-of-requires t)
-    (all-ports-after-begin-requires t)
+    (all-ports-after-adds-at-requires t)
     (all-ports-after-mul-row t)
+    (all-ports-after-add-row-at t)
+    (all-ports-after-row-at-requires t)
+    (all-ports-after-slice-aggregate-copy-row t)
+    (all-ports-after-copy-row-requires t)
     (all-ports-after-add-row-after t)
     (all-ports-after-slice-aggregate-row-after t)
     (all-ports-after-row-after-requires t)
-    (all-ports-after-add-place-at t)
-    (all-ports-after-place-at-requires t)
-    (all-ports-after-cells-from-requires t)
-    (all-ports-after-slice-aggregate-gather-row t)
-    (all-ports-after-gather-row-requires t)
-    (all-ports-after-wrapping-add-u32-requires t)
-    (all-ports-after-outcome-requires t)
+    (all-ports-after-slice-aggregate-row-outcome t)
+    (all-ports-after-slice-aggregate-row-outcome-2 t)
+    (all-ports-after-row-outcome-requires t)
     (all-ports-after-returns t))
     (λ t. cell-after-lts.spec (cell-after-claims t)
     (cell-after-at t)
     cell-after.Post
     (cell-after-cell-at-requires t)
-    (cell-after-uses-at-requires t)
-    (cell-after-meet-requires t)
+    (cell-after-touched-at-requires t)
     (cell-after-kept-requires t)
     (cell-after-returns t)
     (cell-after-kind-at-requires t)
@@ -914,6 +869,8 @@ pub +all-ports-after+cell-after+pair-after+ports-after+row-after+row-cells-after
     (λ t. pair-after-lts.spec (pair-after-claims t)
     (pair-after-at t)
     pair-after.Post
+    (pair-after-lower-port-requires t)
+    (pair-after-higher-port-requires t)
     (pair-after-add-cell-after t)
     (pair-after-add-cell-after-2 t)
     (pair-after-with-port-requires t)
@@ -931,14 +888,11 @@ pub +all-ports-after+cell-after+pair-after+ports-after+row-after+row-cells-after
     (λ t. ports-after-lts.spec (ports-after-claims t)
     (ports-after-at t)
     ports-after.Post
-    (ports-after-kind-at-requires t)
-    (ports-after-adds-of-requires t)
+    (ports-after-adds-at-requires t)
     (ports-after-all-ports-after-requires t)
     (ports-after-returns t)
-    (ports-after-add-uses-at t)
-    (ports-after-uses-at-requires t)
-    (ports-after-rest-word-requires t)
-    (ports-after-meet-requires t)
+    (ports-after-add-every-at t)
+    (ports-after-every-at-requires t)
     (ports-after-all-ports-after-requires-2 t)
     (ports-after-returns-2 t)
     (ports-after-cell-at-requires t)
@@ -951,12 +905,9 @@ pub +all-ports-after+cell-after+pair-after+ports-after+row-after+row-cells-after
     (λ t. row-after-lts.spec (row-after-claims t)
     (row-after-at t)
     row-after.Post
-    (row-after-place-at-requires t)
-    (row-after-cells-from-requires t)
+    (row-after-row-at-requires t)
     (row-after-kind-at-requires t)
-    (row-after-uses-at-requires t)
-    (row-after-rest-word-requires t)
-    (row-after-meet-requires t)
+    (row-after-every-at-requires t)
     (row-after-by-cells-requires t)
     (row-after-copy-row-requires t)
     (row-after-row-cells-after-requires t)
@@ -999,10 +950,8 @@ pub +all-ports-after+cell-after+pair-after+ports-after+row-after+row-cells-after
     (λ t. row-tree-after-lts.spec (row-tree-after-claims t)
     (row-tree-after-at t)
     row-tree-after.Post
-    (row-tree-after-place-at-requires t)
-    (row-tree-after-cells-from-requires t)
-    (row-tree-after-uses-at-requires t)
-    (row-tree-after-meet-requires t)
+    (row-tree-after-row-at-requires t)
+    (row-tree-after-touched-at-requires t)
     (row-tree-after-keep-row-requires t)
     (row-tree-after-same-length t)
     (row-tree-after-returns t)
@@ -1040,8 +989,7 @@ pub +all-ports-after+cell-after+pair-after+ports-after+row-after+row-cells-after
     trees-after-Inv-loop
     trees-after-μ-loop
     (trees-after-loop-holds t)
-    (trees-after-uses-at-requires t)
-    (trees-after-meet-requires t)
+    (trees-after-touched-at-requires t)
     (trees-after-tree-after-requires t)
     (trees-after-join-requires t)
     (trees-after-kept-requires t)
