@@ -1,1 +1,3 @@
 -- Laws.
+mod Reading
+mod Roots

@@ -36,8 +36,9 @@ pub record Told (ports sets : ℕ) (bytes firsts ends uses masks cells : List �
   pub joint-long : length joint ≡ 16384
   pub tell : (P : Plan) → decode bytes ≡ sound P → TablesTell P masks cells kinds one still joint left
 
--- Before a legal move of these kinds, with room for the masks after it.
-pub record RootAsked (ports sets : ℕ) (bytes firsts ends uses masks cells : List ℕ) (kinds : ℕ) (one still joint : List ℕ) (left : Left) (m : Move) (work : List ℕ) : Type 0 where
+-- Before a legal move of the kinds that the tables were made for, with room for the masks after it.
+pub record RootAsked (ports sets : ℕ) (bytes firsts ends uses masks cells one still joint : List ℕ) (left : Left) (m : Move) (work : List ℕ) : Type 0 where
+  pub kinds : ℕ
   pub tables-told : Told ports sets bytes firsts ends uses masks cells kinds one still joint left
   pub move-ready : TryReady ports sets bytes firsts ends uses masks cells m work
   pub of-kinds : ofKinds kinds m ≡ true
