@@ -13,7 +13,7 @@ use Rattle.logic.specs.Formula.{root, Forest, none, tree, Plan, childDepth}
 use Rattle.logic.specs.Configuration.{inMasks, ownMasks, spelled, allWithin}
 use Rattle.logic.specs.Cells.{cellCount, ownCells, tabulate}
 use Rattle.logic.specs.Moves.{known, legal}
-use Rattle.logic.specs.Change.{touched, modulus}
+use Rattle.logic.specs.Change.{forestHit, touched, modulus}
 use Rattle.logic.specs.inner.MoveFields.{tEnd, qEnd}
 use Rattle.logic.proofs.Lists.{and-left}
 use Rattle.logic.proofs.MoveFields.{known-fields}
@@ -26,6 +26,7 @@ use Rattle.cells_walk.specs.inner.Visit.{MasksSettled}
 use Rattle.cells_walk.proofs.Rooting.{below-root, formula-is, root-visit}
 use Rattle.cells_walk.proofs.Visits.{touched-here}
 use Rattle.cells_atoms.specs.inner.Atoms.{ofAtoms}
+use Rattle.cells_atoms.proofs.Alike.{or-none}
 use Rattle.cells_atoms.proofs.Plans.{RootedTree, rooted-tree}
 use Rattle.cells_sum.specs.declared.After.{After}
 use Rattle.call_open.specs.inner.Opening.{OpenPlan}
@@ -38,10 +39,6 @@ use Rattle.move_tables.specs.declared.Left.{Left}
 use Rattle.move_try.specs.inner.Trying.{GivesNumbers}
 use Rattle.move_root.specs.inner.Reading.{Readable}
 use Rattle.move_root.specs.inner.Telling.{TablesTell, RootAsked, RootLeft}
-
-childrenOf : Forest → Forest
-childrenOf none = none
-childrenOf (tree n c s) = c
 
 -- a plan's sizes in a list
 sizes-of : (P : Plan) (own : List ℕ) → SizesAre P own (tabulate (P .sets) (spelled P own .size))
@@ -130,15 +127,15 @@ module _ {ports sets : ℕ} {bytes firsts ends uses masks cells one still joint 
 
   -- whether the root is touched
   touched-so : (c : Changed) → Tells m c → touched (changeBy P masks m) root (tree (rooted .node) (rooted .children) none) [] ≡ meets (getD uses 0 0) (firstWord c)
-  unfolding Tells changeBy childrenOf
+  unfolding Tells changeBy touched forestHit
   touched-so c tells =
       let says : Describes ports (changeBy P masks m) c =
       subst (λ (u : ℕ). Describes u (changeBy P masks m) c) (sym (opened .ports-are)) (tells P (inMasks masks) (facts opened .sets16) known-here) in
       let visit = root-visit P bytes (opened .decodes) ports (opened .ports-are) sets (opened .sets-are) c (changeBy P masks m) says firsts ends uses cells
       (opened .indexed) (opened .own-cells) in
-      let same : tree (rooted .node) (rooted .children) none ≡ below-root P bytes (opened .decodes) =
-      ap childrenOf (sym (rooted .formula-is) ∙ formula-is P bytes (opened .decodes)) in
-      ap (λ (f : Forest). touched (changeBy P masks m) root f []) same
+      sym (or-none (touched (changeBy P masks m) root (tree (rooted .node) (rooted .children) none) []))
+      ∙ ap (λ (f : Forest). forestHit (changeBy P masks m) f []) (sym (rooted .formula-is) ∙ formula-is P bytes (opened .decodes))
+      ∙ or-none (touched (changeBy P masks m) root (below-root P bytes (opened .decodes)) [])
       ∙ touched-here ports sets (changeBy P masks m) bytes firsts ends uses cells 0 root (below-root P bytes (opened .decodes)) none 0 0 [] 0 0 (firstWord c) visit
       (sets-fit opened)
 

@@ -17,10 +17,10 @@ ghost use mathlib.Core.Bool.{not};
 ghost use mathlib.Core.List.{[]};
 ghost use Prim.Native.Nat.{_+_, _*_, _%_, _≤_, _<_};
 ghost use lib.ListN.{length};
+ghost use Rattle.logic.specs.Moves.{transfer, swap};
 ghost use Rattle.cells_touch.specs.inner.Hits.{meets};
 ghost use Rattle.move_shares.specs.inner.Shares.{entering, leaving, setBits};
-ghost use Rattle.move_slots.specs.inner.Slots.{slotAt, flipRead, singleRead, moveRead, kindRead, told};
-ghost use Rattle.logic.specs.Moves.{transfer, swap};
+ghost use Rattle.move_slots.specs.inner.Slots.{slotAt, flipRead, singleRead, kindRead, moveRead, told};
 ghost use Rattle.move_root.specs.inner.Reading.{Readable, SlotFits, ReadRoom};
 ghost use Rattle.move_root.specs.inner.Telling.{RootAsked, RootLeft};
 
@@ -108,10 +108,8 @@ fn transfer_read(one: &[u32], still: &[u32], joint: &[u32], test: u64, m: Move) 
     let t = wide(m.t);
     let dropped = single_read(one, still, s, leaving_size(test, m.p), m.p);
     let added = single_read(one, still, t, entering_size(test, m.p), m.p);
-    wrapping_add_u32(
-        wrapping_add_u32(dropped, added),
-        slot_read(joint, 16 * s + t, m.p),
-    )
+    let beyond = slot_read(joint, 16 * s + t, m.p);
+    wrapping_add_u32(wrapping_add_u32(dropped, added), beyond)
 }
 
 // What a swap brings: the set is resized once, and flips at both ports.
@@ -121,10 +119,9 @@ fn swap_read(one: &[u32], still: &[u32], test: u64, m: Move) -> u32
 {
     let s = wide(m.s);
     let outcome = leaving_size(test, m.p) + entering_size(test, m.q) - 1;
-    wrapping_add_u32(
-        single_read(one, still, s, outcome, m.p),
-        flip_read(one, s, outcome, m.q),
-    )
+    let first = single_read(one, still, s, outcome, m.p);
+    let second = flip_read(one, s, outcome, m.q);
+    wrapping_add_u32(first, second)
 }
 
 // What the tables say of a move.

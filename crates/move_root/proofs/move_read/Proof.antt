@@ -26,7 +26,7 @@ entering-size-requires c κs = search needs
 
 single-read-requires : tie.Need-single-read-requires
 single-read-requires c κs =
-    (record { s-low = omega (arith, c .before .before .before .wide .ensures .0, c .before .before .before .before .before .before .before .before .before .before .before .pre .0 .s-low); outcome-low = c .entering-size .ensures .2; p-low = c .before .before .before .before .before .before .before .before .before .before .before .pre .0 .p-low }, c .before .before .before .before .before .before .before .before .before .before .before .pre .1)
+    (record { s-low = omega (arith, c .before .before .before .wide .ensures, c .before .before .before .before .before .before .before .before .before .before .before .pre .0); outcome-low = omega (arith, c .entering-size .ensures); p-low = omega (arith, c .before .before .before .before .before .before .before .before .before .before .before .pre .0) }, c .before .before .before .before .before .before .before .before .before .before .before .pre .1)
 
 returns-3 : tie.Need-returns-3
 returns-3 c =
@@ -37,7 +37,7 @@ leaving-size-requires c κs = search needs
 
 single-read-requires-2 : tie.Need-single-read-requires-2
 single-read-requires-2 c κs =
-    (record { s-low = omega (arith, c .before .before .before .wide .ensures .0, c .before .before .before .before .before .before .before .before .before .before .before .pre .0 .s-low); outcome-low = omega (arith, c .leaving-size .ensures .1); p-low = c .before .before .before .before .before .before .before .before .before .before .before .pre .0 .p-low }, c .before .before .before .before .before .before .before .before .before .before .before .pre .1)
+    (record { s-low = omega (arith, c .before .before .before .wide .ensures, c .before .before .before .before .before .before .before .before .before .before .before .pre .0); outcome-low = omega (arith, c .leaving-size .ensures); p-low = omega (arith, c .before .before .before .before .before .before .before .before .before .before .before .pre .0) }, c .before .before .before .before .before .before .before .before .before .before .before .pre .1)
 
 returns-4 : tie.Need-returns-4
 returns-4 c =

@@ -15,19 +15,19 @@ entering-size-requires c κs = search needs
 
 add-outcome : tie.Need-add-outcome
 add-outcome c =
-    omega (arith, c .before .leaving-size .ensures .1, c .entering-size .ensures .2)
+    omega (arith, c .before .leaving-size .ensures, c .entering-size .ensures)
 
 sub-outcome : tie.Need-sub-outcome
 sub-outcome c =
-    omega (arith, c .entering-size .ensures .1)
+    omega (arith, c .entering-size .ensures)
 
 single-read-requires : tie.Need-single-read-requires
 single-read-requires c κs =
-    (record { s-low = omega (arith, c .before .before .wide .ensures .0, c .before .before .before .before .before .pre .0 .s-low); outcome-low = omega (arith, c .before .leaving-size .ensures .1, c .entering-size .ensures .2); p-low = c .before .before .before .before .before .pre .0 .p-low }, c .before .before .before .before .before .pre .1)
+    (record { s-low = omega (arith, c .before .before .wide .ensures, c .before .before .before .before .before .pre .0); outcome-low = omega (arith, c .before .leaving-size .ensures, c .entering-size .ensures); p-low = omega (arith, c .before .before .before .before .before .pre .0) }, c .before .before .before .before .before .pre .1)
 
 flip-read-requires : tie.Need-flip-read-requires
 flip-read-requires c κs =
-    (record { s-low = omega (arith, c .before .before .before .wide .ensures .0, c .before .before .before .before .before .before .pre .0 .s-low); outcome-low = omega (arith, c .before .before .leaving-size .ensures .1, c .before .entering-size .ensures .2); p-low = c .before .before .before .before .before .before .pre .0 .q-low }, c .before .before .before .before .before .before .pre .1 .one-long)
+    (record { s-low = omega (arith, c .before .before .before .wide .ensures, c .before .before .before .before .before .before .pre .0); outcome-low = omega (arith, c .before .before .leaving-size .ensures, c .before .entering-size .ensures); p-low = omega (arith, c .before .before .before .before .before .before .pre .0) }, c .before .before .before .before .before .before .pre .1 .one-long)
 
 wrapping-add-u32-requires : tie.Need-wrapping-add-u32-requires
 wrapping-add-u32-requires c κs = search needs
