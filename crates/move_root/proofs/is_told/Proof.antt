@@ -18,7 +18,7 @@ is-free-requires-2 c κs = search needs
 
 returns-2 : tie.Need-returns-2
 returns-2 c =
-    c .is-free2 .ensures ∙ told-transfer _ _ _ (c .before .if2 .taken) (sym (c .before .before .before .before .is-free .ensures) ∙ not-false _ (c .before .before .before .if1 .left))
+    c .is-free2 .ensures ∙ told-transfer _ (c .before .before .before .before .before .args .left .crossed) (c .before .before .before .before .before .args .m) (c .before .if2 .taken) (sym (c .before .before .before .before .is-free .ensures) ∙ not-false _ (c .before .before .before .if1 .left))
 
 mul-has-port : tie.Need-mul-has-port
 mul-has-port c = search needs
@@ -28,7 +28,7 @@ has-port-requires c κs = search needs
 
 returns-3 : tie.Need-returns-3
 returns-3 c =
-    ap not (c .has-port .ensures) ∙ told-swap _ _ _ (c .before .before .if3 .taken) (sym (c .before .before .before .before .before .before .before .is-free .ensures) ∙ not-false _ (c .before .before .before .before .before .before .if1 .left))
+    ap not (c .has-port .ensures) ∙ told-swap _ _ (c .before .before .before .before .before .before .before .before .args .m) (c .before .before .if3 .taken) (sym (c .before .before .before .before .before .before .before .is-free .ensures) ∙ not-false _ (c .before .before .before .before .before .before .if1 .left))
 
 returns-4 : tie.Need-returns-4
 returns-4 c =

@@ -30,7 +30,7 @@ single-read-requires c κs =
 
 returns-3 : tie.Need-returns-3
 returns-3 c =
-    read-add _ _ _ _ _ (c .before .before .if3 .taken) (c .before .before .before .before .wide .ensures .0) (c .before .entering-size .ensures .0) (c .single-read .ensures)
+    read-add _ _ (c .before .before .before .before .before .before .before .before .before .before .before .before .args .test) (c .before .before .before .before .before .before .before .before .before .before .before .before .args .m) _ (c .before .before .if3 .taken) (c .before .before .before .before .wide .ensures .0) (c .before .entering-size .ensures .0) (c .single-read .ensures)
 
 leaving-size-requires : tie.Need-leaving-size-requires
 leaving-size-requires c κs = search needs
@@ -41,7 +41,7 @@ single-read-requires-2 c κs =
 
 returns-4 : tie.Need-returns-4
 returns-4 c =
-    read-drop _ _ _ _ _ (c .before .before .before .before .before .before .before .before .before .before .before .before .pre .0) (c .before .before .before .before .before .before .before .if1 .left) (c .before .before .before .before .before .if2 .left) (c .before .before .if3 .left) (c .before .before .before .before .wide .ensures .0) (c .before .leaving-size .ensures .0) (c .single-read2 .ensures)
+    read-drop _ _ (c .before .before .before .before .before .before .before .before .before .before .before .before .args .test) (c .before .before .before .before .before .before .before .before .before .before .before .before .args .m) _ (c .before .before .before .before .before .before .before .before .before .before .before .before .pre .0) (c .before .before .before .before .before .before .before .if1 .left) (c .before .before .before .before .before .if2 .left) (c .before .before .if3 .left) (c .before .before .before .before .wide .ensures .0) (c .before .leaving-size .ensures .0) (c .single-read2 .ensures)
 
 pub move-read-spec : {M : Type 1} → statement M
 move-read-spec =
