@@ -14,8 +14,7 @@ use Rattle.logic.proofs.Touched.{treesTouched, PortsBelow, Inner, touched-below
 use Rattle.cells_walk.specs.inner.Below.{Directly}
 use Rattle.cells_walk.proofs.Frame.{below-directly}
 use Rattle.cells_atoms.specs.inner.Alike.{AlikeAt, Alike}
-use Rattle.cells_atoms.specs.inner.Atoms.{overAtoms, EachAtom, difference, Regular, AllRegular}
-use Rattle.cells_atoms.proofs.Over.{each-by, over-same}
+use Rattle.cells_atoms.specs.inner.Atoms.{Regular, AllRegular}
 
 pub or-none : (b : Bool) → (b || false) ≡ b
 or-none true = refl
@@ -85,7 +84,7 @@ module _ (u : ℕ) (u1 : 1 ≤ u) (k : Configuration) (ch : Change) (k′ : Conf
         (cell-from n c b d e (r .0) (a .0) h (λ x w. renewals-alike c (b + u ^ d) (childDepth n d) x (r .1) (a .1 x w))))
         (renewals-alike s (siblingFirst u n c b d) d e (r .2) (a .2))
 
-    -- Of a cell at which two changes are alike: it is touched by both or by neither, and has the same new number and difference.
+    -- Of a cell at which two changes are alike: it is touched by both or by neither, and has the same new number.
     module _ (n : Node) (c : Forest) (b d : ℕ) (e : Tuple) (r : AllRegular (tree n c none) d) (a : Alike u k ch k′ ch′ (tree n c none) e) where
       pub touched-alike : touched ch n c e ≡ touched ch′ n c e
       unfolding Alike AllRegular Every
@@ -94,20 +93,3 @@ module _ (u : ℕ) (u1 : 1 ≤ u) (k : Configuration) (ch : Change) (k′ : Conf
       pub new-cell-alike : newCell u k ch t n c b d e ≡ newCell u k′ ch′ t n c b d e
       unfolding Alike AllRegular Every
       new-cell-alike = cell-from n c b d e (r .0) (a .0) touched-alike (λ x w. renewals-alike c (b + u ^ d) (childDepth n d) x (r .1) (a .1 x w))
-
-      pub difference-alike : difference u k ch t n c b d e ≡ difference u k′ ch′ t n c b d e
-      unfolding difference
-      difference-alike = rw (touched-alike, new-cell-alike)
-
-    -- so changes that are alike at each atom's cells have the same sum
-    pub over-alike : (f : Forest) (b d : ℕ) (e : Tuple) → AllRegular f d → EachAtom u (λ n c b d e. Alike u k ch k′ ch′ (tree n c none) e) f b d e
-        → overAtoms u (difference u k ch t) f b d e ≡ overAtoms u (difference u k′ ch′ t) f b d e
-    unfolding AllRegular Every EachAtom
-    over-alike f b d e r a =
-        over-same u _ _ f b d e
-        (each-by u (λ n c b d e. difference u k ch t n c b d e ≡ difference u k′ ch′ t n c b d e)
-        (λ f b d e. AllRegular f d × EachAtom u (λ n c b d e. Alike u k ch k′ ch′ (tree n c none) e) f b d e)
-        (λ n c s b d e x g i w. (g .0 .1, g .1 .1 i x w))
-        (λ n c s b d e g. (g .0 .2, g .1 .2))
-        (λ n c s b d e g i. difference-alike n c b d e (g .0 .0, g .0 .1, tt) (g .1 .0 i))
-        f b d e (r, a))

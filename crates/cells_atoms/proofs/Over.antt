@@ -1,5 +1,5 @@
 -- Sums over atoms, term by term. Assumes nothing.
-use mathlib.Core.Path.{_≡_, refl, ap₂}
+use mathlib.Core.Path.{_≡_, refl}
 use mathlib.Core.Bool.{Bool, true, false, cond}
 use mathlib.Core.List.{[], _∷_}
 use Prim.Native.Nat.{ℕ, zero, suc, _+_, _^_, _%_, _<_}
@@ -68,18 +68,7 @@ pub sum-mod : (a b x y : ℕ) → a % modulus ≡ b % modulus → x % modulus �
 unfolding modulus
 sum-mod a b x y h i = omega arith
 
--- Two rules that agree at every cell of every atom have the same sum, modulo 2^32 too; a rule that is 0 there has the sum 0.
-module _ (u : ℕ) (g h : CellRule) (f : Forest) (b d : ℕ) (e : Tuple) where
-  pub over-same : EachAtom u (λ n c b d e. g n c b d e ≡ h n c b d e) f b d e → overAtoms u g f b d e ≡ overAtoms u h f b d e
-  over-same = over-kept (λ x y z. x ≡ y) refl (λ a b c x y z i j. ap₂ _+_ i j) u g h h f b d e
-
-  pub over-mod : EachAtom u (λ n c b d e. g n c b d e % modulus ≡ h n c b d e % modulus) f b d e → overAtoms u g f b d e % modulus ≡ overAtoms u h f b d e % modulus
-  over-mod = over-kept (λ x y z. x % modulus ≡ y % modulus) refl (λ a b c x y z i j. sum-mod a b x y i j) u g h h f b d e
-
-  pub over-two : overAtoms u (λ n c b d e. g n c b d e + h n c b d e) f b d e ≡ overAtoms u g f b d e + overAtoms u h f b d e
-  over-two = over-kept (λ x y z. x ≡ y + z) refl (λ a b c x y z i j. omega arith) u (λ n c b d e. g n c b d e + h n c b d e) g h f b d e
-      (each-by u (λ n c b d e. g n c b d e + h n c b d e ≡ g n c b d e + h n c b d e) (λ f b d e. Unit {0}) (λ n c s b d e x g i w. tt) (λ n c s b d e g. tt) (λ n c s b d e g i. refl) f b d e tt)
-
+-- A rule that is 0 at every cell of every atom has the sum 0.
 pub over-zero : (u : ℕ) (g : CellRule) (f : Forest) (b d : ℕ) (e : Tuple) → EachAtom u (λ n c b d e. g n c b d e ≡ 0) f b d e → overAtoms u g f b d e ≡ 0
 over-zero u g f b d e = over-kept (λ x y z. x ≡ 0) refl (λ a b c x y z i j. omega arith) u g g g f b d e
 

@@ -1,5 +1,4 @@
 -- What only proofs and inner contracts use.
 pub mod Alike
 pub mod Atoms
-pub mod Parts
 pub mod Ports

@@ -27,7 +27,7 @@ use Rattle.cells_touch.proofs.Bits.{meets-bit, in-zero}
 use Rattle.cells_walk.specs.inner.Visit.{CellsFit}
 use Rattle.cells_walk.proofs.Steps.{port-of-lt}
 use Rattle.cells_atoms.proofs.Over.{sum-mod, ports-mod, ports-zero}
-use Rattle.cells_atoms.proofs.Rows.{one-port}
+use Rattle.cells_atoms.proofs.Ports.{one-port}
 use Rattle.cells_flip.specs.inner.Flips.{Flipped, FlipVisit, FlipSettled, FlipGives}
 use Rattle.cells_flip.proofs.Flipping.{old-here, gives-kept}
 use Rattle.cells_ports.specs.inner.Ports.{Words, Resizes, resizedBy, flippedBy, RowPortsGive}

@@ -28,7 +28,7 @@ use Rattle.cells_atoms.specs.inner.Alike.{AlikeAt, Alike}
 use Rattle.cells_atoms.specs.inner.Atoms.{overTuples, difference}
 use Rattle.cells_atoms.proofs.Alike.{new-cell-alike}
 use Rattle.cells_atoms.proofs.Atoms.{difference-is, new-cell-fits}
-use Rattle.cells_atoms.proofs.Parts.{by-way-of}
+use Rattle.cells_atoms.proofs.Ports.{by-way-of}
 use Rattle.cells_atoms.proofs.Tuples.{tuples-two, tuples-mod}
 use Rattle.cells_ports.specs.inner.Ports.{resizedBy, flippedBy}
 use Rattle.move_shares.specs.inner.Shares.{configurationAfter, changeBy, shareOf, entering, leaving, Outcome, changing, sizedAs, pairsOf, resizing, flipping, resizedTo, flippedTo, resizedShare, flippedShare, wholeShare, SizesAre, ShareReady, TreeReady}

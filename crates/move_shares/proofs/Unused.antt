@@ -261,14 +261,3 @@ module _ (P : Plan) (own before sizes : List ℕ) (ready : ShareReady P own befo
           resized-same = λ S i. other-same sizes S (s, j) [] [] (size-other S i) (none-same sizes S) .named;
           sizes-same = λ S i. other-same sizes S (s, j) [] [] (size-other S i) (none-same sizes S) .sized;
         }
-
-    pub unused-size-flip : (j l x : ℕ) → x < P .ports
-        → flippedShare (P .ports) own sizes before ((s, j) ∷ []) x n c b d % modulus ≡ flippedShare (P .ports) own sizes before ((s, l) ∷ []) x n c b d % modulus
-    unfolding changing someOf pairsOf
-    unused-size-flip j l x low =
-        flipped-share ((s, j) ∷ []) ((s, l) ∷ []) record { named-same = λ S v i a. refl; flips-same = λ S v i a y k p. refl }
-        record {
-          resized-same = λ S i. refl;
-          sizes-same = λ S i. other-same sizes S (s, j) [] [] (size-other S i) (none-same sizes S) .sized
-              ∙ sym (other-same sizes S (s, l) [] [] (size-other S i) (none-same sizes S) .sized);
-        } x low
