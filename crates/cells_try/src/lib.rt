@@ -281,8 +281,8 @@ fn ports_after(
     outcome(old, r)
 }
 
-// The same from the row of its child. It is called from two places, so that the compiler keeps its rows out of the frame of
-// `cell_after`, of which there is one for each level of the plan.
+// The same from the row of its child. It is called from two places and copies the old row, so that the compiler keeps its rows out of
+// the frame of `cell_after`, of which there is one for each level of the plan.
 fn all_ports_after(
     table: &[u8],
     firsts: &[u32; 512],
