@@ -1,12 +1,11 @@
 -- The trees of a forest gone into the tables one after the other. Assumes nothing.
-use mathlib.Core.Path.{_≡_, refl, sym, ap, ap₂, _∙_, subst}
+use mathlib.Core.Path.{_≡_, refl, sym, ap, _∙_, subst}
 use mathlib.Core.Bool.{Bool, true, false, cond, false≢true}
 use mathlib.Core.List.{List}
-use Prim.Native.Nat.{ℕ, zero, suc, _+_, _*_, _^_, _%_, _≤_, _<_}
+use Prim.Native.Nat.{ℕ, suc, _+_, _*_, _^_, _%_, _≤_, _<_}
 use native.Mathlib.Omega.{arith}
 use lib.Dec.{eqb}
 use lib.ListN.{length, getD}
-use Rattle.logic.specs.declared.Move.{Move}
 use Rattle.logic.specs.Formula.{Node, Forest, none, tree, Plan, nodeCount, childDepth}
 use Rattle.logic.specs.inner.Literals.{Every}
 use Rattle.logic.specs.Cells.{cellCount, siblingFirst}
@@ -18,7 +17,7 @@ use Rattle.cells_atoms.proofs.Over.{sum-mod}
 use Rattle.move_shares.specs.inner.Shares.{shareOf}
 use Rattle.move_slots.specs.inner.Slots.{moveRead}
 use Rattle.move_tables.specs.declared.Left.{Left}
-use Rattle.move_tables.specs.inner.Taking.{isSum, ForestStands, MovesTaken, TableRoom, TakeReady, TakesTree, TakeAllReady, TakesAll}
+use Rattle.move_tables.specs.inner.Taking.{isSum, ForestStands, MovesTaken, TakeReady, TakesTree, TakeAllReady, TakesAll}
 use Rattle.move_tables.proofs.Standing.{node-low, end-here, sum-here}
 
 -- Where the children stand, and the siblings.

@@ -1,19 +1,18 @@
 -- What filling the tables asks, and what full tables tell. Assumes nothing.
 use mathlib.Core.Path.{_≡_, refl, sym, ap, ap₂, _∙_, subst}
 use mathlib.Core.Logic.{_≢_}
-use mathlib.Core.Bool.{Bool, true, false, cond, not, _&&_, true≢false, false≢true}
-use mathlib.Core.List.{List, []}
+use mathlib.Core.Bool.{Bool, true, false, not, true≢false}
+use mathlib.Core.List.{List}
 use Prim.Native.Nat.{ℕ, zero, suc, _+_, _*_, _/_, _^_, _%_, _≤_, _<_}
 use native.Mathlib.Nat.{pow-zero}
 use native.Mathlib.Omega.{arith}
 use lib.Dec.{eqb}
 use borrow.Author.Tests.{not-true}
-use lib.ListN.{length, getD, take}
+use lib.ListN.{length, getD}
 use lib.Seq.{take-all}
 use Rattle.logic.specs.declared.Move.{Move}
 use Rattle.logic.specs.Formula.{Node, root, Forest, none, tree, Plan, nodeCount, childDepth}
 use Rattle.logic.specs.inner.Literals.{Every}
-use Rattle.logic.specs.inner.MoveFields.{Fields}
 use Rattle.logic.specs.Configuration.{portsIn, outOfTest, configured, configuration, spelled, inMask, inMasks, ownMasks, allWithin}
 use Rattle.logic.specs.Cells.{cellCount, ownCells}
 use Rattle.logic.specs.Moves.{MoveKind, add, drop, transfer, swap, unknown, moveKind, kindWeight, known, fits, legal, ofKinds}
@@ -33,12 +32,12 @@ use Rattle.cells_walk.proofs.Holding.{plan-holds, plan-fits}
 use Rattle.cells_atoms.specs.inner.Atoms.{ofAtoms}
 use Rattle.cells_atoms.proofs.Plans.{rooted-tree}
 use Rattle.call_open.specs.inner.Opening.{OpenTables}
-use Rattle.call_open.proofs.OpenPlan.{facts, same-plan, masks-ready, masks-long}
-use Rattle.move_shares.specs.inner.Shares.{entering, leaving, exchanged, shareOf, ShareReady, SizesAre, setBits}
+use Rattle.call_open.proofs.OpenPlan.{facts, same-plan, masks-ready}
+use Rattle.move_shares.specs.inner.Shares.{entering, leaving, exchanged, shareOf, SizesAre, setBits}
 use Rattle.move_shares.proofs.Unused.{in-set}
 use Rattle.move_slots.specs.inner.Slots.{slotAt, stillRead, flipRead, singleRead, jointRead, kindRead, moveRead, kindTold, told}
 use Rattle.move_tables.specs.declared.Left.{Left}
-use Rattle.move_tables.specs.inner.Taking.{PlanGiven, ForestStands, MovesTaken, TableRoom, TakeAllReady, TakesAll}
+use Rattle.move_tables.specs.inner.Taking.{PlanGiven, ForestStands, MovesTaken, TakeAllReady, TakesAll}
 use Rattle.move_root.specs.inner.Telling.{TablesTell, Told}
 use Rattle.move_fill.specs.inner.Filling.{SizesSet, AllZero, FillReady}
 
@@ -94,8 +93,10 @@ nothing-read one still joint a b c test m = by-kind (moveKind (m .kind))
   where
     flip-none : (s j x : ℕ) → flipRead one s j x ≡ 0
     flip-none s j x = ap₂ _+_ (a (64 * (4 * s + j) + x)) (a (64 * (4 * s + 3) + x))
+
     single-none : (s j x : ℕ) → singleRead one still s j x ≡ 0
     single-none s j x = ap₂ _+_ (b (4 * s + j)) (flip-none s j x)
+
     by-kind : (κ : MoveKind) → kindRead κ one still joint test m ≡ 0
     by-kind add = single-none (m .s) (entering test (m .p)) (m .p)
     by-kind drop = single-none (m .s) (leaving test (m .p)) (m .p)

@@ -26,6 +26,7 @@ one-set masks sets s value sizes h l v k = (length-set sizes s value, record { a
         ap (λ (x : ℕ). getD (set sizes s value) x 0) e ∙ getD-set-same sizes s value 0 l ∙ v
         ∙ ap (λ (x : ℕ). portsIn 64 (outOfTest (inMasks masks x) (inMasks masks sets))) (sym e)
     which S i (no n) = getD-set-other sizes s S value 0 n ∙ h .are S (omega arith)
+
     small : (S : ℕ) → Dec (S ≡ s) → getD (set sizes s value) S 0 ≤ 64
     small S (yes e) = subst (λ (x : ℕ). x ≤ 64) (sym (ap (λ (x : ℕ). getD (set sizes s value) x 0) e ∙ getD-set-same sizes s value 0 l)) k
     small S (no n) = subst (λ (x : ℕ). x ≤ 64) (sym (getD-set-other sizes s S value 0 n)) (h .low S)

@@ -1,6 +1,6 @@
 -- A move of sets that a tree does not use has no share of it. Assumes nothing.
-use mathlib.Core.Path.{_≡_, refl, sym, ap, ap₂, _∙_}
-use mathlib.Core.Bool.{Bool, true, false, _&&_, _||_, true≢false}
+use mathlib.Core.Path.{_≡_, refl, ap, _∙_}
+use mathlib.Core.Bool.{Bool, true, false, _&&_, _||_}
 use mathlib.Core.List.{List, [], _∷_}
 use Prim.Native.Nat.{ℕ, _+_, _-_, _*_, _%_, _<_}
 use native.Mathlib.Omega.{arith}
@@ -12,14 +12,13 @@ use Rattle.logic.specs.Configuration.{inMask, inMasks}
 use Rattle.logic.specs.Truth.{Tuple, portOf}
 use Rattle.logic.specs.Moves.{Pair, legal, known, fits, movePairs}
 use Rattle.logic.specs.Change.{someOf, pairsChange, memberHit, forestHit, touched, modulus, cellOf, newCell}
-use Rattle.logic.proofs.Lists.{and-left, or-left, or-false, and-false}
+use Rattle.logic.proofs.Lists.{and-left, or-left, or-false}
 use Rattle.logic.proofs.Moves.{known-pairs, known-ports}
 use Rattle.logic.proofs.Touched.{PortsBelow}
 use Rattle.logic.proofs.Changed.{untouched-kept}
 use Rattle.table_format.specs.inner.Index.{forestUses}
 use Rattle.cells_touch.specs.inner.Hits.{meets}
 use Rattle.cells_walk.specs.inner.Visit.{CellsFit}
-use Rattle.cells_atoms.specs.inner.Atoms.{difference}
 use Rattle.cells_atoms.proofs.Atoms.{difference-is}
 use Rattle.move_shares.specs.inner.Shares.{configurationAfter, changeBy, shareOf, resizing, changing, ShareReady, TreeReady, setBits}
 use Rattle.move_shares.proofs.Alike.{any-alike, tuples-none}

@@ -1,13 +1,12 @@
 -- Nodes without quantifiers, one after the other, and the forest of which they are. Assumes nothing.
 use mathlib.Core.Path.{_≡_, sym, ap, _∙_}
-use mathlib.Core.Bool.{Bool, true, false, _&&_}
-use Prim.Native.Nat.{ℕ, suc, _+_, _^_, _≤_, _<_}
+use mathlib.Core.Bool.{false, _&&_}
+use Prim.Native.Nat.{ℕ, suc, _+_, _^_, _≤_}
 use native.Mathlib.Decide.{ℕ-discrete}
 use native.Mathlib.Omega.{arith}
 use lib.Dec.{leb}
-use lib.ListN.{length}
 use mathlib.Core.List.{List}
-use Rattle.logic.specs.Formula.{Node, Forest, none, tree, kindNumber, nodeCount, childDepth}
+use Rattle.logic.specs.Formula.{Forest, none, tree, nodeCount, childDepth}
 use Rattle.logic.specs.inner.Literals.{Every}
 use Rattle.logic.specs.Cells.{siblingFirst}
 use Rattle.table_format.specs.Bytes.{kindField, recordAt}

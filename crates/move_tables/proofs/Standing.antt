@@ -1,8 +1,8 @@
 -- A tree of the formula among the tables: what the steps over it ask. Assumes nothing.
 use mathlib.Core.Path.{_≡_, refl, sym, ap, _∙_, subst}
-use mathlib.Core.Bool.{Bool, true, false, cond, _&&_, true≢false, false≢true}
+use mathlib.Core.Bool.{true, false, cond, _&&_, true≢false, false≢true}
 use mathlib.Core.List.{List}
-use Prim.Native.Nat.{ℕ, zero, suc, _+_, _*_, _^_, _%_, _≤_, _<_}
+use Prim.Native.Nat.{ℕ, suc, _+_, _*_, _^_, _%_, _≤_, _<_}
 use lib.Dec.{eqb, ltb}
 use native.Mathlib.Omega.{arith}
 use lib.Bits.{bitOr, or-zero-r}
@@ -82,9 +82,11 @@ module _ {u sets : ℕ} {bytes firsts ends uses cells : List ℕ} {i : ℕ} {n :
   flat-asked until e =
       let a = alone in
       let r : until ≡ i + suc (nodeCount c) = e ∙ end-here in
-      let k : i + suc (nodeCount c) ≡ i + nodeCount (tree n c none) = omega arith in
-      (omega (arith, a .nodes), subst (λ (x : ℕ). recordLength * x ≤ length (recordsOf bytes)) (sym (r ∙ k))
-      (records-long u bytes firsts ends uses i (tree n c none) b d (a .holds) (omega arith)))
+      let k : i + suc (nodeCount c) ≡ i + nodeCount (tree n c none) = omega arith in (
+        omega (arith, a .nodes),
+        subst (λ (x : ℕ). recordLength * x ≤ length (recordsOf bytes)) (sym (r ∙ k))
+            (records-long u bytes firsts ends uses i (tree n c none) b d (a .holds) (omega arith)),
+      )
 
   pub flat-here : (until : ℕ) → until ≡ getD ends i 0 → NoneBinds bytes i until → Flat (tree n c none) d
   unfolding nodeCount

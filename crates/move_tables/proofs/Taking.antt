@@ -1,20 +1,20 @@
 -- An atom gone into the tables: what they say of each move grows by the move's share of it. Assumes nothing.
 use mathlib.Core.Path.{_≡_, refl, sym, ap, ap₂, _∙_, subst}
 use mathlib.Core.Logic.{_≢_}
-use mathlib.Core.Bool.{Bool, true, false, cond, not, _&&_, _||_, true≢false, false≢true}
+use mathlib.Core.Bool.{Bool, true, false, cond, not, _||_, false≢true}
 use mathlib.Core.List.{List, [], _∷_}
 use Prim.Native.Nat.{ℕ, zero, suc, _+_, _*_, _^_, _%_, _≤_, _<_}
 use native.Mathlib.Omega.{arith}
 use lib.Bits.{bitOr}
 use lib.ListN.{getD}
-use borrow.Author.Tests.{not-true, not-false, eqb-false}
+use borrow.Author.Tests.{not-true, eqb-false}
 use Rattle.logic.specs.declared.Move.{Move}
 use Rattle.logic.specs.Formula.{Node, Forest, none, tree, Plan, childDepth}
 use Rattle.logic.specs.Configuration.{inMask, inMasks}
 use Rattle.logic.specs.Moves.{MoveKind, add, drop, transfer, swap, unknown, moveKind, kindPairs, movePairs, namedPairs, fieldsFit, fits, known, legal}
 use Rattle.logic.specs.Change.{modulus}
 use Rattle.logic.specs.inner.MoveFields.{tEnd, qEnd, Fields}
-use Rattle.logic.proofs.Lists.{and-left, and-right, and-true, or-left, or-right}
+use Rattle.logic.proofs.Lists.{and-left, and-right, and-true}
 use Rattle.logic.proofs.MoveFields.{known-fields}
 use Rattle.table_format.specs.inner.Index.{forestUses}
 use Rattle.cells_touch.specs.inner.Hits.{meets}
@@ -22,11 +22,11 @@ use Rattle.cells_touch.proofs.Bits.{in-or, meets-or}
 use Rattle.cells_atoms.specs.inner.Atoms.{isAtom, ofAtoms}
 use Rattle.cells_atoms.proofs.Over.{sum-mod}
 use Rattle.cells_flip.specs.inner.Flips.{Flat}
-use Rattle.move_shares.specs.inner.Shares.{entering, leaving, exchanged, shareOf, resizedShare, flippedShare, wholeShare, ShareReady, TreeReady, setBits, crosses}
+use Rattle.move_shares.specs.inner.Shares.{entering, leaving, exchanged, shareOf, wholeShare, ShareReady, TreeReady, setBits, crosses}
 use Rattle.move_shares.proofs.OfKinds.{share-add, share-drop, share-transfer}
 use Rattle.move_shares.proofs.Swaps.{share-swap}
 use Rattle.move_shares.proofs.Missed.{PairsUnused, missed-share}
-use Rattle.move_slots.specs.inner.Slots.{stillRead, flipRead, singleRead, jointRead, kindRead, moveRead, kindTold, told, SinglesTaken, JointsTaken}
+use Rattle.move_slots.specs.inner.Slots.{singleRead, kindRead, moveRead, kindTold, told, SinglesTaken, JointsTaken}
 use Rattle.move_tables.specs.declared.Left.{Left}
 use Rattle.move_tables.specs.inner.Taking.{Crossed, MovesTaken}
 

@@ -1,6 +1,6 @@
 -- All ports at once: what flips of some sets bring to the row of a tree without quantifiers, for each port at which they may flip.
 use mathlib.Core.Path.{_≡_}
-use mathlib.Core.Bool.{Bool, true, false}
+use mathlib.Core.Bool.{Bool, false}
 use mathlib.Core.List.{List, [], _∷_}
 use Prim.Native.Nat.{ℕ, suc, _+_, _-_, _*_, _%_, _≤_, _<_}
 use lib.ListN.{length, getD}

@@ -1,4 +1,4 @@
-use mathlib.Core.Path.{_≡_, refl, sym, ap, _∙_}
+use mathlib.Core.Path.{refl}
 use native.Mathlib.Omega.{arith}
 use borrow.Author.Needs.{needs}
 use Rattle.call_open.proofs.OpenPlan.{sets-fit, masks-long}
@@ -6,12 +6,6 @@ use Rattle.move_fill.proofs.Filling.{told-none, take-asked, told-full}
 use borrow.Author.Needs.{needs}
 use Rattle.move_fill.proofs.fill_tables.Statement.{statement}
 use Rattle.move_fill.proofs.fill_tables.Tie as tie
-use Rattle.move_fill.proofs.fill_tables.Reads as reads
-use Rattle.move_fill.proofs.fill_tables.Lts as lts
-use Rattle.cells_touch.proofs.level_of.Reads as level-of-reads
-use Rattle.cells_walk.proofs.end_at.Reads as end-at-reads
-use Rattle.move_atoms.proofs.take_atoms.Reads as take-atoms-reads
-use Rattle.move_fill.proofs.set_sizes.Reads as set-sizes-reads
 
 level-of-requires : tie.Need-level-of-requires
 level-of-requires c κs =

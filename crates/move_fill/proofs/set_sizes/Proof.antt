@@ -1,5 +1,5 @@
 use mathlib.Core.Path.{_≡_, refl, _∙_}
-use Prim.Native.Nat.{_≤_, _<_, _-_, _+_}
+use Prim.Native.Nat.{_≤_, _<_, _-_}
 use native.Mathlib.Omega.{arith}
 use lib.ListN.{length}
 use borrow.Author.Needs.{needs}
@@ -7,9 +7,6 @@ use Rattle.move_fill.specs.inner.Filling.{SizesSet}
 use Rattle.move_fill.proofs.Sizes.{none-set, one-set, all-set, sixteen}
 use Rattle.move_fill.proofs.set_sizes.Statement.{statement}
 use Rattle.move_fill.proofs.set_sizes.Tie as tie
-use Rattle.move_fill.proofs.set_sizes.Reads as reads
-use Rattle.move_fill.proofs.set_sizes.Lts as lts
-use Rattle.cells_size.proofs.set_size.Reads as set-size-reads
 
 abbrev Inv-loop : tie.InvT-loop
 Inv-loop masks sets sizes₀ s₀ sizes s = (s ≤ sets) × (sets ≤ 16) × (sets < length masks) × (length sizes ≡ 16) × SizesSet masks sets s sizes

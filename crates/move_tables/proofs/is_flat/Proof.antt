@@ -1,11 +1,10 @@
-use mathlib.Core.Path.{_≡_, ap, sym, _∙_}
-use mathlib.Core.Bool.{Bool, true, false, false≢true, _&&_}
-use Prim.Native.Nat.{ℕ, _+_, _*_, _-_, _≤_, _<_}
-use native.Mathlib.Decide.{decLt}
+use mathlib.Core.Path.{ap, sym, _∙_}
+use mathlib.Core.Bool.{true, false, false≢true, _&&_}
+use Prim.Native.Nat.{ℕ, _-_, _≤_}
 use native.Mathlib.Omega.{arith}
 use lib.Dec.{leb}
 use borrow.Author.Needs.{needs}
-use Rattle.table_format.specs.Bytes.{recordLength, kindField, recordAt}
+use Rattle.table_format.specs.Bytes.{recordLength}
 use Rattle.move_tables.specs.inner.Taking.{NoneBinds}
 use Rattle.move_tables.proofs.Flat.{none-yet, one-more, up-to}
 use Rattle.move_tables.proofs.is_flat.Statement.{statement}

@@ -1,21 +1,13 @@
 use mathlib.Core.Path.{refl, ap, subst}
 use Prim.Native.Nat.{ℕ}
 use Rattle.move_tables.specs.inner.Taking.{Crossed}
-use borrow.Author.Tests.{not-true, not-false}
+use borrow.Author.Tests.{not-false}
 use lib.Bits.{bitOr}
 use Rattle.move_tables.proofs.Standing.{node-low, flat-asked}
 use Rattle.move_tables.proofs.Steps.{hard-tree, flat-tree, slots-asked, joints-asked}
 use borrow.Author.Needs.{needs}
 use Rattle.move_tables.proofs.take_atom.Statement.{statement}
 use Rattle.move_tables.proofs.take_atom.Tie as tie
-use Rattle.move_tables.proofs.take_atom.Reads as reads
-use Rattle.move_tables.proofs.take_atom.Lts as lts
-use Rattle.cells_walk.proofs.end_at.Reads as end-at-reads
-use Rattle.cells_walk.proofs.uses_at.Reads as uses-at-reads
-use Rattle.move_tables.proofs.crossings.Reads as crossings-reads
-use Rattle.move_tables.proofs.is_flat.Reads as is-flat-reads
-use Rattle.move_joints.proofs.take_joints.Reads as take-joints-reads
-use Rattle.move_slots.proofs.take_slots.Reads as take-slots-reads
 
 uses-at-requires : tie.Need-uses-at-requires
 uses-at-requires c κs =

@@ -3,7 +3,7 @@ use mathlib.Core.Path.{_≡_}
 use mathlib.Core.Logic.{_≢_}
 use mathlib.Core.Bool.{Bool, true, false, _&&_}
 use mathlib.Core.List.{List}
-use Prim.Native.Nat.{ℕ, suc, _+_, _*_, _%_, _≤_, _<_}
+use Prim.Native.Nat.{ℕ, _+_, _*_, _%_, _≤_, _<_}
 use lib.Dec.{eqb, leb, ltb}
 use lib.ListN.{length, getD}
 use Rattle.logic.specs.declared.Move.{Move}
@@ -12,7 +12,7 @@ use Rattle.logic.specs.Configuration.{inMask, inMasks}
 use Rattle.logic.specs.Cells.{cellCount}
 use Rattle.logic.specs.Moves.{legal}
 use Rattle.logic.specs.Change.{modulus}
-use Rattle.table_format.specs.Bytes.{recordLength, kindField, recordsOf, recordAt}
+use Rattle.table_format.specs.Bytes.{kindField, recordAt}
 use Rattle.cells_walk.specs.inner.Nodes.{IndexHolds, Fitting}
 use Rattle.cells_atoms.specs.inner.Atoms.{ofAtoms, AllRegular}
 use Rattle.move_shares.specs.inner.Shares.{shareOf, ShareReady, crosses}
