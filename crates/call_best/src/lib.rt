@@ -2,9 +2,11 @@
 use call_open::open_tables;
 use contracts::Counted;
 use logic::lesser;
+use logic::own_masks;
 use logic::wide;
 use move_best::choose;
 use move_best::list_best;
+use move_fill::fill_tables;
 use move_order::kinds_known;
 ghost use lib.ListN.{length};
 ghost use Rattle.table_format.specs.Decode.{decode};
@@ -37,16 +39,39 @@ pub fn best_moves(
     if !kinds_known(kinds) {
         return Counted::Refused(14);
     }
+    let mut one = [0u32; 4096];
+    let mut still = [0u32; 64];
+    let mut joint = [0u32; 16384];
+    let own = own_masks(o.sets);
+    let own_cells = o.cells;
+    let left = fill_tables(
+        table,
+        &firsts,
+        &ends,
+        &uses,
+        &masks[0..own],
+        &cells[0..own_cells],
+        o.ports,
+        o.sets,
+        kinds,
+        &mut one,
+        &mut still,
+        &mut joint,
+    );
     let c = choose(
         table,
         &firsts,
         &ends,
         &uses,
-        masks,
-        cells,
+        &masks[0..own],
+        &cells[0..own_cells],
         o.ports,
         o.sets,
         kinds,
+        &one,
+        &still,
+        &joint,
+        left,
     );
     let count = wide(c.count);
     if list.len() < count {
@@ -57,11 +82,15 @@ pub fn best_moves(
         &firsts,
         &ends,
         &uses,
-        masks,
-        cells,
+        &masks[0..own],
+        &cells[0..own_cells],
         o.ports,
         o.sets,
         kinds,
+        &one,
+        &still,
+        &joint,
+        left,
         c,
         list,
     );

@@ -5,3 +5,4 @@ pub mod Choosing
 pub mod Writing
 pub mod Searching
 pub mod Candidates
+pub mod Owning

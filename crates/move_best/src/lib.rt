@@ -10,8 +10,9 @@ use move_order::next_candidate;
 use move_rank::Choice;
 use move_rank::none_yet;
 use move_rank::ranked;
-use move_try::try_move;
-ghost use Rattle.call_open.specs.inner.Opening.{OpenTables};
+use move_root::move_root;
+use move_tables::Left;
+ghost use Rattle.move_root.specs.inner.Telling.{Told};
 ghost use Rattle.move_best.specs.inner.Choosing.{SearchRoom, Chooses, ListRoom, WriteRoom, Lists};
 
 // A fold over the candidates.
@@ -25,9 +26,13 @@ fn search(
     ports: usize,
     sets: usize,
     kinds: u32,
+    one: &[u32],
+    still: &[u32],
+    joint: &[u32],
+    left: Left,
     work: &mut [u64],
 ) -> Choice
-    requires { ⌜ SearchRoom ports sets (now table) (now firsts) (now ends) (now uses) (now masks) (now cells) (now work) ⌝ }
+    requires { ⌜ SearchRoom ports sets (now table) (now firsts) (now ends) (now uses) (now masks) (now cells) kinds (now one) (now still) (now joint) left (now work) ⌝ }
     ensures { λ r. ⌜ Chooses (now (table .entry)) (now (masks .entry)) (now (cells .entry)) kinds r ⌝ }
 {
     let u = narrow(ports);
@@ -35,7 +40,7 @@ fn search(
     let mut best = none_yet();
     let mut at = first_candidate(kinds, u, n, masks);
     while at.found {
-        let a = try_move(
+        let value = move_root(
             table,
             firsts,
             ends,
@@ -46,8 +51,12 @@ fn search(
             sets,
             at.m,
             work,
+            one,
+            still,
+            joint,
+            left,
         );
-        best = ranked(best, at.m, a.value);
+        best = ranked(best, at.m, value);
         at = next_candidate(at.m, kinds, u, n, masks);
     }
     best
@@ -64,8 +73,12 @@ pub fn choose(
     ports: usize,
     sets: usize,
     kinds: u32,
+    one: &[u32],
+    still: &[u32],
+    joint: &[u32],
+    left: Left,
 ) -> Choice
-    requires { ⌜ OpenTables ports sets (now table) (now firsts) (now ends) (now uses) (now masks) (now cells) ⌝ }
+    requires { ⌜ Told ports sets (now table) (now firsts) (now ends) (now uses) (now masks) (now cells) kinds (now one) (now still) (now joint) left ⌝ }
     ensures { λ r. ⌜ Chooses (now (table .entry)) (now (masks .entry)) (now (cells .entry)) kinds r ⌝ }
 {
     let mut work = [0u64; MASK_ROOM];
@@ -80,6 +93,10 @@ pub fn choose(
         ports,
         sets,
         kinds,
+        one,
+        still,
+        joint,
+        left,
         &mut work[0..own],
     )
 }
@@ -95,11 +112,15 @@ fn write_best(
     ports: usize,
     sets: usize,
     kinds: u32,
+    one: &[u32],
+    still: &[u32],
+    joint: &[u32],
+    left: Left,
     best: Choice,
     work: &mut [u64],
     list: &mut [[u32; 5]],
 )
-    requires { ⌜ WriteRoom ports sets (now table) (now firsts) (now ends) (now uses) (now masks) (now cells) kinds best (now work) (now list) ⌝ }
+    requires { ⌜ WriteRoom ports sets (now table) (now firsts) (now ends) (now uses) (now masks) (now cells) kinds (now one) (now still) (now joint) left best (now work) (now list) ⌝ }
     ensures { λ _. ⌜ Lists (now (table .entry)) (now (masks .entry)) (now (cells .entry)) kinds (now (list .entry)) (now (list .exit)) ⌝ }
 {
     let u = narrow(ports);
@@ -107,7 +128,7 @@ fn write_best(
     let mut i = 0;
     let mut here = first_candidate(kinds, u, n, masks);
     while here.found {
-        let a = try_move(
+        let value = move_root(
             table,
             firsts,
             ends,
@@ -118,8 +139,12 @@ fn write_best(
             sets,
             here.m,
             work,
+            one,
+            still,
+            joint,
+            left,
         );
-        i = put_best(here.m, a.value, best.value, i, list);
+        i = put_best(here.m, value, best.value, i, list);
         here = next_candidate(here.m, kinds, u, n, masks);
     }
 }
@@ -135,10 +160,14 @@ pub fn list_best(
     ports: usize,
     sets: usize,
     kinds: u32,
+    one: &[u32],
+    still: &[u32],
+    joint: &[u32],
+    left: Left,
     best: Choice,
     list: &mut [[u32; 5]],
 )
-    requires { ⌜ ListRoom ports sets (now table) (now firsts) (now ends) (now uses) (now masks) (now cells) kinds best (now list) ⌝ }
+    requires { ⌜ ListRoom ports sets (now table) (now firsts) (now ends) (now uses) (now masks) (now cells) kinds (now one) (now still) (now joint) left best (now list) ⌝ }
     ensures { λ _. ⌜ Lists (now (table .entry)) (now (masks .entry)) (now (cells .entry)) kinds (now (list .entry)) (now (list .exit)) ⌝ }
 {
     let mut work = [0u64; MASK_ROOM];
@@ -153,6 +182,10 @@ pub fn list_best(
         ports,
         sets,
         kinds,
+        one,
+        still,
+        joint,
+        left,
         best,
         &mut work[0..own],
         list,

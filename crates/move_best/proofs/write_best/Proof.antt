@@ -3,57 +3,57 @@ use native.Mathlib.Omega.{arith}
 use Rattle.move_order.specs.inner.Stepping.{place}
 use Rattle.call_open.proofs.OpenPlan.{ports-fit, sets-fit}
 use Rattle.move_best.proofs.Candidates.{sized-over}
-use Rattle.move_best.proofs.Searching.{left, Writing, here-tries, here-begins, here-less, write-starts, write-room, write-goes-on, write-ends}
+use Rattle.move_best.proofs.Searching.{ahead, Writing, here-asks, here-begins, here-less, write-starts, write-room, write-goes-on, write-ends}
 use Rattle.move_best.proofs.write_best.Statement.{statement}
 use Rattle.move_best.proofs.write_best.Tie as tie
 
 abbrev Inv-loop : tie.InvT-loop
-Inv-loop table firsts ends uses masks cells ports sets kinds best work₀ list₀ u n i₀ here₀ work list i here =
+Inv-loop table firsts ends uses masks cells ports sets kinds one still joint left best work₀ list₀ u n i₀ here₀ work list i here =
     Writing table masks cells kinds sets list₀ work list i here
 
 abbrev μ-loop : tie.MeasureT-loop
-μ-loop table firsts ends uses masks cells ports sets kinds best work₀ list₀ u n i₀ here₀ work list i here =
-    left (here .found) (place (here .m))
+μ-loop table firsts ends uses masks cells ports sets kinds one still joint left best work₀ list₀ u n i₀ here₀ work list i here =
+    ahead (here .found) (place (here .m))
 
 narrow-requires : tie.Need-narrow-requires Inv-loop μ-loop
 narrow-requires c κs =
-    ports-fit (c .before .before .before .before .pre .room .ready .opened)
+    ports-fit (c .before .before .before .before .before .before .before .pre .room .told .tables-open .opened)
 
 narrow-requires-2 : tie.Need-narrow-requires-2 Inv-loop μ-loop
 narrow-requires-2 c κs =
-    let h = sets-fit (c .before .before .before .before .before .pre .room .ready .opened) in omega (arith, h)
+    let h = sets-fit (c .before .before .before .before .before .before .before .before .pre .room .told .tables-open .opened) in omega (arith, h)
 
 first-candidate-requires : tie.Need-first-candidate-requires Inv-loop μ-loop
 first-candidate-requires c κs =
-    sized-over (c .before .before .before .before .before .before .pre .room .ready .opened) _ _ (c .before .narrow .ensures) (c .narrow2 .ensures)
+    sized-over (c .before .before .before .before .before .before .before .before .before .pre .room .told .tables-open .opened) _ _ (c .before .narrow .ensures) (c .narrow2 .ensures)
 
 loop-holds : tie.Need-loop-holds Inv-loop μ-loop
 loop-holds c =
-    write-starts (c .before .before .before .before .before .before .before .pre .room .ready) _ _ _ (c .before .before .narrow .ensures) (c .before .narrow2 .ensures) _ _ _ (c .before .before .before .before .before .before .before .pre .work-long) (c .first-candidate .ensures)
+    write-starts (c .before .before .before .before .before .before .before .before .before .before .pre .room .told .tables-open) _ _ _ (c .before .before .narrow .ensures) (c .before .narrow2 .ensures) _ _ _ (c .before .before .before .before .before .before .before .before .before .before .pre .work-long) (c .first-candidate .ensures)
 
-try-move-requires : tie.Need-try-move-requires Inv-loop μ-loop
-try-move-requires c κs =
-    let r = c .before .before .before .before .before .before .before .before .before .before .pre .room .ready in here-tries r _ _ _ (c .before .before .before .before .before .narrow .ensures) (c .before .before .before .before .narrow2 .ensures) _ _ (c .before .before .loop .inv .written (r .opened .plan) (r .opened .decodes) .walk) (c .before .loop-test .taken) _ (c .before .before .loop .inv .work-long)
+move-root-requires : tie.Need-move-root-requires Inv-loop μ-loop
+move-root-requires c κs =
+    let r = c .before .before .before .before .before .before .before .before .before .before .before .before .before .pre .room .told .tables-open in here-asks r _ _ _ (c .before .before .before .before .before .narrow .ensures) (c .before .before .before .before .narrow2 .ensures) _ _ (c .before .before .loop .inv .written (r .opened .plan) (r .opened .decodes) .walk) (c .before .loop-test .taken) _ _ _ _ (c .before .before .before .before .before .before .before .before .before .before .before .before .before .pre .room .told) _ (c .before .before .loop .inv .work-long)
 
 put-best-requires : tie.Need-put-best-requires Inv-loop μ-loop
 put-best-requires c κs =
-    write-room (c .before .before .before .before .before .before .before .before .before .before .before .before .before .before .pre .room .ready) _ _ _ (c .before .before .before .before .before .before .before .before .before .narrow .ensures) (c .before .before .before .before .before .before .before .before .narrow2 .ensures) _ _ _ _ _ (c .before .before .before .before .before .before .loop .inv) (c .before .before .before .before .before .loop-test .taken) _ (c .before .before .before .before .before .before .before .before .before .before .before .before .before .before .pre .room .chooses) (c .before .before .before .before .before .before .before .before .before .before .before .before .before .before .pre .room .list-long) _ (c .before .before .before .try-move .ensures)
+    write-room (c .before .before .before .before .before .before .before .before .before .before .before .before .before .before .before .before .before .pre .room .told .tables-open) _ _ _ (c .before .before .before .before .before .before .before .before .before .narrow .ensures) (c .before .before .before .before .before .before .before .before .narrow2 .ensures) _ _ _ _ _ (c .before .before .before .before .before .before .loop .inv) (c .before .before .before .before .before .loop-test .taken) _ (c .before .before .before .before .before .before .before .before .before .before .before .before .before .before .before .before .before .pre .room .chooses) (c .before .before .before .before .before .before .before .before .before .before .before .before .before .before .before .before .before .pre .room .list-long) _ (c .before .before .before .move-root .ensures)
 
 next-candidate-requires : tie.Need-next-candidate-requires Inv-loop μ-loop
 next-candidate-requires c κs =
-    let r = c .before .before .before .before .before .before .before .before .before .before .before .before .before .before .before .before .pre .room .ready in here-begins r _ _ _ (c .before .before .before .before .before .before .before .before .before .before .before .narrow .ensures) (c .before .before .before .before .before .before .before .before .before .before .narrow2 .ensures) _ _ (c .before .before .before .before .before .before .before .before .loop .inv .written (r .opened .plan) (r .opened .decodes) .walk) (c .before .before .before .before .before .before .before .loop-test .taken)
+    let r = c .before .before .before .before .before .before .before .before .before .before .before .before .before .before .before .before .before .before .before .pre .room .told .tables-open in here-begins r _ _ _ (c .before .before .before .before .before .before .before .before .before .before .before .narrow .ensures) (c .before .before .before .before .before .before .before .before .before .before .narrow2 .ensures) _ _ (c .before .before .before .before .before .before .before .before .loop .inv .written (r .opened .plan) (r .opened .decodes) .walk) (c .before .before .before .before .before .before .before .loop-test .taken)
 
 loop-less : tie.Need-loop-less Inv-loop μ-loop
 loop-less c =
-    let r = c .before .before .before .before .before .before .before .before .before .before .before .before .before .before .before .before .before .pre .room .ready in here-less r _ _ _ (c .before .before .before .before .before .before .before .before .before .before .before .before .narrow .ensures) (c .before .before .before .before .before .before .before .before .before .before .before .narrow2 .ensures) _ _ (c .before .before .before .before .before .before .before .before .before .loop .inv .written (r .opened .plan) (r .opened .decodes) .walk) (c .before .before .before .before .before .before .before .before .loop-test .taken) _ (c .next-candidate .ensures)
+    let r = c .before .before .before .before .before .before .before .before .before .before .before .before .before .before .before .before .before .before .before .before .pre .room .told .tables-open in here-less r _ _ _ (c .before .before .before .before .before .before .before .before .before .before .before .before .narrow .ensures) (c .before .before .before .before .before .before .before .before .before .before .before .narrow2 .ensures) _ _ (c .before .before .before .before .before .before .before .before .before .loop .inv .written (r .opened .plan) (r .opened .decodes) .walk) (c .before .before .before .before .before .before .before .before .loop-test .taken) _ (c .next-candidate .ensures)
 
 loop-again : tie.Need-loop-again Inv-loop μ-loop
 loop-again c =
-    write-goes-on (c .before .before .before .before .before .before .before .before .before .before .before .before .before .before .before .before .before .pre .room .ready) _ _ _ (c .before .before .before .before .before .before .before .before .before .before .before .before .narrow .ensures) (c .before .before .before .before .before .before .before .before .before .before .before .narrow2 .ensures) _ _ _ _ _ (c .before .before .before .before .before .before .before .before .before .loop .inv) (c .before .before .before .before .before .before .before .before .loop-test .taken) _ (c .before .before .before .before .before .before .before .before .before .before .before .before .before .before .before .before .before .pre .room .chooses) (c .before .before .before .before .before .before .before .before .before .before .before .before .before .before .before .before .before .pre .room .list-long) _ (c .before .before .before .before .before .before .try-move .ensures) _ _ _ _ (c .before .before .before .before .before .before .try-move .kept .1 .1 .1 .1 .1 .1 .1 .1 .1 .0) (c .before .before .put-best .kept .1 .1 .1 .1 .0) (c .before .before .put-best .ensures) (c .next-candidate .ensures)
+    write-goes-on (c .before .before .before .before .before .before .before .before .before .before .before .before .before .before .before .before .before .before .before .before .pre .room .told .tables-open) _ _ _ (c .before .before .before .before .before .before .before .before .before .before .before .before .narrow .ensures) (c .before .before .before .before .before .before .before .before .before .before .before .narrow2 .ensures) _ _ _ _ _ (c .before .before .before .before .before .before .before .before .before .loop .inv) (c .before .before .before .before .before .before .before .before .loop-test .taken) _ (c .before .before .before .before .before .before .before .before .before .before .before .before .before .before .before .before .before .before .before .before .pre .room .chooses) (c .before .before .before .before .before .before .before .before .before .before .before .before .before .before .before .before .before .before .before .before .pre .room .list-long) _ (c .before .before .before .before .before .before .move-root .ensures) _ _ _ _ (c .before .before .before .before .before .before .move-root .kept .1 .1 .1 .1 .1 .1 .1 .1 .1 .0) (c .before .before .put-best .kept .1 .1 .1 .1 .0) (c .before .before .put-best .ensures) (c .next-candidate .ensures)
 
 same-length : tie.Need-same-length Inv-loop μ-loop
 same-length c =
-    c .before .loop .inv .work-long ∙ sym (c .before .before .before .before .before .before .before .before .before .pre .work-long)
+    c .before .loop .inv .work-long ∙ sym (c .before .before .before .before .before .before .before .before .before .before .before .before .pre .work-long)
 
 same-length-2 : tie.Need-same-length-2 Inv-loop μ-loop
 same-length-2 c =
@@ -73,7 +73,7 @@ write-best-spec =
     narrow-requires-2
     first-candidate-requires
     loop-holds
-    try-move-requires
+    move-root-requires
     put-best-requires
     next-candidate-requires
     loop-less

@@ -9,15 +9,16 @@ use Rattle.logic.specs.declared.Move.{Move}
 use Rattle.logic.specs.Formula.{Plan}
 use Rattle.logic.specs.Configuration.{maskCount}
 use Rattle.table_format.specs.Decode.{sound, decode}
-use Rattle.call_open.specs.inner.Opening.{OpenTables}
 use Rattle.contracts.specs.State.{State, tables, ownTables}
 use Rattle.contracts.specs.ImproveCall.{rootAfter, bestMoves}
 use Rattle.contracts.specs.BestCall.{moveRecord}
 use Rattle.move_rank.specs.declared.Choice.{Choice}
+use Rattle.move_root.specs.inner.Telling.{Told}
+use Rattle.move_tables.specs.declared.Left.{Left}
 
--- Open tables, and room for the masks after a move.
-pub record SearchRoom (ports sets : ℕ) (bytes firsts ends uses masks cells work : List ℕ) : Type 0 where
-  pub ready : OpenTables ports sets bytes firsts ends uses masks cells
+-- Tables that tell of the moves, and room for the masks after one.
+pub record SearchRoom (ports sets : ℕ) (bytes firsts ends uses masks cells : List ℕ) (kinds : ℕ) (one still joint : List ℕ) (left : Left) (work : List ℕ) : Type 0 where
+  pub told : Told ports sets bytes firsts ends uses masks cells kinds one still joint left
   pub work-long : length work ≡ maskCount sets
 
 -- The choice is the first of these moves, with how many they are and the root that it leaves.
@@ -34,15 +35,16 @@ unfoldable pub Chooses : List ℕ → List ℕ → List ℕ → ℕ → Choice �
 Chooses bytes masks cells kinds r =
     (P : Plan) → decode bytes ≡ sound P → (let own = ownTables P (tables masks cells) in BestIs (bestMoves P kinds own) P own r)
 
--- Open tables, the choice among their candidates, and a list with room for the best.
-pub record ListRoom (ports sets : ℕ) (bytes firsts ends uses masks cells : List ℕ) (kinds : ℕ) (best : Choice) (list : List (List ℕ)) : Type 0 where
-  pub ready : OpenTables ports sets bytes firsts ends uses masks cells
+-- Tables that tell of the moves, the choice among the candidates, and a list with room for the best.
+pub record ListRoom (ports sets : ℕ) (bytes firsts ends uses masks cells : List ℕ) (kinds : ℕ) (one still joint : List ℕ) (left : Left) (best : Choice) (list : List (List ℕ)) : Type 0 where
+  pub told : Told ports sets bytes firsts ends uses masks cells kinds one still joint left
   pub chooses : Chooses bytes masks cells kinds best
   pub list-long : best .count ≤ length list
 
 -- The same with room for the masks after a move.
-pub record WriteRoom (ports sets : ℕ) (bytes firsts ends uses masks cells : List ℕ) (kinds : ℕ) (best : Choice) (work : List ℕ) (list : List (List ℕ)) : Type 0 where
-  pub room : ListRoom ports sets bytes firsts ends uses masks cells kinds best list
+pub record WriteRoom (ports sets : ℕ) (bytes firsts ends uses masks cells : List ℕ) (kinds : ℕ) (one still joint : List ℕ) (left : Left) (best : Choice) (work : List ℕ)
+    (list : List (List ℕ)) : Type 0 where
+  pub room : ListRoom ports sets bytes firsts ends uses masks cells kinds one still joint left best list
   pub work-long : length work ≡ maskCount sets
 
 -- The list afterwards: the records of the best moves in their order, and behind them what stood there.
