@@ -6,9 +6,7 @@ use contracts::Improved;
 use journal_rules::cells_lent;
 use journal_rules::is_full;
 use logic::lesser;
-use logic::own_masks;
-use move_best::choose;
-use move_fill::fill_tables;
+use move_best::best_move;
 use move_make::carry;
 use move_order::kinds_known;
 use move_rank::Choice;
@@ -63,39 +61,17 @@ pub fn improve(
     if !kinds_known(kinds) {
         return Improved::Refused(14);
     }
-    let mut one = [0u32; 4096];
-    let mut still = [0u32; 64];
-    let mut joint = [0u32; 16384];
-    let own = own_masks(o.sets);
-    let own_cells = o.cells;
-    let left = fill_tables(
+    let c = best_move(
         table,
         &firsts,
         &ends,
         &uses,
-        &masks[0..own],
-        &cells[0..own_cells],
+        &masks[..],
+        &cells[..],
         o.ports,
         o.sets,
+        o.cells,
         kinds,
-        &mut one,
-        &mut still,
-        &mut joint,
-    );
-    let c = choose(
-        table,
-        &firsts,
-        &ends,
-        &uses,
-        &masks[0..own],
-        &cells[0..own_cells],
-        o.ports,
-        o.sets,
-        kinds,
-        &one,
-        &still,
-        &joint,
-        left,
     );
     let root = cells[0];
     if !lowers(c, root) {

@@ -3,6 +3,7 @@
 use logic::MASK_ROOM;
 use logic::Move;
 use logic::own_masks;
+use move_fill::fill_tables;
 use move_legal::narrow;
 use move_list::put_best;
 use move_order::first_candidate;
@@ -13,7 +14,7 @@ use move_rank::ranked;
 use move_root::move_root;
 use move_tables::Left;
 ghost use Rattle.move_root.specs.inner.Telling.{Told};
-ghost use Rattle.move_best.specs.inner.Choosing.{SearchRoom, Chooses, ListRoom, WriteRoom, Lists};
+ghost use Rattle.move_best.specs.inner.Choosing.{SearchRoom, BestAsked, Chooses, ListRoom, WriteRoom, Lists};
 
 // A fold over the candidates.
 fn search(
@@ -98,6 +99,58 @@ pub fn choose(
         joint,
         left,
         &mut work[0..own],
+    )
+}
+
+// The same for masks and cells that may be longer than a plan's own, `width` being the number of its cells, with tables of this function's
+// own: these stand on the stack only while the candidates are gone over.
+pub fn best_move(
+    table: &[u8],
+    firsts: &[u32; 512],
+    ends: &[u16; 512],
+    uses: &[u64; 512],
+    masks: &[u64],
+    cells: &[u32],
+    ports: usize,
+    sets: usize,
+    width: usize,
+    kinds: u32,
+) -> Choice
+    requires { ⌜ BestAsked ports sets (now table) (now firsts) (now ends) (now uses) (now masks) (now cells) width ⌝ }
+    ensures { λ r. ⌜ Chooses (now (table .entry)) (now (masks .entry)) (now (cells .entry)) kinds r ⌝ }
+{
+    let mut one = [0u32; 4096];
+    let mut still = [0u32; 64];
+    let mut joint = [0u32; 16384];
+    let own = own_masks(sets);
+    let left = fill_tables(
+        table,
+        firsts,
+        ends,
+        uses,
+        &masks[0..own],
+        &cells[0..width],
+        ports,
+        sets,
+        kinds,
+        &mut one,
+        &mut still,
+        &mut joint,
+    );
+    choose(
+        table,
+        firsts,
+        ends,
+        uses,
+        &masks[0..own],
+        &cells[0..width],
+        ports,
+        sets,
+        kinds,
+        &one,
+        &still,
+        &joint,
+        left,
     )
 }
 

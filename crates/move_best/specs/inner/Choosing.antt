@@ -8,7 +8,9 @@ use lib.ListN.{length, drop}
 use Rattle.logic.specs.declared.Move.{Move}
 use Rattle.logic.specs.Formula.{Plan}
 use Rattle.logic.specs.Configuration.{maskCount}
+use Rattle.logic.specs.Cells.{ownCells}
 use Rattle.table_format.specs.Decode.{sound, decode}
+use Rattle.call_open.specs.inner.Opening.{OpenTables}
 use Rattle.contracts.specs.State.{State, tables, ownTables}
 use Rattle.contracts.specs.ImproveCall.{rootAfter, bestMoves}
 use Rattle.contracts.specs.BestCall.{moveRecord}
@@ -20,6 +22,11 @@ use Rattle.move_tables.specs.declared.Left.{Left}
 pub record SearchRoom (ports sets : ℕ) (bytes firsts ends uses masks cells : List ℕ) (kinds : ℕ) (one still joint : List ℕ) (left : Left) (work : List ℕ) : Type 0 where
   pub told : Told ports sets bytes firsts ends uses masks cells kinds one still joint left
   pub work-long : length work ≡ maskCount sets
+
+-- Open tables, and how many cells are the plan's own.
+pub record BestAsked (ports sets : ℕ) (bytes firsts ends uses masks cells : List ℕ) (own : ℕ) : Type 0 where
+  pub tables-open : OpenTables ports sets bytes firsts ends uses masks cells
+  pub cells-own : (P : Plan) → decode bytes ≡ sound P → own ≡ ownCells P
 
 -- The choice is the first of these moves, with how many they are and the root that it leaves.
 unfoldable pub BestIs : List Move → Plan → State → Choice → Type 0
