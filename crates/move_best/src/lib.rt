@@ -102,8 +102,7 @@ pub fn choose(
     )
 }
 
-// The same for masks and cells that may be longer than a plan's own, `width` being the number of its cells, with tables of this function's
-// own: these stand on the stack only while the candidates are gone over.
+// The same for masks and cells that may be longer than a plan's own, `width` being the number of its cells: fills the tables first.
 pub fn best_move(
     table: &[u8],
     firsts: &[u32; 512],
