@@ -42,6 +42,7 @@ pub fn best_moves(
     let mut one = [0u32; 4096];
     let mut still = [0u32; 64];
     let mut joint = [0u32; 16384];
+    let mut lists = [0u16; 1024];
     let own = own_masks(o.sets);
     let own_cells = o.cells;
     let left = fill_tables(
@@ -57,6 +58,7 @@ pub fn best_moves(
         &mut one,
         &mut still,
         &mut joint,
+        &mut lists,
     );
     let c = choose(
         table,
@@ -71,6 +73,7 @@ pub fn best_moves(
         &one,
         &still,
         &joint,
+        &lists,
         left,
     );
     let count = wide(c.count);
@@ -90,6 +93,7 @@ pub fn best_moves(
         &one,
         &still,
         &joint,
+        &lists,
         left,
         c,
         list,

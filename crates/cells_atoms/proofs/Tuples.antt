@@ -2,17 +2,16 @@
 use mathlib.Core.Path.{_≡_, refl, sym, ap, ap₂, _∙_}
 use mathlib.Core.Bool.{Bool, true, false, cond}
 use mathlib.Core.List.{[], _∷_}
-use Prim.Native.Nat.{ℕ, zero, suc, _+_, _^_, _%_}
+use Prim.Native.Nat.{ℕ, zero, suc, _+_, _^_}
 use native.Mathlib.Nat.{pow-zero}
 use native.Mathlib.Omega.{arith}
 use Rattle.logic.specs.Formula.{Node, root, all, any, and, or, lit, Forest, none, tree, childDepth}
 use Rattle.logic.specs.Truth.{Tuple}
 use Rattle.logic.specs.Penalty.{sum, eachPort, below}
 use Rattle.logic.specs.Cells.{tupleAt, CellRule, siblingFirst}
-use Rattle.logic.specs.Change.{modulus}
 use Rattle.cells_walk.proofs.Count.{total, total-none, total-next, single, ports-total}
 use Rattle.cells_atoms.specs.inner.Atoms.{isAtom, overAtoms, ofAtoms, overTuples}
-use Rattle.cells_atoms.proofs.Over.{ports-kept, ports-mod}
+use Rattle.cells_atoms.proofs.Over.{ports-kept}
 
 module _ (u : ℕ) where
   tuples-same : (m : ℕ) (g h : Tuple → ℕ) (e : Tuple) → ((x : Tuple) → g x ≡ h x) → overTuples u m g e ≡ overTuples u m h e
@@ -74,9 +73,3 @@ module _ (u : ℕ) where
   pub atoms-each : (g : CellRule) (f : Forest) (b : ℕ) → overAtoms u g f b 0 [] ≡ ofAtoms u (λ n c b d. overTuples u d (g n c b d) []) f b 0
   unfolding overTuples
   atoms-each g f b = atoms-tuples g f b 0
-
-  -- two numbers of every tuple that are equal modulo 2^32
-  pub tuples-mod : (m : ℕ) (g h : Tuple → ℕ) (e : Tuple) → ((x : Tuple) → g x % modulus ≡ h x % modulus) → overTuples u m g e % modulus ≡ overTuples u m h e % modulus
-  unfolding overTuples
-  tuples-mod zero g h e H = H e
-  tuples-mod (suc m) g h e H = ports-mod u (λ p. overTuples u m g (p ∷ e)) (λ p. overTuples u m h (p ∷ e)) (λ p l. tuples-mod m g h (p ∷ e) H)

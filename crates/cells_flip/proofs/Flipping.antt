@@ -1,6 +1,5 @@
 -- What the evaluator asks where it stands before a tree or a forest, and what follows from what its steps give. Assumes nothing.
 use mathlib.Core.Path.{_≡_, refl, sym, ap, ap₂, _∙_, subst}
-use mathlib.Core.Logic.{_≢_}
 use mathlib.Core.Bool.{Bool, true, false, cond, _&&_}
 use mathlib.Core.List.{List}
 use Prim.Native.Nat.{ℕ, suc, _+_, _-_, _*_, _^_, _%_, _≤_, _<_}
@@ -27,13 +26,15 @@ use Rattle.table_format.proofs.Laid.{width-low}
 use Rattle.cells_touch.specs.inner.Hits.{meets}
 use Rattle.cells_sum.specs.inner.Walk.{adds, begun, taken, gathered}
 use Rattle.cells_sum.proofs.Sums.{taken-same}
-use Rattle.cells_row.specs.inner.Row.{rowOf, rowTaken, rowKept, renewalAt}
+use Rattle.cells_row.specs.inner.Row.{rowOf, ZeroRow, rowTaken, rowKept, renewalAt}
 use Rattle.cells_row.proofs.Rows.{row-at, taken-at, kept-at}
+use Rattle.cells_row.proofs.Zeros.{gathered-done}
 use Rattle.cells_walk.specs.inner.Nodes.{NodeIs, IndexHolds, TestFits, NodeFits, Fitting}
 use Rattle.cells_walk.specs.inner.Visit.{CellsFit}
 use Rattle.cells_walk.proofs.Gather.{new-cell-gathered}
 use Rattle.cells_walk.proofs.KindOf.{adds-kind, Joint, joint-of, literal-of}
 use Rattle.cells_walk.proofs.Outcomes.{begun-fits, taken-fits, no-trees}
+use Rattle.cells_walk.proofs.Remaining.{Remaining, remains-first, remains-next}
 use Rattle.cells_flip.specs.inner.Flips.{WordFor, Flipped, NoQuantifier, Flat, FlipVisit, FlipReady, FlipGives}
 use Rattle.cells_flip.specs.inner.Steps.{RecordOf, LiteralReady, LiteralGives, JoinReady, Joins, TreesReady, TreesGive}
 use Rattle.cells_flip.proofs.Words.{Within, within-left, within-right, word-part, flipped-part, same-level, touched-told, asks-set, test-flipped, literals-66}
@@ -45,9 +46,6 @@ cells-low u cells h b e = h (b + placeOf u e)
 small : 66 < modulus
 unfolding modulus
 small = omega arith
-
-pub count-some : (count : ℕ) → count ≢ 0 → 1 ≤ count
-count-some count h = omega arith
 
 after-node : (i m : ℕ) → i + suc m ≡ i + 1 + m
 after-node i m = omega arith
@@ -97,14 +95,14 @@ module _ {u sets : ℕ} {bytes firsts ends uses cells : List ℕ} {i : ℕ} {n :
       }
 
   -- where its cells stand
-  module _ (u1 : 1 ≤ u) (some : 1 ≤ count) where
+  module _ (u1 : 1 ≤ u) where
     row-low : u ≤ 64 → row ≤ 16777216
-    row-low h = omega (arith, v .line .places 0 some, place-lt u u1 (v .line .tuples 0 some), width-low u d u1 h (fits-here .depth3))
+    row-low h = omega (arith, v .line .places 0 (v .line .some), place-lt u u1 (v .line .tuples 0 (v .line .some)), width-low u d u1 h (fits-here .depth3))
 
     row-within : getD firsts i 0 + row + count ≤ length cells
     unfolding cellCount
     row-within =
-        let l : count - 1 < count = omega arith in
+        let l : count - 1 < count = omega (arith, v .line .some) in
         omega (arith, v .room, node-here .first-is, v .line .places (count - 1) l, place-lt u u1 (v .line .tuples (count - 1) l))
 
   pub old-here : (from : ℕ) (old : List ℕ) → from ≡ getD firsts i 0 + row → old ≡ drop from cells → (x : ℕ) → x < count → getD old x 0 ≡ cellOf u cells b (at x)
@@ -155,7 +153,7 @@ joint-new : (u sets : ℕ) → 1 ≤ u → (k : Configuration) → ((S : ℕ) �
 joint-new u sets u1 k low ch cells fit n c b d e q fits ar h =
     let g = renewals u k ch (cellOf u cells) c (b + u ^ d) in
     let below-is : below u n e (g (childDepth n d)) ≡ g d e = q .renewed u e (g (childDepth n d)) ∙ ap (λ (y : ℕ). g y e) (q .level d) in
-    sym (new-cell-gathered u u1 k ch (cellOf u cells) (cells-low u cells fit) 66 small n c b d e (literals-66 k low sets c (childDepth n d) (subst (Fitting sets c) (sym (q .level d)) fits)) (q .inner) ar h
+    sym (new-cell-gathered u u1 k ch (cellOf u cells) (cells-low u cells fit) 66 small n c b d e (literals-66 sets k (λ S l. low S) c (childDepth n d) (subst (Fitting sets c) (sym (q .level d)) fits)) (q .inner) ar h
     ∙ ap (gathered (adds n) (begun (adds n) (cellOf u cells b e))) below-is)
 
 module _ (bytes firsts ends uses masks sizes cells : List ℕ) where
@@ -168,15 +166,15 @@ module _ (bytes firsts ends uses masks sizes cells : List ℕ) where
       pub node-low : i < 512
       node-low = below-512 (r .visit)
 
-      pub place-low : 1 ≤ count → (i < 512) × (row ≤ 16777216)
-      place-low some = (node-low, row-low (r .visit) (r .settled .masks-settled .ports1) some (r .settled .masks-settled .ports64))
+      pub place-low : (i < 512) × (row ≤ 16777216)
+      place-low = (node-low, row-low (r .visit) (r .settled .masks-settled .ports1) (r .settled .masks-settled .ports64))
 
-      pub from-low : 1 ≤ count → (from : ℕ) → from ≡ getD firsts i 0 + row → from ≤ length cells
-      from-low some from q = omega (arith, q, row-within (r .visit) (r .settled .masks-settled .ports1) some)
+      pub from-low : (from : ℕ) → from ≡ getD firsts i 0 + row → from ≤ length cells
+      from-low from q = omega (arith, q, row-within (r .visit) (r .settled .masks-settled .ports1))
 
-      pub old-room : 1 ≤ count → (from : ℕ) (old : List ℕ) → from ≡ getD firsts i 0 + row → old ≡ drop from cells → count ≤ length old
-      old-room some from old q p =
-          omega (arith, q, row-within (r .visit) (r .settled .masks-settled .ports1) some, ap length p, length-drop from cells)
+      pub old-room : (from : ℕ) (old : List ℕ) → from ≡ getD firsts i 0 + row → old ≡ drop from cells → count ≤ length old
+      old-room from old q p =
+          omega (arith, q, row-within (r .visit) (r .settled .masks-settled .ports1), ap length p, length-drop from cells)
 
       pub record-room : recordLength * i + recordLength ≤ length (recordsOf bytes)
       record-room = node-here (r .visit) .whole
@@ -199,9 +197,9 @@ module _ (bytes firsts ends uses masks sizes cells : List ℕ) where
         room = room;
       }
 
-      pub literal-ready : (kind used word : ℕ) → 1 ≤ count → kind ≡ kindField (recordAt bytes i) → 5 ≤ kind → used ≡ getD uses i 0 → meets used word ≡ true
+      pub literal-ready : (kind used word : ℕ) → kind ≡ kindField (recordAt bytes i) → 5 ≤ kind → used ≡ getD uses i 0 → meets used word ≡ true
           → LiteralReady bytes masks sizes i count own digits out
-      literal-ready kind used word some kd h us m =
+      literal-ready kind used word kd h us m =
           let l = literal-of (r .node) kind (kd ∙ node-here (r .visit) .kind-is) h in
           record {
             ports = r .ports;
@@ -215,13 +213,12 @@ module _ (bytes firsts ends uses masks sizes cells : List ℕ) where
             line = r .visit .line;
             is = record-here (r .visit) (l .0) (l .1);
             asks = asks-set (l .0 .test) word (ap (λ (y : ℕ). meets y word) (sym (us ∙ leaf-uses (r .visit) (l .0) (l .1))) ∙ m);
-            some = some;
             room = r .room;
           }
 
-      pub trees-ready : (end : ℕ) (add : Bool) (from : ℕ) (old acc : List ℕ) → 1 ≤ count → end ≡ getD ends i 0 → from ≡ getD firsts i 0 + row → old ≡ drop from cells
+      pub trees-ready : (end : ℕ) (add : Bool) (from : ℕ) (old acc : List ℕ) → end ≡ getD ends i 0 → from ≡ getD firsts i 0 + row → old ≡ drop from cells
           → count ≤ length acc → acc ≡ rowOf count (λ x. begun add (getD old x 0)) out → TreesReady bytes firsts ends uses masks sizes cells (i + 1) end count own row digits acc
-      trees-ready end add from old acc some en fr od room aw = record {
+      trees-ready end add from old acc en fr od room aw = record {
         ports = r .ports;
         sets = r .sets;
         forest = r .children;
@@ -232,17 +229,12 @@ module _ (bytes firsts ends uses masks sizes cells : List ℕ) where
         visit = visit-children (r .visit);
         ends-at = en ∙ node-here (r .visit) .end-is ∙ after-node i (nodeCount (r .children));
         room = room;
-        some = some;
         low = λ x l. rw (ap (λ (ys : List ℕ). getD ys x 0) aw ∙ row-at count (λ y. begun add (getD old y 0)) out x l ∙ ap (begun add) (old-here (r .visit) from old fr od x l))
             (begun-fits add _ (cells-low (r .ports) cells (r .settled .cells-fit) (r .first) (r .at x)));
       }
 
     -- what the cells of a tree come to
     module _ (word : ℕ) where
-      pub gives-none : (out : List ℕ) → count ≡ 0 → FlipGives bytes firsts ends uses masks sizes cells i count own row digits word out
-      unfolding FlipGives
-      gives-none out z u sets n c s b d at settled v x l ch k f g = absurd (omega arith)
-
       module _ (used : ℕ) (us : used ≡ getD uses i 0) where
         pub gives-kept : (from : ℕ) (old out new : List ℕ) → from ≡ getD firsts i 0 + row → old ≡ drop from cells → meets used word ≡ false → new ≡ rowOf count (λ x. getD old x 0) out
             → FlipGives bytes firsts ends uses masks sizes cells i count own row digits word new
@@ -344,7 +336,6 @@ module _ (bytes firsts ends uses masks sizes cells : List ℕ) where
             visit = v;
             room = r .room;
           };
-          some = r .some;
           low = r .low;
         }
 
@@ -352,15 +343,12 @@ module _ (bytes firsts ends uses masks sizes cells : List ℕ) where
       abbrev Give : ℕ → List ℕ → List ℕ → Type 0
       Give i acc out = TreesGive bytes firsts ends uses masks sizes cells i until count own row digits word add acc out
 
-      -- The loop over the trees began before node i and stands before node j: what the trees from there on give, all of them give.
-      pub record Onward (i : ℕ) (acc : List ℕ) (j : ℕ) (mid : List ℕ) : Type 0 where
-        pub late : i ≤ j
-        pub ready : Trees j mid
-        pub same-length : length mid ≡ length acc
-        pub so : (out : List ℕ) → Give j mid out → Give i acc out
+      -- The loop over the trees began before node i and stands before node j: the row is as long as it was.
+      abbrev pub Onward : ℕ → List ℕ → ℕ → List ℕ → Type 0
+      Onward i acc = Remaining (λ (j : ℕ) (mid : List ℕ). Trees j mid × (length mid ≡ length acc)) Give i acc
 
       pub onward-first : (i : ℕ) (acc : List ℕ) → Trees i acc → Onward i acc i acc
-      onward-first i acc r = record { late = omega arith; ready = r; same-length = refl; so = λ out g. g }
+      onward-first i acc r = remains-first _ _ i acc (r, refl)
 
       give-none : (j : ℕ) (mid : List ℕ) → until ≤ j → Give j mid mid
       unfolding TreesGive nodeCount renewals gathered
@@ -369,6 +357,14 @@ module _ (bytes firsts ends uses masks sizes cells : List ℕ) where
 
       pub onward-last : (i : ℕ) (acc : List ℕ) (j : ℕ) (mid : List ℕ) → Onward i acc j mid → until ≤ j → Give i acc mid
       onward-last i acc j mid o h = o .so mid (give-none j mid h)
+
+      -- minima that are 0 stay so, whatever trees there are
+      give-done : (j : ℕ) (mid : List ℕ) → (add ≡ false) × ZeroRow mid count → Give j mid mid
+      unfolding TreesGive ZeroRow
+      give-done j mid z u sets f b d at settled v q x l ch k w g = gathered-done add (getD mid x 0) _ (z .0) (z .1 x l)
+
+      pub onward-done : (i : ℕ) (acc : List ℕ) (j : ℕ) (mid : List ℕ) → Onward i acc j mid → (add ≡ false) × ZeroRow mid count → Give i acc mid
+      onward-done i acc j mid o z = o .so mid (give-done j mid z)
 
       module _ (j next : ℕ) (mid mid′ : List ℕ) (l : j < until) (nx : next ≡ getD ends j 0)
           (joins : Joins bytes firsts ends uses masks sizes cells j count own row digits word add mid mid′) where
@@ -393,7 +389,6 @@ module _ (bytes firsts ends uses masks sizes cells : List ℕ) where
                     visit = rw (nx ∙ e) (visit-next v);
                     ends-at = omega (arith, nx, e, q);
                     room = rw same (r .room);
-                    some = r .some;
                     low = joins .low;
                   },
                 )
@@ -415,12 +410,5 @@ module _ (bytes firsts ends uses masks sizes cells : List ℕ) where
 
         pub onward-next : (i : ℕ) (acc : List ℕ) → Onward i acc j mid → length mid′ ≡ length mid → (j < next) × Onward i acc next mid′
         onward-next i acc o same =
-            let n = next-ready (o .ready) same in (
-              n .0,
-              record {
-                late = omega (arith, n .0, o .late);
-                ready = n .1;
-                same-length = same ∙ o .same-length;
-                so = λ out g. o .so out (give-more out g);
-              },
-            )
+            let n = next-ready (o .ready .0) same in
+            (n .0, remains-next _ _ i acc j next mid mid′ o (n .0) (n .1, same ∙ o .ready .1) give-more)

@@ -49,8 +49,8 @@ module _ {u d count own row digits : ℕ} {at : ℕ → Tuple} (line : Line u d 
       go (yes q) = rw (eq-eqb v own q) (sym (ap (portOf (at x)) q ∙ line .own-port x l (omega arith)))
       go (no n) = rw (ne-eqb v own n) (sym (line .same x v l h n))
 
-  pub digit-low : (v : ℕ) → 1 ≤ count → u ≤ 64 → v < d → v ≢ own → digits / 256 ^ v % 256 < 64
-  digit-low v s h l n = let p = port-of-lt v (line .tuples 0 s) l in omega (arith, line .same 0 v s l n)
+  pub digit-low : (v : ℕ) → u ≤ 64 → v < d → v ≢ own → digits / 256 ^ v % 256 < 64
+  digit-low v h l n = let p = port-of-lt v (line .tuples 0 (line .some)) l in omega (arith, line .same 0 v (line .some) l n)
 
 -- which fields a literal has that asks a set
 module _ (sets d : ℕ) (bytes : List ℕ) (i : ℕ) where
@@ -79,9 +79,9 @@ member-ready {bytes = bytes} {i = i} r kind a kd aq n =
     let bound : a < r .depth = omega (arith, f .1, aq) in (
       omega (arith, f .0),
       omega (arith, r .is .depth3),
-      r .some,
+      r .line .some,
       omega (arith, r .line .few),
-      λ o. digit-low (r .line) a (r .some) u64 bound o,
+      λ o. digit-low (r .line) a u64 bound o,
       r .room,
     )
 

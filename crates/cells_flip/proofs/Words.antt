@@ -138,13 +138,13 @@ size-66 ne s c h k = indicator-66 _
 size-66 ge s c h k = omega arith
 size-66 gt s c h k = omega arith
 
-module _ (k : Configuration) (small : (S : ℕ) → k .size S ≤ 65) (sets : ℕ) where
+module _ (sets : ℕ) (k : Configuration) (small : (S : ℕ) → S < sets → k .size S ≤ 65) where
   test-66 : (t : Test) (d : ℕ) → TestFits sets d t → (e : Tuple) → testPenalty k t e ≤ 66
   unfolding testPenalty TestFits
   test-66 (isin v S) d h e = indicator-66 _
   test-66 (notin v S) d h e = indicator-66 _
   test-66 (port r v w) d h e = indicator-66 _
-  test-66 (size r S c) d h e = size-66 r _ c (small S) (h .1)
+  test-66 (size r S c) d h e = size-66 r _ c (small S (h .0)) (h .1)
 
   node-66 : (n : Node) (d : ℕ) → OfTest (TestFits sets d) n → OfLiteral (λ l. (e : Tuple) → literalPenalty k l e ≤ 66) n
   unfolding OfLiteral literalPenalty

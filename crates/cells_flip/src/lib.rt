@@ -5,6 +5,7 @@ use cells_row::begin_row;
 use cells_row::cells_from;
 use cells_row::copy_row;
 use cells_row::fill_row;
+use cells_row::is_zero;
 use cells_row::join_row;
 use cells_row::keep_row;
 use cells_rule::literal_penalty;
@@ -24,11 +25,12 @@ use table_format::record_at;
 use table_format::relation_of;
 ghost use mathlib.Core.Path.{_≡_};
 ghost use mathlib.Core.Logic.{_≢_};
+ghost use mathlib.Core.Bool.{true, false};
 ghost use Prim.Native.Nat.{_-_, _^_, _/_, _%_, _≤_, _<_};
 ghost use lib.ListN.{length, getD};
 ghost use Rattle.logic.specs.Configuration.{inMask};
 ghost use Rattle.cells_rule.specs.inner.Rule.{rulePenalty};
-ghost use Rattle.cells_row.specs.inner.Row.{rowOf};
+ghost use Rattle.cells_row.specs.inner.Row.{rowOf, ZeroRow};
 ghost use Rattle.cells_flip.specs.inner.Flips.{FlipReady, FlipGives};
 ghost use Rattle.cells_flip.specs.inner.Steps.{linePort, LiteralReady, LiteralGives, JoinReady, Joins, TreesReady, TreesGive};
 
@@ -81,6 +83,17 @@ fn literal_row(
     member_row(kind, a, mask_at(masks, b as usize), count, own, digits, out);
 }
 
+// Whether no tree changes a row of sums or minima any more: minima that are 0 stay so.
+fn is_done(add: bool, row: &[u32], count: usize) -> bool
+    requires { ⌜ (1 ≤ count) × (count ≤ length (now row)) ⌝ }
+    ensures { λ r. ⌜ (r ≡ true → (add ≡ false) × ZeroRow (now (row .entry)) count) ⌝ }
+{
+    if add {
+        return false;
+    }
+    is_zero(row, count)
+}
+
 // A node's new numbers at some cells side by side, put into `out`: where the word meets its uses, those that the flips make, else the
 // old ones. Membership in a hit literal is the other way round than in the masks, so that no masks after the change are asked for.
 pub fn flip_row(
@@ -102,10 +115,6 @@ pub fn flip_row(
     requires { ⌜ FlipReady (now table) (now firsts) (now ends) (now uses) (now masks) (now sizes) (now cells) i count own row digits (now out) ⌝ }
     ensures { λ _. ⌜ FlipGives (now (table .entry)) (now (firsts .entry)) (now (ends .entry)) (now (uses .entry)) (now (masks .entry)) (now (sizes .entry)) (now (cells .entry)) i count own row digits word (now (out .exit)) ⌝ }
 {
-    // With no cell nothing says where the row stands.
-    if count == 0 {
-        return;
-    }
     let old = cells_from(cells, place_at(firsts, i, row));
     if !meet(uses_at(uses, i), word) {
         copy_row(old, count, out);
@@ -138,7 +147,7 @@ pub fn flip_row(
     );
 }
 
-// The new numbers of a forest's trees, gone into sums or minima.
+// The new numbers of a forest's trees, gone into sums or minima, until none changes them any more.
 fn flip_trees(
     table: &[u8],
     firsts: &[u32; 512],
@@ -162,6 +171,9 @@ fn flip_trees(
 {
     let mut j = i;
     while j < until {
+        if is_done(add, &out[..], count) {
+            return;
+        }
         flip_tree(
             table,
             firsts,

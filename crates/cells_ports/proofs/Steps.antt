@@ -86,13 +86,13 @@ module _ (u : ℕ) (bytes firsts ends uses masks sizes cells : List ℕ) (i d ro
     node-low = flipping.node-low bytes firsts ends uses masks sizes cells i u d row digits out (flip-ready out (r .room))
 
     pub place-ready : (i < 512) × (row ≤ 16777216)
-    place-ready = flipping.place-low bytes firsts ends uses masks sizes cells i u d row digits out (flip-ready out (r .room)) some-port
+    place-ready = flipping.place-low bytes firsts ends uses masks sizes cells i u d row digits out (flip-ready out (r .room))
 
     pub from-low : (from : ℕ) → from ≡ getD firsts i 0 + row → from ≤ length cells
-    from-low = flipping.from-low bytes firsts ends uses masks sizes cells i u d row digits out (flip-ready out (r .room)) some-port
+    from-low = flipping.from-low bytes firsts ends uses masks sizes cells i u d row digits out (flip-ready out (r .room))
 
     pub old-room : (from : ℕ) (old : List ℕ) → from ≡ getD firsts i 0 + row → old ≡ drop from cells → u ≤ length old
-    old-room = flipping.old-room bytes firsts ends uses masks sizes cells i u d row digits out (flip-ready out (r .room)) some-port
+    old-room = flipping.old-room bytes firsts ends uses masks sizes cells i u d row digits out (flip-ready out (r .room))
 
     -- the port of a variable outside the row is one of the row's
     pub port-low : (v x : ℕ) → v < d → x ≡ digit digits v → x < u

@@ -1,3 +1,4 @@
 -- Laws.
 pub mod Rows
 mod Steps
+pub mod Zeros

@@ -11,7 +11,7 @@ ghost use Prim.Native.Nat.{_+_, _%_, _≤_, _<_};
 ghost use lib.ListN.{length, getD, set, take, drop};
 ghost use Rattle.logic.specs.Cells.{tabulate};
 ghost use Rattle.cells_sum.specs.inner.Walk.{begun};
-ghost use Rattle.cells_row.specs.inner.Row.{rowOf, rowGathered, rowChanges, rowTaken, rowKept};
+ghost use Rattle.cells_row.specs.inner.Row.{rowOf, ZeroRow, rowGathered, rowChanges, rowTaken, rowKept};
 
 // A sum with the new minus the old of every cell of a row.
 fn row_sum(acc: u32, new: &[u32], old: &[u32], ports: usize) -> u32
@@ -64,6 +64,24 @@ pub fn count_row(new: &[u32], old: &[u32], ports: usize) -> u32
         x += 1;
     }
     count
+}
+
+// Whether a row is 0 at every port. The first cell tells of most rows that are not; the loop has no branch of its own, and is over all
+// cells, so that a row of 8 or 64 is worked in vectors without a rest.
+pub fn is_zero(row: &[u32], ports: usize) -> bool
+    requires { ⌜ (1 ≤ ports) × (ports ≤ length (now row)) ⌝ }
+    ensures { λ r. ⌜ (r ≡ true → ZeroRow (now (row .entry)) ports) ⌝ }
+{
+    if row[0] != 0 {
+        return false;
+    }
+    let mut seen = 0;
+    let mut x = 0;
+    while x < ports {
+        seen = seen | row[x];
+        x += 1;
+    }
+    seen == 0
 }
 
 // Copies a row.

@@ -41,7 +41,7 @@ ghost use Rattle.cells_walk.specs.inner.Root.{RootReady, RootGives};
 ghost use Rattle.cells_visit.specs.inner.Walking.{CellReady, CellTouched, QuantifierReady, CellGives, TreesReady, TreesGive, PairReady, PortsSo, RowReady, RowGives, RowCellsReady, RowJoinReady, RowJoins, RowTreesReady, RowTreesGive};
 
 // A cell's old number, its new one, and how many cells at or below it differ from before.
-fn cell_after(
+pub fn cell_after(
     table: &[u8],
     firsts: &[u32; 512],
     ends: &[u16; 512],

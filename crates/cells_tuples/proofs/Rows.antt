@@ -89,7 +89,7 @@ module _ (u : ℕ) (bytes firsts ends uses masks sizes cells : List ℕ) (i d me
           holds = stands .holds;
           fitting = stands .fitting;
           flat = stands .flat;
-          line = rw (place-tuple u (ready .ports1) d m l) at (row-line (tuple-is u (ready .ports1) d m l) dg (ready .ports64));
+          line = rw (place-tuple u (ready .ports1) d m l) at (row-line (tuple-is u (ready .ports1) d m l) dg (ready .ports1) (ready .ports64));
           room = stands .room;
           nodes = stands .nodes;
         }

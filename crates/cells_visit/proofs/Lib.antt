@@ -1,5 +1,4 @@
 -- Laws.
-pub mod Remaining
 pub mod Rooted
 pub mod Rowing
 pub mod Walking

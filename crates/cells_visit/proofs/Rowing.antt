@@ -37,9 +37,9 @@ use Rattle.cells_walk.proofs.Steps.{packed-lt}
 use Rattle.cells_walk.proofs.Visits.{all-constants, port-visit, row-node, row-fits, row-next, row-children, row-room, every-touched, few-touched, none-touched, one-number}
 use Rattle.cells_walk.proofs.Ports.{Reached, reached-first, reached-next, reached-all}
 use Rattle.cells_walk.proofs.Outcomes.{begun-fits, taken-fits, one-tree, port-more, port-skipped, ports-none}
+use Rattle.cells_walk.proofs.Remaining.{Remaining, remains-first, remains-next}
 use Rattle.cells_walk.proofs.Rows.{row-kept, row-literal, row-joint, row-joined, rows-none, rows-more, row-gathered, RowUpTo, up-to-none, up-to-next, up-to-skip, up-to-all}
 use Rattle.cells_visit.specs.inner.Walking.{WalkReady, CellReady, QuantifierReady, CellGives, PortsReady, PairReady, PortsSo, OldRow, RowReady, RowGives, RowCellsReady, RowJoinReady, RowJoins, RowTreesReady, RowTreesGive}
-use Rattle.cells_visit.proofs.Remaining.{Remaining, remains-first, remains-next}
 use Rattle.cells_visit.proofs.Walking.{cells-low, no-children, width-low, literal-here, ports-ready, quantifier-gives}
 
 first-digits : (digits d : ℕ) → digits ≡ digits + 0 * 256 ^ d

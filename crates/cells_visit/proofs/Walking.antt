@@ -30,8 +30,8 @@ use Rattle.cells_walk.specs.inner.Visit.{Visit, CellsFit, CellAfter, RowVisit, 
 use Rattle.cells_walk.proofs.KindOf.{adds-kind, Quantifier, Joint, quantifier-of, quantifier-few, joint-of, literal-of}
 use Rattle.cells_walk.proofs.Visits.{all-constants, node-here, fits-here, node-below, room-here, visit-next, visit-children, visit-ports, touched-here}
 use Rattle.cells_walk.proofs.Outcomes.{begun-fits, untouched-after, literal-cell, inner-cell, trees-more, trees-none}
+use Rattle.cells_walk.proofs.Remaining.{Remaining, remains-first, remains-next}
 use Rattle.cells_visit.specs.inner.Walking.{WalkReady, CellReady, CellTouched, QuantifierReady, CellGives, TreesReady, TreesGive, PortsReady, PortsSo}
-use Rattle.cells_visit.proofs.Remaining.{Remaining, remains-first, remains-next}
 
 pub width-low : (u d : ℕ) → u ≤ 64 → d ≤ 3 → u ^ d ≤ 262144
 width-low u d l e = le-trans (pow-le-pow-left l d) (pow-le-pow-right (omega arith) e)

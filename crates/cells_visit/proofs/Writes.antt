@@ -28,10 +28,10 @@ use Rattle.cells_walk.proofs.KindOf.{quantifier-of, joint-of, literal-of}
 use Rattle.cells_walk.proofs.Visits.{visit-next, row-node, row-next, row-children, row-fits, none-touched}
 use Rattle.cells_walk.proofs.Ports.{Reached, reached-first, reached-next, reached-all}
 use Rattle.cells_walk.proofs.Outcomes.{trees-more}
+use Rattle.cells_walk.proofs.Remaining.{Remaining, remains-first, remains-next}
 use Rattle.cells_walk.proofs.Rows.{rows-more}
 use Rattle.cells_walk.proofs.Wrote.{wrote-untouched, wrote-none, wrote-empty, later-agree, wrote-tree, wrote-joint, wrote-quantifier, wrote-literal, wrote-row, wrote-no-port, port-agree, only-tuple, row-tuple, wrote-port, wrote-skip, cell-before, trees-before, rows-before}
 use Rattle.cells_visit.specs.inner.Walking.{WalkReady, CellReady, CellGives, TreesReady, TreesGive, PairReady, RowGives, RowCellsReady, RowJoins, RowTreesReady, RowTreesGive}
-use Rattle.cells_visit.proofs.Remaining.{Remaining, remains-first, remains-next}
 use Rattle.cells_visit.proofs.Walking.{no-children, here, fits, touched-is, one-here, ports-here, trees-here, end-here, rest-few, none-left, next-ready}
 use Rattle.cells_visit.proofs.Rowing.{after-node, port-stands, untouched-between, PortGives, first-low, second-low, rows-ready, rows-left}
 use Rattle.cells_visit.specs.inner.Writing.{CellWrites, TreesWrite, PortsWrite, RowWrites, RowTreesWrite}

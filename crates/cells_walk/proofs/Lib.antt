@@ -7,6 +7,7 @@ pub mod Holding
 pub mod KindOf
 pub mod Outcomes
 pub mod Ports
+pub mod Remaining
 pub mod Rooting
 pub mod Rows
 pub mod Steps

@@ -5,7 +5,7 @@ use cells_walk::kind_at;
 use move_tables::Left;
 use move_tables::take_atom;
 ghost use mathlib.Core.Path.{_≡_};
-ghost use mathlib.Core.Bool.{true, false, cond};
+ghost use mathlib.Core.Bool.{false, cond};
 ghost use Prim.Native.Nat.{_+_, _≤_};
 ghost use lib.Dec.{eqb};
 ghost use Rattle.move_tables.specs.inner.Taking.{isSum, TakeReady, TakesTree, TakeAllReady, TakesAll};
@@ -50,10 +50,11 @@ fn take_tree(
     one: &mut [u32],
     still: &mut [u32],
     joint: &mut [u32],
+    lists: &mut [u16],
     left: Left,
 ) -> Left
-    requires { ⌜ TakeReady ports sets (now table) (now firsts) (now ends) (now uses) (now masks) (now sizes) (now cells) i depth false (now mine) (now own) (now one) (now still) (now joint) ⌝ }
-    ensures { λ r. ⌜ TakesTree ports sets (now (table .entry)) (now (firsts .entry)) (now (ends .entry)) (now (uses .entry)) (now (masks .entry)) (now (sizes .entry)) (now (cells .entry)) i depth transfers (now (one .entry)) (now (still .entry)) (now (joint .entry)) left (now (one .exit)) (now (still .exit)) (now (joint .exit)) r ⌝ }
+    requires { ⌜ TakeReady ports sets (now table) (now firsts) (now ends) (now uses) (now masks) (now sizes) (now cells) i depth false (now mine) (now own) (now one) (now still) (now joint) (now lists) left ⌝ }
+    ensures { λ r. ⌜ TakesTree ports sets (now (table .entry)) (now (firsts .entry)) (now (ends .entry)) (now (uses .entry)) (now (masks .entry)) (now (sizes .entry)) (now (cells .entry)) i depth transfers (now (one .entry)) (now (still .entry)) (now (joint .entry)) (now (lists .entry)) left (now (one .exit)) (now (still .exit)) (now (joint .exit)) (now (lists .exit)) r ⌝ }
 {
     let kind = kind_at(table, i);
     if is_sum(kind) {
@@ -76,6 +77,7 @@ fn take_tree(
             one,
             still,
             joint,
+            lists,
             left,
         );
     }
@@ -97,6 +99,7 @@ fn take_tree(
         one,
         still,
         joint,
+        lists,
         left,
     )
 }
@@ -121,10 +124,11 @@ pub fn take_atoms(
     one: &mut [u32],
     still: &mut [u32],
     joint: &mut [u32],
+    lists: &mut [u16],
     left: Left,
 ) -> Left
-    requires { ⌜ TakeAllReady ports sets (now table) (now firsts) (now ends) (now uses) (now masks) (now sizes) (now cells) i until depth (now mine) (now own) (now one) (now still) (now joint) ⌝ }
-    ensures { λ r. ⌜ TakesAll ports sets (now (table .entry)) (now (firsts .entry)) (now (ends .entry)) (now (uses .entry)) (now (masks .entry)) (now (sizes .entry)) (now (cells .entry)) i until depth transfers (now (one .entry)) (now (still .entry)) (now (joint .entry)) left (now (one .exit)) (now (still .exit)) (now (joint .exit)) r ⌝ }
+    requires { ⌜ TakeAllReady ports sets (now table) (now firsts) (now ends) (now uses) (now masks) (now sizes) (now cells) i until depth (now mine) (now own) (now one) (now still) (now joint) (now lists) left ⌝ }
+    ensures { λ r. ⌜ TakesAll ports sets (now (table .entry)) (now (firsts .entry)) (now (ends .entry)) (now (uses .entry)) (now (masks .entry)) (now (sizes .entry)) (now (cells .entry)) i until depth transfers (now (one .entry)) (now (still .entry)) (now (joint .entry)) (now (lists .entry)) left (now (one .exit)) (now (still .exit)) (now (joint .exit)) (now (lists .exit)) r ⌝ }
 {
     let mut found = left;
     let mut j = i;
@@ -147,6 +151,7 @@ pub fn take_atoms(
             one,
             still,
             joint,
+            lists,
             found,
         );
         j = end_at(ends, j);

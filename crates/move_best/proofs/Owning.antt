@@ -97,10 +97,10 @@ module _ {ports sets : ℕ} {bytes firsts ends uses masks : List ℕ} {shortest 
   }
 
   -- empty tables are ready to be filled
-  pub fill-ready : (one still joint : List ℕ) → length one ≡ 4096 → length still ≡ 64 → length joint ≡ 16384 → AllZero one → AllZero still → AllZero joint
-      → FillReady ports sets bytes firsts ends uses masks′ cells′ one still joint
+  pub fill-ready : (one still joint lists : List ℕ) → length one ≡ 4096 → length still ≡ 64 → length joint ≡ 16384 → length lists ≡ 1024 → AllZero one → AllZero still → AllZero joint
+      → FillReady ports sets bytes firsts ends uses masks′ cells′ one still joint lists
   unfolding ownMasks
-  fill-ready one still joint a b c x y z =
+  fill-ready one still joint lists a b c d x y z =
       let T = own-open in
       record {
         tables-open = T;
@@ -112,6 +112,7 @@ module _ {ports sets : ℕ} {bytes firsts ends uses masks : List ℕ} {shortest 
         one-empty = x;
         still-empty = y;
         joint-empty = z;
+        lists-long = d;
       }
 
   -- the choice among the candidates, and their list

@@ -55,10 +55,10 @@ module _ {ports sets : ℕ} {bytes firsts ends uses masks cells : List ℕ} (rea
     candidate : Candidate P kinds (inMasks (own .masks)) (at .m)
     candidate = here-candidate P (sized-of bytes P (ready .opened .decodes)) kinds (own .masks) at passed W t
 
-    pub here-asks : (one still joint : List ℕ) (left : Left) → Told ports sets bytes firsts ends uses masks cells kinds one still joint left
-        → (work : List ℕ) → length work ≡ maskCount sets → RootAsked ports sets bytes firsts ends uses masks cells one still joint left (at .m) work
+    pub here-asks : (one still joint lists : List ℕ) (left : Left) → Told ports sets bytes firsts ends uses masks cells kinds one still joint lists left
+        → (work : List ℕ) → length work ≡ maskCount sets → RootAsked ports sets bytes firsts ends uses masks cells one still joint lists left (at .m) work
     unfolding ownTables
-    here-asks one still joint left told work l = record {
+    here-asks one still joint lists left told work l = record {
       kinds = kinds;
       tables-told = told;
       move-ready = record { legal-move = record { tables-open = ready; is-legal = candidate .is-legal }; work-long = l };

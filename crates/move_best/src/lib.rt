@@ -30,10 +30,11 @@ fn search(
     one: &[u32],
     still: &[u32],
     joint: &[u32],
+    lists: &[u16],
     left: Left,
     work: &mut [u64],
 ) -> Choice
-    requires { ⌜ SearchRoom ports sets (now table) (now firsts) (now ends) (now uses) (now masks) (now cells) kinds (now one) (now still) (now joint) left (now work) ⌝ }
+    requires { ⌜ SearchRoom ports sets (now table) (now firsts) (now ends) (now uses) (now masks) (now cells) kinds (now one) (now still) (now joint) (now lists) left (now work) ⌝ }
     ensures { λ r. ⌜ Chooses (now (table .entry)) (now (masks .entry)) (now (cells .entry)) kinds r ⌝ }
 {
     let u = narrow(ports);
@@ -55,6 +56,7 @@ fn search(
             one,
             still,
             joint,
+            lists,
             left,
         );
         best = ranked(best, at.m, value);
@@ -77,9 +79,10 @@ pub fn choose(
     one: &[u32],
     still: &[u32],
     joint: &[u32],
+    lists: &[u16],
     left: Left,
 ) -> Choice
-    requires { ⌜ Told ports sets (now table) (now firsts) (now ends) (now uses) (now masks) (now cells) kinds (now one) (now still) (now joint) left ⌝ }
+    requires { ⌜ Told ports sets (now table) (now firsts) (now ends) (now uses) (now masks) (now cells) kinds (now one) (now still) (now joint) (now lists) left ⌝ }
     ensures { λ r. ⌜ Chooses (now (table .entry)) (now (masks .entry)) (now (cells .entry)) kinds r ⌝ }
 {
     let mut work = [0u64; MASK_ROOM];
@@ -97,6 +100,7 @@ pub fn choose(
         one,
         still,
         joint,
+        lists,
         left,
         &mut work[0..own],
     )
@@ -121,6 +125,7 @@ pub fn best_move(
     let mut one = [0u32; 4096];
     let mut still = [0u32; 64];
     let mut joint = [0u32; 16384];
+    let mut lists = [0u16; 1024];
     let own = own_masks(sets);
     let left = fill_tables(
         table,
@@ -135,6 +140,7 @@ pub fn best_move(
         &mut one,
         &mut still,
         &mut joint,
+        &mut lists,
     );
     choose(
         table,
@@ -149,6 +155,7 @@ pub fn best_move(
         &one,
         &still,
         &joint,
+        &lists,
         left,
     )
 }
@@ -167,12 +174,13 @@ fn write_best(
     one: &[u32],
     still: &[u32],
     joint: &[u32],
+    lists: &[u16],
     left: Left,
     best: Choice,
     work: &mut [u64],
     list: &mut [[u32; 5]],
 )
-    requires { ⌜ WriteRoom ports sets (now table) (now firsts) (now ends) (now uses) (now masks) (now cells) kinds (now one) (now still) (now joint) left best (now work) (now list) ⌝ }
+    requires { ⌜ WriteRoom ports sets (now table) (now firsts) (now ends) (now uses) (now masks) (now cells) kinds (now one) (now still) (now joint) (now lists) left best (now work) (now list) ⌝ }
     ensures { λ _. ⌜ Lists (now (table .entry)) (now (masks .entry)) (now (cells .entry)) kinds (now (list .entry)) (now (list .exit)) ⌝ }
 {
     let u = narrow(ports);
@@ -194,6 +202,7 @@ fn write_best(
             one,
             still,
             joint,
+            lists,
             left,
         );
         i = put_best(here.m, value, best.value, i, list);
@@ -215,11 +224,12 @@ pub fn list_best(
     one: &[u32],
     still: &[u32],
     joint: &[u32],
+    lists: &[u16],
     left: Left,
     best: Choice,
     list: &mut [[u32; 5]],
 )
-    requires { ⌜ ListRoom ports sets (now table) (now firsts) (now ends) (now uses) (now masks) (now cells) kinds (now one) (now still) (now joint) left best (now list) ⌝ }
+    requires { ⌜ ListRoom ports sets (now table) (now firsts) (now ends) (now uses) (now masks) (now cells) kinds (now one) (now still) (now joint) (now lists) left best (now list) ⌝ }
     ensures { λ _. ⌜ Lists (now (table .entry)) (now (masks .entry)) (now (cells .entry)) kinds (now (list .entry)) (now (list .exit)) ⌝ }
 {
     let mut work = [0u64; MASK_ROOM];
@@ -237,6 +247,7 @@ pub fn list_best(
         one,
         still,
         joint,
+        lists,
         left,
         best,
         &mut work[0..own],

@@ -1,43 +1,38 @@
 -- What filling the tables asks, and what full tables tell. Assumes nothing.
 use mathlib.Core.Path.{_≡_, refl, sym, ap, ap₂, _∙_, subst}
 use mathlib.Core.Logic.{_≢_}
-use mathlib.Core.Bool.{Bool, true, false, not, true≢false}
-use mathlib.Core.List.{List}
-use Prim.Native.Nat.{ℕ, zero, suc, _+_, _*_, _/_, _^_, _%_, _≤_, _<_}
+use mathlib.Core.Bool.{Bool, true, false, true≢false}
+use mathlib.Core.List.{List, []}
+use Prim.Native.Nat.{ℕ, suc, _+_, _*_, _/_, _^_, _%_, _≤_}
 use native.Mathlib.Nat.{pow-zero}
 use native.Mathlib.Omega.{arith}
 use lib.Dec.{eqb}
-use borrow.Author.Tests.{not-true}
 use lib.ListN.{length, getD}
 use lib.Seq.{take-all}
 use Rattle.logic.specs.declared.Move.{Move}
 use Rattle.logic.specs.Formula.{Node, root, Forest, none, tree, Plan, nodeCount, childDepth}
 use Rattle.logic.specs.inner.Literals.{Every}
-use Rattle.logic.specs.Configuration.{portsIn, outOfTest, configured, configuration, spelled, inMask, inMasks, ownMasks, allWithin}
+use Rattle.logic.specs.Configuration.{portsIn, outOfTest, configured, configuration, spelled, inMasks, ownMasks, allWithin}
 use Rattle.logic.specs.Cells.{cellCount, ownCells}
-use Rattle.logic.specs.Moves.{MoveKind, add, drop, transfer, swap, unknown, moveKind, kindWeight, known, fits, legal, ofKinds}
+use Rattle.logic.specs.Moves.{MoveKind, add, drop, transfer, swap, unknown, moveKind, kindWeight, ofKinds}
 use Rattle.logic.specs.Change.{modulus}
-use Rattle.logic.proofs.Lists.{and-left}
 use Rattle.logic.proofs.Masks.{ports-within}
-use Rattle.logic.proofs.MoveFields.{known-fields}
 use Rattle.table_format.specs.Rules.{planRule}
 use Rattle.table_format.specs.Decode.{sound, decode}
 use Rattle.table_format.proofs.Encoding.{decode-sound}
-use Rattle.cells_touch.specs.inner.Hits.{meets, level}
-use Rattle.cells_touch.proofs.Bits.{bit-meets}
-use Rattle.cells_touch.proofs.Touching.{in-level}
 use Rattle.cells_walk.specs.inner.Nodes.{IndexHolds, Fitting}
 use Rattle.cells_walk.specs.inner.Visit.{MasksSettled}
 use Rattle.cells_walk.proofs.Holding.{plan-holds, plan-fits}
 use Rattle.cells_atoms.specs.inner.Atoms.{ofAtoms}
 use Rattle.cells_atoms.proofs.Plans.{rooted-tree}
+use Rattle.cells_share.specs.inner.Listed.{ListStands, ofListed}
 use Rattle.call_open.specs.inner.Opening.{OpenTables}
-use Rattle.call_open.proofs.OpenPlan.{facts, same-plan, masks-ready}
-use Rattle.move_shares.specs.inner.Shares.{entering, leaving, exchanged, shareOf, SizesAre, setBits}
-use Rattle.move_shares.proofs.Unused.{in-set}
-use Rattle.move_slots.specs.inner.Slots.{slotAt, stillRead, flipRead, singleRead, jointRead, kindRead, moveRead, kindTold, told}
+use Rattle.call_open.proofs.OpenPlan.{facts, same-plan, masks-ready, ports-fit}
+use Rattle.move_shares.specs.inner.Listing.{AllFlat, crossRead}
+use Rattle.move_shares.specs.inner.Shares.{entering, leaving, exchanged, shareOf, SizesAre}
+use Rattle.move_slots.specs.inner.Slots.{slotAt, stillRead, flipRead, singleRead, jointRead, kindRead, moveRead}
 use Rattle.move_tables.specs.declared.Left.{Left}
-use Rattle.move_tables.specs.inner.Taking.{PlanGiven, ForestStands, MovesTaken, TakeAllReady, TakesAll}
+use Rattle.move_tables.specs.inner.Taking.{PlanGiven, ForestStands, wholeRead, MovesTaken, ListsGiven, Taken, TakeAllReady, TakesAll}
 use Rattle.move_root.specs.inner.Telling.{TablesTell, Told}
 use Rattle.move_fill.specs.inner.Filling.{SizesSet, AllZero, FillReady}
 
@@ -107,33 +102,39 @@ nothing-read one still joint a b c test m = by-kind (moveKind (m .kind))
         ap₂ _+_ (ap₂ _+_ (b (4 * m .s + j)) (flip-none (m .s) j (m .p))) (flip-none (m .s) j (m .q))
     by-kind unknown = refl
 
+-- a swap has no correction over no atoms
+nothing-crossed : (κ : MoveKind) (P : Plan) (masks sizes cells : List ℕ) (m : Move) → crossRead κ P masks sizes cells m [] ≡ 0
+unfolding crossRead ofListed
+nothing-crossed add P masks sizes cells m = refl
+nothing-crossed drop P masks sizes cells m = refl
+nothing-crossed transfer P masks sizes cells m = refl
+nothing-crossed swap P masks sizes cells m = refl
+nothing-crossed unknown P masks sizes cells m = refl
+
+-- and with empty lists nothing either
+nothing-said : (P : Plan) (masks sizes cells one still joint : List ℕ) → AllZero one → AllZero still → AllZero joint → (m : Move)
+    → wholeRead P masks sizes cells one still joint [] [] m ≡ 0
+unfolding wholeRead ofListed
+nothing-said P masks sizes cells one still joint a b c m =
+    ap₂ (λ (x y : ℕ). x + 0 + y) (nothing-read one still joint a b c (getD masks (P .sets) 0) m) (nothing-crossed (moveKind (m .kind)) P masks sizes cells m)
+
+-- empty lists, whatever the table has
+none-listed : (u sets : ℕ) (bytes firsts ends uses cells lists : List ℕ) (left : Left) → left .hards ≡ 0 → left .crossed ≡ 0
+    → ListsGiven u sets bytes firsts ends uses cells lists left [] []
+unfolding ListStands AllFlat
+none-listed u sets bytes firsts ends uses cells lists left n k = record {
+  stands = tt;
+  count-is = n;
+  crossed = record { stands = tt; flat = tt; count-is = k };
+}
+
 -- a transfer that is not asked for is no candidate
 unwanted : (transfers : Bool) (kinds : ℕ) (m : Move) → transfers ≡ eqb (kinds / 4 % 2) 1 → ofKinds kinds m ≡ true → transfers ≡ false → m .kind ≢ 3
 unfolding ofKinds kindWeight moveKind
 unwanted transfers kinds m w k x y = true≢false (sym (ap (λ (j : ℕ). eqb (kinds / kindWeight (moveKind j) % 2) 1) (sym y) ∙ k) ∙ sym w ∙ x)
 
--- Tables that tell of no move.
-hard-all : (s : ℕ) → s < 16 → meets (level 0) (setBits s) ≡ true
-hard-all s l = bit-meets (level 0) (setBits s) (4 * s + 0) (in-level 0 s 0 (omega arith) l (omega arith)) (in-set s 0 (omega arith))
-
-kept-from : (j hard crossed : ℕ) (m : Move) → 1 ≤ j → j ≤ 4 → kindTold (moveKind j) hard crossed m ≡ true → meets hard (setBits (m .s)) ≡ false
-unfolding kindTold moveKind
-kept-from zero hard crossed m l k h = absurd (omega arith)
-kept-from (suc zero) hard crossed m l k h = not-true (meets hard (setBits (m .s))) h
-kept-from (suc (suc zero)) hard crossed m l k h = not-true (meets hard (setBits (m .s))) h
-kept-from (suc (suc (suc zero))) hard crossed m l k h = not-true (meets hard (setBits (m .s))) (and-left (not (meets hard (setBits (m .s)))) (not (meets hard (setBits (m .t)))) h)
-kept-from (suc (suc (suc (suc zero)))) hard crossed m l k h = not-true (meets hard (setBits (m .s))) (and-left (not (meets hard (setBits (m .s)))) (not (inMask crossed (4 * m .s))) h)
-kept-from (suc (suc (suc (suc (suc j))))) hard crossed m l k h = absurd (omega arith)
-
-pub nothing-told : (P : Plan) (own before : List ℕ) (kinds : ℕ) (one still joint : List ℕ) (left : Left) → P .sets ≤ 16 → left .hard ≡ level 0 → TablesTell P own before kinds one still joint left
-unfolding TablesTell told legal
-nothing-told P own before kinds one still joint left few h n c f m l k t =
-    let F = known-fields P m (and-left (known P m) (fits (inMasks own) m) l) in
-    absurd (true≢false (sym (hard-all (m .s) (omega (arith, F .s-below)))
-    ∙ ap (λ (x : ℕ). meets x (setBits (m .s))) (sym h) ∙ kept-from (m .kind) (left .hard) (left .crossed) m (F .kind-low) (F .kind-high) t))
-
 -- the plan with its sizes
-module _ {ports sets : ℕ} {bytes firsts ends uses masks cells one still joint : List ℕ} (h : FillReady ports sets bytes firsts ends uses masks cells one still joint)
+module _ {ports sets : ℕ} {bytes firsts ends uses masks cells one still joint lists : List ℕ} (h : FillReady ports sets bytes firsts ends uses masks cells one still joint lists)
     (sizes : List ℕ) (z : SizesSet masks sets sets sizes) where
   abbrev plan : Plan
   plan = h .tables-open .opened .plan
@@ -171,57 +172,99 @@ module _ {ports sets : ℕ} {bytes firsts ends uses masks cells one still joint 
       (subst (λ (x : ℕ). ForestStands (plan .ports) x bytes firsts ends uses cells 1 (tree (node (h .tables-open)) (children (h .tables-open)) none) 1 0) (sym (o .sets-are))
       (child-stands (h .tables-open)))
 
-  pub take-asked : (until : ℕ) → until ≡ getD ends 0 0 → (mine own : List ℕ) → length mine ≡ 4096 → length own ≡ 64
-      → TakeAllReady ports sets bytes firsts ends uses masks sizes cells 1 until 0 mine own one still joint
-  take-asked until e mine own l k = record {
+  abbrev forest : Forest
+  forest = tree (node (h .tables-open)) (children (h .tables-open)) none
+
+  pub take-asked : (until : ℕ) → until ≡ getD ends 0 0 → (mine own : List ℕ) → length mine ≡ 4096 → length own ≡ 64 → (left : Left) → left .hards ≡ 0 → left .crossed ≡ 0
+      → TakeAllReady ports sets bytes firsts ends uses masks sizes cells 1 until 0 mine own one still joint lists left
+  take-asked until e mine own l k left n c = record {
     plan = plan;
-    forest = tree (node (h .tables-open)) (children (h .tables-open)) none;
+    forest = forest;
     first = 1;
     given = given;
     stands = stands;
     ends-at = e ∙ root-end (h .tables-open);
-    room = record { mine-long = l; own-long = k; one-long = h .one-long; still-long = h .still-long; joint-long = h .joint-long };
+    room = record {
+      mine-long = l;
+      own-long = k;
+      one-long = h .one-long;
+      still-long = h .still-long;
+      joint-long = h .joint-long;
+      lists-long = h .lists-long;
+      few = omega (arith, n);
+      few-crossed = omega (arith, c);
+    };
+    list = record { listed = []; crossing = []; given = none-listed ports sets bytes firsts ends uses cells lists left n c };
   }
 
-  pub tables-full : (until : ℕ) (transfers : Bool) (kinds : ℕ) (one′ still′ joint′ : List ℕ) (left left′ : Left) → until ≡ getD ends 0 0 → transfers ≡ eqb (kinds / 4 % 2) 1
-      → TakesAll ports sets bytes firsts ends uses masks sizes cells 1 until 0 transfers one still joint left one′ still′ joint′ left′
-      → (P : Plan) → decode bytes ≡ sound P → TablesTell P masks cells kinds one′ still′ joint′ left′
-  unfolding TakesAll MovesTaken TablesTell below-node
-  tables-full until transfers kinds one′ still′ joint′ left left′ e w H Q d =
-      subst (λ (R : Plan). TablesTell R masks cells kinds one′ still′ joint′ left′) (same-plan (h .tables-open .opened) Q d)
-      (λ n c f m l k t.
-      let o = h .tables-open .opened in
-      let g = shareOf plan masks cells m in
-      let r = H plan (tree (node (h .tables-open)) (children (h .tables-open)) none) 1 given stands (e ∙ root-end (h .tables-open)) m l (λ x y. unwanted transfers kinds m w k x y) t in
-      ap (λ (x : ℕ). moveRead one′ still′ joint′ (getD masks x 0) m % modulus) (sym (o .sets-are))
-      ∙ r .1
-      ∙ ap (λ (x : ℕ). (x + ofAtoms ports g (tree (node (h .tables-open)) (children (h .tables-open)) none) 1 0) % modulus) (nothing-read one still joint (h .one-empty) (h .still-empty) (h .joint-empty) (getD masks sets 0) m)
-      ∙ ap (λ (x : ℕ). x % modulus) (none-plus (ofAtoms ports g (tree (node (h .tables-open)) (children (h .tables-open)) none) 1 0))
-      ∙ ap₂ (λ (x : ℕ) (y : Forest). ofAtoms x g y 1 0 % modulus) (o .ports-are) (ap below-node (sym (rooted-tree plan (rules (h .tables-open)) .formula-is) ∙ f)))
+  module _ (until : ℕ) (transfers : Bool) (kinds : ℕ) (one′ still′ joint′ lists′ : List ℕ) (left left′ : Left) (e : until ≡ getD ends 0 0)
+      (n : left .hards ≡ 0) (k : left .crossed ≡ 0)
+      (H : TakesAll ports sets bytes firsts ends uses masks sizes cells 1 until 0 transfers one still joint lists left one′ still′ joint′ lists′ left′) where
+    taken : Taken ports sets bytes firsts ends uses masks sizes cells plan transfers 1 forest 1 0 one still joint [] [] one′ still′ joint′ lists′ left′
+    unfolding TakesAll
+    taken =
+        H plan forest 1 given stands (e ∙ root-end (h .tables-open)) [] [] (none-listed ports sets bytes firsts ends uses cells lists left n k) (omega (arith, n)) (omega (arith, k))
 
-  pub told-full : (until : ℕ) (transfers : Bool) (kinds : ℕ) (one′ still′ joint′ : List ℕ) (left left′ : Left) → until ≡ getD ends 0 0 → transfers ≡ eqb (kinds / 4 % 2) 1
-      → length one′ ≡ length one → length still′ ≡ length still → length joint′ ≡ length joint
-      → TakesAll ports sets bytes firsts ends uses masks sizes cells 1 until 0 transfers one still joint left one′ still′ joint′ left′
-      → Told ports sets bytes firsts ends uses masks cells kinds one′ still′ joint′ left′
-  told-full until transfers kinds one′ still′ joint′ left left′ e w l1 l2 l3 H = record {
+    plan-sized : (P : Plan) → decode bytes ≡ sound P → PlanGiven ports sets masks sizes cells P
+    plan-sized Q d = subst (λ (R : Plan). PlanGiven ports sets masks sizes cells R) (same-plan (h .tables-open .opened) Q d) given
+
+    tables-full : transfers ≡ eqb (kinds / 4 % 2) 1 → (P : Plan) → decode bytes ≡ sound P
+        → TablesTell P masks sizes cells kinds one′ still′ joint′ (taken .listed) (taken .crossing)
+    unfolding MovesTaken TablesTell below-node
+    tables-full w Q d =
+        subst (λ (R : Plan). TablesTell R masks sizes cells kinds one′ still′ joint′ (taken .listed) (taken .crossing)) (same-plan (h .tables-open .opened) Q d)
+        (λ n c f m l k.
+        let o = h .tables-open .opened in
+        let g = shareOf plan masks cells m in
+        taken .moves m l (λ x y. unwanted transfers kinds m w k x y)
+        ∙ ap (λ (x : ℕ). (x + ofAtoms ports g forest 1 0) % modulus) (nothing-said plan masks sizes cells one still joint (h .one-empty) (h .still-empty) (h .joint-empty) m)
+        ∙ ap (λ (x : ℕ). x % modulus) (none-plus (ofAtoms ports g forest 1 0))
+        ∙ ap₂ (λ (x : ℕ) (y : Forest). ofAtoms x g y 1 0 % modulus) (o .ports-are) (ap below-node (sym (rooted-tree plan (rules (h .tables-open)) .formula-is) ∙ f)))
+
+    pub told-full : transfers ≡ eqb (kinds / 4 % 2) 1 → length one′ ≡ length one → length still′ ≡ length still → length joint′ ≡ length joint → length lists′ ≡ length lists
+        → Told ports sets bytes firsts ends uses masks cells kinds one′ still′ joint′ lists′ left′
+    told-full w l1 l2 l3 l4 = record {
+      tables-open = h .tables-open;
+      masks-own = h .masks-own;
+      cells-own = h .cells-own;
+      one-long = l1 ∙ h .one-long;
+      still-long = l2 ∙ h .still-long;
+      joint-long = l3 ∙ h .joint-long;
+      lists-long = l4 ∙ h .lists-long;
+      listed = taken .listed;
+      crossing = taken .crossing;
+      lists-given = taken .given;
+      few = omega (arith, taken .few, stands .nodes);
+      few-crossed = omega (arith, taken .few-crossed, stands .nodes);
+      sizes = sizes;
+      plan-given = λ x. plan-sized;
+      tell = λ x. tables-full w;
+    }
+
+module _ {ports sets : ℕ} {bytes firsts ends uses masks cells one still joint lists : List ℕ} (h : FillReady ports sets bytes firsts ends uses masks cells one still joint lists) where
+  -- whether walks are cheaper may be asked
+  pub walks-asked : (nodes : ℕ) → nodes ≡ getD ends 0 0 → (ports ≤ 64) × (nodes ≤ 512)
+  walks-asked nodes e =
+      let t = h .tables-open in
+      (ports-fit (t .opened), omega (arith, e, root-end t, child-stands t .nodes))
+
+  -- where all moves are walked, the lists are empty
+  pub told-none : (kinds : ℕ) (left : Left) → left .walked ≡ true → left .hards ≡ 0 → left .crossed ≡ 0
+      → Told ports sets bytes firsts ends uses masks cells kinds one still joint lists left
+  told-none kinds left w n k = record {
     tables-open = h .tables-open;
     masks-own = h .masks-own;
     cells-own = h .cells-own;
-    one-long = l1 ∙ h .one-long;
-    still-long = l2 ∙ h .still-long;
-    joint-long = l3 ∙ h .joint-long;
-    tell = tables-full until transfers kinds one′ still′ joint′ left left′ e w H;
+    one-long = h .one-long;
+    still-long = h .still-long;
+    joint-long = h .joint-long;
+    lists-long = h .lists-long;
+    listed = [];
+    crossing = [];
+    lists-given = none-listed ports sets bytes firsts ends uses cells lists left n k;
+    few = omega (arith, n);
+    few-crossed = omega (arith, k);
+    sizes = [];
+    plan-given = λ x. absurd (true≢false (sym w ∙ x));
+    tell = λ x. absurd (true≢false (sym w ∙ x));
   }
-
-pub told-none : {ports sets : ℕ} {bytes firsts ends uses masks cells one still joint : List ℕ} (h : FillReady ports sets bytes firsts ends uses masks cells one still joint)
-    (kinds : ℕ) (left : Left) → left .hard ≡ level 0 → Told ports sets bytes firsts ends uses masks cells kinds one still joint left
-told-none {one = one} {still = still} {joint = joint} h kinds left e = record {
-  tables-open = h .tables-open;
-  masks-own = h .masks-own;
-  cells-own = h .cells-own;
-  one-long = h .one-long;
-  still-long = h .still-long;
-  joint-long = h .joint-long;
-  tell = λ P d. nothing-told P _ _ kinds one still joint left
-      (omega (arith, facts (h .tables-open .opened) .sets16, ap (λ (Q : Plan). Q .sets) (same-plan (h .tables-open .opened) P d))) e;
-}

@@ -1,6 +1,5 @@
 // The tables of what flips bring to the root, filled for a plan as it stands.
 use cells_size::set_size;
-use cells_touch::level_of;
 use cells_walk::end_at;
 use move_atoms::take_atoms;
 use move_tables::Left;
@@ -23,7 +22,19 @@ fn set_sizes(masks: &[u64], sets: usize) -> [u32; 16]
     sizes
 }
 
-// Fills the tables for the moves of some kinds. Drops alone are few, and a walk for each costs less: then the tables tell of none.
+// Whether a walk for each candidate costs less than the tables: drops alone are few, and where a node has at most one cell a port on
+// average a walk touches little, while short rows gain little by the tables.
+fn walks_cheaper(kinds: u32, ports: usize, nodes: usize, width: usize) -> bool
+    requires { ⌜ (ports ≤ 64) × (nodes ≤ 512) ⌝ }
+{
+    if kinds != 2 {
+        return false;
+    }
+    ports < 16 || width <= nodes * ports
+}
+
+// Fills the tables for the moves of some kinds, and lists the atoms with quantifiers and those for which a swap has a correction; or says that
+// every move is to be walked.
 pub fn fill_tables(
     table: &[u8],
     firsts: &[u32; 512],
@@ -37,13 +48,15 @@ pub fn fill_tables(
     one: &mut [u32],
     still: &mut [u32],
     joint: &mut [u32],
+    lists: &mut [u16],
 ) -> Left
-    requires { ⌜ FillReady ports sets (now table) (now firsts) (now ends) (now uses) (now masks) (now cells) (now one) (now still) (now joint) ⌝ }
-    ensures { λ r. ⌜ Told ports sets (now (table .entry)) (now (firsts .entry)) (now (ends .entry)) (now (uses .entry)) (now (masks .entry)) (now (cells .entry)) kinds (now (one .exit)) (now (still .exit)) (now (joint .exit)) r ⌝ }
+    requires { ⌜ FillReady ports sets (now table) (now firsts) (now ends) (now uses) (now masks) (now cells) (now one) (now still) (now joint) (now lists) ⌝ }
+    ensures { λ r. ⌜ Told ports sets (now (table .entry)) (now (firsts .entry)) (now (ends .entry)) (now (uses .entry)) (now (masks .entry)) (now (cells .entry)) kinds (now (one .exit)) (now (still .exit)) (now (joint .exit)) (now (lists .exit)) r ⌝ }
 {
-    if kinds == 2 {
+    if walks_cheaper(kinds, ports, end_at(ends, 0), cells.len()) {
         return Left {
-            hard: level_of(0),
+            walked: true,
+            hards: 0,
             crossed: 0,
         };
     }
@@ -69,8 +82,10 @@ pub fn fill_tables(
         one,
         still,
         joint,
+        lists,
         Left {
-            hard: 0,
+            walked: false,
+            hards: 0,
             crossed: 0,
         },
     )

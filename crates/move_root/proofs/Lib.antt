@@ -1,3 +1,4 @@
 -- Laws.
+mod Both
 mod Reading
 mod Roots

@@ -1,59 +1,17 @@
--- Whether the tables tell of a move, and the sums that they say of it. Assumes nothing.
+-- The sums that the tables say of a move. Assumes nothing.
 use mathlib.Core.Path.{_≡_, sym, ap, ap₂, _∙_}
 use mathlib.Core.Logic.{_≢_}
-use mathlib.Core.Bool.{Bool, true, false, not, _&&_}
 use mathlib.Core.List.{List, []}
-use Prim.Native.Nat.{ℕ, zero, suc, _+_, _-_, _*_, _%_, _≤_}
+use Prim.Native.Nat.{ℕ, _+_, _-_, _*_, _%_}
 use native.Mathlib.Omega.{arith}
 use Rattle.logic.specs.declared.Move.{Move}
-use Rattle.logic.specs.Configuration.{inMask}
 use Rattle.logic.specs.Moves.{transfer, swap, moveKind}
-use Rattle.cells_touch.specs.inner.Hits.{meets}
-use Rattle.move_shares.specs.inner.Shares.{entering, leaving, exchanged, setBits}
-use Rattle.move_slots.specs.inner.Slots.{slotAt, flipRead, singleRead, jointRead, kindRead, moveRead, kindTold, told}
+use Rattle.move_shares.specs.inner.Shares.{entering, leaving, exchanged}
+use Rattle.move_slots.specs.inner.Slots.{slotAt, flipRead, singleRead, jointRead, kindRead, moveRead}
 use Rattle.move_root.specs.inner.Reading.{Readable}
 
--- the tables tell of a move by its first set, and then by what its kind asks beside
-module _ (hard crossed : ℕ) (m : Move) where
-  abbrev free : Bool
-  free = not (meets hard (setBits (m .s)))
-
-  none-at : (κ : ℕ) → 1 ≤ κ → κ ≤ 4 → free ≡ false → kindTold (moveKind κ) hard crossed m ≡ false
-  unfolding moveKind kindTold
-  none-at zero l h f = absurd (omega arith)
-  none-at (suc zero) l h f = f
-  none-at (suc (suc zero)) l h f = f
-  none-at (suc (suc (suc zero))) l h f = ap (λ (a : Bool). a && not (meets hard (setBits (m .t)))) f
-  none-at (suc (suc (suc (suc zero)))) l h f = ap (λ (a : Bool). a && not (inMask crossed (4 * m .s))) f
-  none-at (suc (suc (suc (suc (suc j))))) l h f = absurd (omega arith)
-
-  single-at : (κ : ℕ) → 1 ≤ κ → κ ≤ 2 → free ≡ true → kindTold (moveKind κ) hard crossed m ≡ true
-  unfolding moveKind kindTold
-  single-at zero l h f = absurd (omega arith)
-  single-at (suc zero) l h f = f
-  single-at (suc (suc zero)) l h f = f
-  single-at (suc (suc (suc j))) l h f = absurd (omega arith)
-
-  pub told-none : Readable m → free ≡ false → false ≡ told hard crossed m
-  unfolding told
-  told-none r f = sym (none-at (m .kind) (r .kind-low) (r .kind-high) f)
-
-  pub told-single : Readable m → m .kind ≢ 3 → m .kind ≢ 4 → free ≡ true → true ≡ told hard crossed m
-  unfolding told
-  told-single r n3 n4 f = sym (single-at (m .kind) (r .kind-low) (omega (arith, r .kind-high, n3, n4)) f)
-
-  pub told-transfer : m .kind ≡ 3 → free ≡ true → not (meets hard (setBits (m .t))) ≡ told hard crossed m
-  unfolding told moveKind kindTold
-  told-transfer e f =
-      sym (ap (λ (κ : ℕ). kindTold (moveKind κ) hard crossed m) e ∙ ap (λ (a : Bool). a && not (meets hard (setBits (m .t)))) f)
-
-  pub told-swap : m .kind ≡ 4 → free ≡ true → not (inMask crossed (4 * m .s)) ≡ told hard crossed m
-  unfolding told moveKind kindTold
-  told-swap e f =
-      sym (ap (λ (κ : ℕ). kindTold (moveKind κ) hard crossed m) e ∙ ap (λ (a : Bool). a && not (inMask crossed (4 * m .s))) f)
-
 -- sums of numbers that are known modulo 2^32
-wrapped-first : (r a b x : ℕ) → r ≡ (a + b) % 4294967296 → a ≡ x % 4294967296 → r ≡ (x + b) % 4294967296
+pub wrapped-first : (r a b x : ℕ) → r ≡ (a + b) % 4294967296 → a ≡ x % 4294967296 → r ≡ (x + b) % 4294967296
 wrapped-first r a b x h f = omega arith
 
 pub wrapped-last : (r a b y : ℕ) → r ≡ (a + b) % 4294967296 → b ≡ y % 4294967296 → r ≡ (a + y) % 4294967296

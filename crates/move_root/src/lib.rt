@@ -1,76 +1,26 @@
-// The root that a legal move would leave: by the tables of what flips bring where they tell of it, else by a walk.
+// The root that a legal move would leave: by the tables of what flips bring and the atoms that are listed, or by a walk.
 use cells_size::mask_at;
 use cells_touch::change_of;
 use cells_touch::first_word;
 use cells_touch::meet;
-use cells_touch::size_bit;
-use cells_touch::variable_bits;
 use cells_walk::uses_at;
 use logic::Move;
-use logic::has_port;
 use logic::wide;
+use move_crossed::crossed_shares;
+use move_crossed::entering_size;
+use move_crossed::leaving_size;
+use move_hard::hard_shares;
 use move_tables::Left;
 use move_try::try_move;
 use std::num::wrapping_add_u32;
 ghost use mathlib.Core.Path.{_≡_};
-ghost use mathlib.Core.Bool.{not};
 ghost use mathlib.Core.List.{[]};
-ghost use Prim.Native.Nat.{_+_, _*_, _%_, _≤_, _<_};
+ghost use Prim.Native.Nat.{_+_, _*_, _%_, _<_};
 ghost use lib.ListN.{length};
 ghost use Rattle.logic.specs.Moves.{transfer, swap};
-ghost use Rattle.cells_touch.specs.inner.Hits.{meets};
-ghost use Rattle.move_shares.specs.inner.Shares.{entering, leaving, setBits};
-ghost use Rattle.move_slots.specs.inner.Slots.{slotAt, flipRead, singleRead, kindRead, moveRead, told};
+ghost use Rattle.move_slots.specs.inner.Slots.{slotAt, flipRead, singleRead, kindRead, moveRead};
 ghost use Rattle.move_root.specs.inner.Reading.{Readable, SlotFits, ReadRoom};
-ghost use Rattle.move_root.specs.inner.Telling.{RootAsked, RootLeft};
-
-// Whether no atom with quantifiers uses a set.
-fn is_free(hard: u64, set: u32) -> bool
-    requires { ⌜ set < 16 ⌝ }
-    ensures { λ r. ⌜ r ≡ not (meets hard (setBits set)) ⌝ }
-{
-    let s = wide(set);
-    !meet(hard, variable_bits(s) | size_bit(s))
-}
-
-// Whether the tables tell of a move.
-fn is_told(left: Left, m: Move) -> bool
-    requires { ⌜ Readable m ⌝ }
-    ensures { λ r. ⌜ r ≡ told (left .hard) (left .crossed) m ⌝ }
-{
-    if !is_free(left.hard, m.s) {
-        return false;
-    }
-    if m.kind == 3 {
-        return is_free(left.hard, m.t);
-    }
-    if m.kind == 4 {
-        return !has_port(left.crossed, 4 * m.s);
-    }
-    true
-}
-
-// What becomes of a set's size when port p enters it: 1 the same, 2 one more.
-fn entering_size(test: u64, p: u32) -> usize
-    requires { ⌜ p < 64 ⌝ }
-    ensures { λ r. ⌜ (r ≡ entering test p) × (1 ≤ r) × (r ≤ 2) ⌝ }
-{
-    if has_port(test, p) {
-        return 1;
-    }
-    2
-}
-
-// What becomes of a set's size when port p leaves it: 0 one less, 1 the same.
-fn leaving_size(test: u64, p: u32) -> usize
-    requires { ⌜ p < 64 ⌝ }
-    ensures { λ r. ⌜ (r ≡ leaving test p) × (r ≤ 1) ⌝ }
-{
-    if has_port(test, p) {
-        return 1;
-    }
-    0
-}
+ghost use Rattle.move_root.specs.inner.Telling.{BothAsked, BothRead, RootAsked, RootLeft};
 
 // A slot's number for a port.
 fn slot_read(table: &[u32], slot: usize, p: u32) -> u32
@@ -142,6 +92,44 @@ fn move_read(one: &[u32], still: &[u32], joint: &[u32], test: u64, m: Move) -> u
     single_read(one, still, s, leaving_size(test, m.p), m.p)
 }
 
+// What a move brings to the atoms of a list beyond the tables: a swap has a correction where both its ports meet in an atom.
+fn both_read(
+    table: &[u8],
+    firsts: &[u32; 512],
+    ends: &[u16; 512],
+    uses: &[u64; 512],
+    masks: &[u64],
+    cells: &[u32],
+    ports: usize,
+    sets: usize,
+    m: Move,
+    list: &[u16],
+    count: usize,
+) -> u32
+    requires { ⌜ BothAsked ports sets (now table) (now firsts) (now ends) (now uses) (now masks) (now cells) m (now list) count ⌝ }
+    ensures { λ r. ⌜ BothRead ports sets (now (table .entry)) (now (firsts .entry)) (now (ends .entry)) (now (uses .entry)) (now (masks .entry)) (now (cells .entry)) m (now (list .entry)) count r ⌝ }
+{
+    if m.kind != 4 {
+        return 0;
+    }
+    if count == 0 {
+        return 0;
+    }
+    crossed_shares(
+        table,
+        firsts,
+        ends,
+        uses,
+        masks,
+        cells,
+        ports,
+        sets,
+        m,
+        list,
+        count,
+    )
+}
+
 // The root that a legal move would leave; what the walk writes goes into `work`.
 pub fn move_root(
     table: &[u8],
@@ -157,12 +145,13 @@ pub fn move_root(
     one: &[u32],
     still: &[u32],
     joint: &[u32],
+    lists: &[u16],
     left: Left,
 ) -> u32
-    requires { ⌜ RootAsked ports sets (now table) (now firsts) (now ends) (now uses) (now masks) (now cells) (now one) (now still) (now joint) left m (now work) ⌝ }
+    requires { ⌜ RootAsked ports sets (now table) (now firsts) (now ends) (now uses) (now masks) (now cells) (now one) (now still) (now joint) (now lists) left m (now work) ⌝ }
     ensures { λ r. ⌜ RootLeft (now (table .entry)) (now (masks .entry)) (now (cells .entry)) m r ⌝ }
 {
-    if !is_told(left, m) {
+    if left.walked {
         let tried = try_move(
             table,
             firsts,
@@ -180,8 +169,36 @@ pub fn move_root(
     if !meet(uses_at(uses, 0), first_word(change_of(m))) {
         return cells[0];
     }
-    wrapping_add_u32(
+    let by_tables = wrapping_add_u32(
         cells[1],
         move_read(one, still, joint, mask_at(masks, sets), m),
-    )
+    );
+    let by_list = hard_shares(
+        table,
+        firsts,
+        ends,
+        uses,
+        masks,
+        cells,
+        ports,
+        sets,
+        m,
+        work,
+        lists,
+        left.hards,
+    );
+    let by_both = both_read(
+        table,
+        firsts,
+        ends,
+        uses,
+        masks,
+        cells,
+        ports,
+        sets,
+        m,
+        &lists[512..],
+        left.crossed,
+    );
+    wrapping_add_u32(wrapping_add_u32(by_tables, by_list), by_both)
 }

@@ -1,6 +1,5 @@
 -- Laws.
 pub mod Alike
-pub mod Missed
 pub mod OfKinds
 pub mod Roots
 pub mod Swaps

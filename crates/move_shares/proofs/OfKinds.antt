@@ -10,16 +10,16 @@ use lib.Dec.{eqb}
 use lib.ListN.{getD}
 use borrow.Author.Tests.{eqb-true, eqb-false, eq-eqb, ne-eqb, not-true}
 use Rattle.logic.specs.declared.Move.{Move}
-use Rattle.logic.specs.Formula.{Relation, lt, le, eq, ne, ge, gt, Test, isin, notin, port, size, Node, root, all, any, and, or, lit, Forest, none, tree, Plan, childDepth}
+use Rattle.logic.specs.Formula.{Test, isin, notin, port, size, Node, root, all, any, and, or, lit, Forest, none, tree, Plan, childDepth}
 use Rattle.logic.specs.inner.Literals.{Every, OfLiteral, OfTest}
 use Rattle.logic.specs.Configuration.{Sets, Configuration, indicator, portsIn, outOfTest, configured, configuration, inMask, inMasks, spelled, ownMasks}
 use Rattle.logic.specs.Truth.{Tuple, portOf}
-use Rattle.logic.specs.Penalty.{compare, sizePenalty, testPenalty, literalPenalty}
+use Rattle.logic.specs.Penalty.{sizePenalty, testPenalty}
 use Rattle.logic.specs.Moves.{moveKind, fieldsFit, known, fits, legal, Pair, kindPairs, namedPairs, movePairs, flips}
 use Rattle.logic.specs.Cells.{placeOf}
 use Rattle.logic.specs.Change.{someOf, Change, pairsChange, modulus, cellOf, newCell}
-use Rattle.logic.proofs.Lists.{and-left, and-right, indicator-le}
-use Rattle.logic.proofs.Bound.{LiteralsAtMost, sizes-64}
+use Rattle.logic.proofs.Lists.{and-left, and-right}
+use Rattle.logic.proofs.Bound.{sizes-64}
 use Rattle.logic.proofs.MoveFields.{known-fields}
 use Rattle.logic.proofs.Moves.{PairsKnown, known-pairs, known-ports, move-spells, flips-in-test}
 use Rattle.cells_walk.specs.inner.Nodes.{TestFits, Fitting}
@@ -29,9 +29,11 @@ use Rattle.cells_atoms.specs.inner.Atoms.{overTuples, difference}
 use Rattle.cells_atoms.proofs.Alike.{new-cell-alike}
 use Rattle.cells_atoms.proofs.Atoms.{difference-is, new-cell-fits}
 use Rattle.cells_atoms.proofs.Ports.{by-way-of}
-use Rattle.cells_atoms.proofs.Tuples.{tuples-two, tuples-mod}
+use Rattle.cells_atoms.proofs.Tuples.{tuples-two}
+use Rattle.cells_flip.proofs.Words.{literals-66}
 use Rattle.cells_ports.specs.inner.Ports.{resizedBy, flippedBy}
 use Rattle.move_shares.specs.inner.Shares.{configurationAfter, changeBy, shareOf, entering, leaving, Outcome, changing, sizedAs, pairsOf, resizing, flipping, resizedTo, flippedTo, resizedShare, flippedShare, wholeShare, SizesAre, ShareReady, TreeReady}
+use Rattle.move_shares.proofs.Alike.{tuples-mod}
 use Rattle.move_shares.proofs.Words.{Proper, proper-one, proper-two, flips-are, sized-low}
 
 -- Sets that differ at one port only.
@@ -151,33 +153,6 @@ module _ (u sets : ℕ) (k k′ : Configuration) (ch : Change) (members : (S p :
     same-alike s d e (h .2),
   )
 
--- With sizes of at most 65 no literal's penalty is above 66.
-size-most : (r : Relation) (s c : ℕ) → s ≤ 65 → c ≤ 64 → sizePenalty r s c ≤ 66
-unfolding sizePenalty
-size-most lt s c h k = omega arith
-size-most le s c h k = omega arith
-size-most eq s c h k = omega arith
-size-most ne s c h k = omega (arith, indicator-le (eqb s c))
-size-most ge s c h k = omega arith
-size-most gt s c h k = omega arith
-
-module _ (sets : ℕ) (k : Configuration) (small : (S : ℕ) → S < sets → k .size S ≤ 65) where
-  test-most : (d : ℕ) (t : Test) → TestFits sets d t → (e : Tuple) → testPenalty k t e ≤ 66
-  unfolding TestFits testPenalty
-  test-most d (port r v w) f e = omega (arith, indicator-le (not (compare r (portOf e v) (portOf e w))))
-  test-most d (size r S c) f e = size-most r (k .size S) c (small S (f .0)) (f .1)
-  test-most d (isin v S) f e = omega (arith, indicator-le (not (k .member S (portOf e v))))
-  test-most d (notin v S) f e = omega (arith, indicator-le (k .member S (portOf e v)))
-
-  pub literals-most : (f : Forest) (d : ℕ) → Fitting sets f d → LiteralsAtMost 66 k f d
-  unfolding Fitting Every LiteralsAtMost literalPenalty
-  literals-most none d h = tt
-  literals-most (tree n c s) d h = (
-    of-test (TestFits sets d) (λ t. (e : Tuple) → testPenalty k t e ≤ 66) (test-most d) n (h .0 .literal),
-    literals-most c (childDepth n d) (h .1),
-    literals-most s d (h .2),
-  )
-
 -- the change that the pairs at x make
 pairs-named : (zs : List Outcome) (x S : ℕ) → someOf (λ (q : Pair). eqb S (q .0)) (pairsOf zs x) ≡ changing zs S
 unfolding pairsOf changing someOf
@@ -220,13 +195,13 @@ module _ (P : Plan) (own before sizes : List ℕ) (ready : ShareReady P own befo
         (same-alike u (P .sets) after (flippedTo own sizes zs x) (flipping zs x) (λ S p. refl) sizes-after (tree n c none) d e (stands .fitting)))
         ∙ by-way-of (newCell u (flippedTo own sizes zs x) (flipping zs x) t n c b d e) (newCell u (resizedTo own sizes zs) (resizing zs) t n c b d e) (t b e)
         (new-cell-fits u (resizedTo own sizes zs) (resizing zs) t (λ b e. ready .cells-fit (b + placeOf u e)) 66 (omega arith) n c b d e
-        (literals-most (P .sets) (resizedTo own sizes zs) sizes-low (tree n c none) d (stands .fitting)))
+        (literals-66 (P .sets) (resizedTo own sizes zs) sizes-low (tree n c none) d (stands .fitting)))
 
     flips-add : overTuples (P .ports) d (difference (P .ports) after (flipping zs x) (cellOf (P .ports) before) n c b d) [] % modulus
         ≡ wholeShare (P .ports) own sizes before zs x n c b d % modulus
     unfolding wholeShare resizedShare flippedShare
     flips-add =
-        tuples-mod (P .ports) d _ _ [] cell-by
+        tuples-mod (P .ports) _ _ d (λ e w. cell-by e)
         ∙ ap (λ (y : ℕ). y % modulus) (tuples-two (P .ports) d _ _ [])
 
 -- A legal move that flips some sets at its port p.

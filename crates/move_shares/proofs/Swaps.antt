@@ -15,6 +15,7 @@ use Rattle.logic.specs.Formula.{Node, Forest, none, tree, Plan}
 use Rattle.logic.specs.Configuration.{Sets, Configuration, indicator, portsIn, outOfTest, configured, configuration, inMask, inMasks, ownMasks, spelled}
 use Rattle.logic.specs.Truth.{Tuple, portOf}
 use Rattle.logic.specs.Moves.{Pair, moveKind, fieldsFit, fits, known, legal, kindPairs, namedPairs, movePairs, flip, flips}
+use Rattle.logic.specs.inner.Agreement.{listed}
 use Rattle.logic.specs.Change.{someOf, memberHit, pairsChange, modulus, cellOf, newCell}
 use Rattle.logic.proofs.Lists.{TupleOf, or-false, and-false, and-left, and-right}
 use Rattle.logic.proofs.Tables.{length-tuple}
@@ -26,13 +27,14 @@ use Rattle.cells_walk.specs.inner.Visit.{CellsFit}
 use Rattle.cells_atoms.specs.inner.Atoms.{overTuples, difference}
 use Rattle.cells_atoms.proofs.Atoms.{new-cell-fits, difference-is}
 use Rattle.cells_atoms.proofs.Tuples.{tuples-two}
-use Rattle.cells_flip.specs.inner.Flips.{Flat}
+use Rattle.cells_flip.specs.inner.Flips.{Flat, Flipped}
+use Rattle.cells_flip.proofs.Words.{literals-66}
 use Rattle.cells_ports.specs.inner.Ports.{resizedBy, flippedBy}
-use Rattle.move_shares.specs.inner.Shares.{configurationAfter, changeBy, shareOf, entering, leaving, exchanged, Outcome, changing, sizedAs, pairsOf, resizing, flipping, resizedTo, flippedTo, resizedShare, flippedShare, SizesAre, ShareReady, TreeReady, crosses}
+use Rattle.cells_both.specs.inner.Both.{atTwo, FlipsBoth, FourAre, bothBy}
+use Rattle.move_shares.specs.inner.Shares.{configurationAfter, changeBy, shareOf, entering, leaving, exchanged, Outcome, changing, sizedAs, pairsOf, resizing, flipping, resizedTo, flippedTo, resizedShare, flippedShare, swappedSet, fourOf, bothShare, SizesAre, ShareReady, TreeReady, crosses}
 use Rattle.move_shares.proofs.Alike.{Here, flat-alike, tuples-mod}
-use Rattle.move_shares.proofs.OfKinds.{literals-most}
 use Rattle.move_shares.proofs.Unused.{pairs-below}
-use Rattle.move_shares.proofs.Words.{proper-one, sized-low}
+use Rattle.move_shares.proofs.Words.{proper-one, sized-low, resizes-so, flips-so, resized-flipped, flipped-flipped}
 
 -- a set that no two variables test is tested by one
 one-variable : (used S : ℕ) → crosses used S ≡ false → (w : ℕ) × ((v : ℕ) → v < 3 → inMask used (4 * S + v) ≡ true → v ≡ w)
@@ -131,6 +133,13 @@ by-flips : (new old base one other : ℕ) → base < modulus → new ≡ one →
 unfolding modulus
 by-flips new old base one other l h i = omega arith
 
+-- new less old, by way of the resizing and each flip
+by-both : (new old base one other : ℕ) → base < modulus → one < modulus → other < modulus
+    → (new + (modulus - old)) % modulus
+    ≡ (base + (modulus - old) + (one + (modulus - base)) + (other + (modulus - base)) + (new + (modulus - one) + (base + (modulus - other)))) % modulus
+unfolding modulus
+by-both new old base one other l h i = omega arith
+
 module _ (P : Plan) (own before sizes : List ℕ) (ready : ShareReady P own before sizes) (n : Node) (c : Forest) (b d : ℕ) (stands : TreeReady P n c d)
     (flat : Flat (tree n c none) d) (s p q : ℕ) (s-below : s < P .sets) (p-below : p < P .ports) (q-below : q < P .ports)
     (inside : inMasks own s p ≡ true) (outside : inMasks own s q ≡ false) where
@@ -197,6 +206,35 @@ module _ (P : Plan) (own before sizes : List ℕ) (ready : ShareReady P own befo
       go : (a : Bool) → (a || false) ≡ true → a ≡ true
       go true i = refl
       go false i = i
+
+  -- the change and the configuration of both flips, as the sums for both ports ask them
+  both-lists : FlipsBoth (changing zs) (changing zs) p q (pairsChange qs)
+  unfolding FlipsBoth atTwo pairsChange listed changing someOf
+  both-lists = record { listed-are = λ S x. joined (eqb S s) (eqb x p) (eqb x q); resized-are = resized-same }
+    where
+      joined : (a b c : Bool) → ((a && b) || ((a && c) || false)) ≡ ((a || false) && (b || c))
+      joined true true c = refl
+      joined true false true = refl
+      joined true false false = refl
+      joined false b c = refl
+
+  both-flipped : (of : ℕ) (asked : List ℕ)
+      → ((S : ℕ) → S < 16 → inMask of (4 * S + 3) ≡ true → changing zs S ≡ true → getD asked S 0 ≡ sizedAs sizes zs S)
+      → Flipped of own asked (pairsChange qs) after
+  unfolding pairsChange listed someOf configuration configured flips flip
+  both-flipped of asked asked-are = record {
+    members = λ S x h. turned S x (eqb S s) (eqb x p) (eqb x q) refl refl refl h;
+    sizes-are = λ S l i h. size-same S (resized-set S h) ∙ sym (asked-are S l i (sym (resized-same S) ∙ h));
+    low = λ S. omega (arith, sizes-64 u (P .sets) (flips qs (inMasks own)) (ready .settled .ports64) S);
+  }
+    where
+      turned : (S x : ℕ) (a b c : Bool) → eqb S s ≡ a → eqb x p ≡ b → eqb x q ≡ c → ((a && b) || ((a && c) || false)) ≡ true
+          → cond (a && c) (not (cond (a && b) (not (inMasks own S x)) (inMasks own S x))) (cond (a && b) (not (inMasks own S x)) (inMasks own S x)) ≡ not (inMasks own S x)
+      turned S x true true true i j k h = absurd (differ (sym (eqb-true x p j) ∙ eqb-true x q k))
+      turned S x true true false i j k h = refl
+      turned S x true false true i j k h = refl
+      turned S x true false false i j k h = absurd (false≢true h)
+      turned S x false b c i j k h = absurd (false≢true h)
 
   abbrev swapped : Tuple → ℕ
   swapped = newCell u after (pairsChange qs) (cellOf u before) n c b d
@@ -277,7 +315,13 @@ module _ (P : Plan) (own before sizes : List ℕ) (ready : ShareReady P own befo
   unfolding resizedTo modulus
   resized-fits e =
       new-cell-fits u (resizedTo own sizes zs) (resizing zs) (cellOf u before) cells-low 66 (omega arith) n c b d e
-      (literals-most (P .sets) (resizedTo own sizes zs) size-low (tree n c none) d (stands .fitting))
+      (literals-66 (P .sets) (resizedTo own sizes zs) size-low (tree n c none) d (stands .fitting))
+
+  flipped-fits : (x : ℕ) (e : Tuple) → flippedNew x e < modulus
+  unfolding flippedTo modulus
+  flipped-fits x e =
+      new-cell-fits u (flippedTo own sizes zs x) (flipping zs x) (cellOf u before) cells-low 66 (omega arith) n c b d e
+      (literals-66 (P .sets) (flippedTo own sizes zs x) size-low (tree n c none) d (stands .fitting))
 
   abbrev parts : Tuple → ℕ
   parts e =
@@ -297,16 +341,32 @@ module _ (P : Plan) (own before sizes : List ℕ) (ready : ShareReady P own befo
       go (inr i) =
           by-flips (swapped e) (cellOf u before b e) (resizedNew e) (flippedNew p e) (flippedNew q e) (resized-fits e) (swap-missed-q e w i) (flip-missed e w q q-below i)
 
+  -- the parts, and what both flips bring beyond each, whether or not they meet
+  abbrev together : Tuple → ℕ
+  together e = swapped e + (modulus - flippedNew p e) + (resizedNew e + (modulus - flippedNew q e))
+
+  parts-sum : overTuples u d parts []
+      ≡ resizedShare u own sizes before zs n c b d + flippedShare u own sizes before zs p n c b d + flippedShare u own sizes before zs q n c b d
+  unfolding resizedShare resizedBy flippedShare flippedBy
+  parts-sum =
+      tuples-two u d (λ e. resizedNew e + (modulus - cellOf u before b e) + (flippedNew p e + (modulus - resizedNew e))) (λ e. flippedNew q e + (modulus - resizedNew e)) []
+      ∙ ap (λ (x : ℕ). x + overTuples u d (λ e. flippedNew q e + (modulus - resizedNew e)) [])
+      (tuples-two u d (λ e. resizedNew e + (modulus - cellOf u before b e)) (λ e. flippedNew p e + (modulus - resizedNew e)) [])
+
+  swap-whole : overTuples u d (difference u after (pairsChange qs) (cellOf u before) n c b d) [] % modulus
+      ≡ (resizedShare u own sizes before zs n c b d + flippedShare u own sizes before zs p n c b d + flippedShare u own sizes before zs q n c b d
+      + overTuples u d together []) % modulus
+  swap-whole =
+      tuples-mod u (difference u after (pairsChange qs) (cellOf u before) n c b d) (λ e. parts e + together e) d
+      (λ e w. difference-is u after (pairsChange qs) (cellOf u before) n c b d e (cells-low b e)
+      ∙ by-both (swapped e) (cellOf u before b e) (resizedNew e) (flippedNew p e) (flippedNew q e) (resized-fits e) (flipped-fits p e) (flipped-fits q e))
+      ∙ ap (λ (x : ℕ). x % modulus) (tuples-two u d parts together [] ∙ ap (λ (x : ℕ). x + overTuples u d together []) parts-sum)
+
   swap-share : crosses used s ≡ false
       → overTuples u d (difference u after (pairsChange qs) (cellOf u before) n c b d) [] % modulus
       ≡ (resizedShare u own sizes before zs n c b d + flippedShare u own sizes before zs p n c b d + flippedShare u own sizes before zs q n c b d) % modulus
-  unfolding resizedShare resizedBy flippedShare flippedBy
   swap-share h =
-      tuples-mod u (difference u after (pairsChange qs) (cellOf u before) n c b d) parts d (swap-cell h)
-      ∙ ap (λ (x : ℕ). x % modulus)
-      (tuples-two u d (λ e. resizedNew e + (modulus - cellOf u before b e) + (flippedNew p e + (modulus - resizedNew e))) (λ e. flippedNew q e + (modulus - resizedNew e)) []
-      ∙ ap (λ (x : ℕ). x + overTuples u d (λ e. flippedNew q e + (modulus - resizedNew e)) [])
-      (tuples-two u d (λ e. resizedNew e + (modulus - cellOf u before b e)) (λ e. flippedNew p e + (modulus - resizedNew e)) []))
+      tuples-mod u (difference u after (pairsChange qs) (cellOf u before) n c b d) parts d (swap-cell h) ∙ ap (λ (x : ℕ). x % modulus) parts-sum
 
 -- the pairs of a swap, and what its rule says of them
 swap-pairs : (P : Plan) (k : Sets) (m : Move) → m .kind ≡ 4 → movePairs P k m ≡ (m .s, m .p) ∷ (m .s, m .q) ∷ []
@@ -316,10 +376,6 @@ swap-pairs P k m e = ap (λ (i : ℕ). kindPairs (moveKind i) m) e
 swap-fits : (k : Sets) (m : Move) → m .kind ≡ 4 → fits k m ≡ true → (k (m .s) (m .p) && not (k (m .s) (m .q))) ≡ true
 unfolding fits fieldsFit moveKind
 swap-fits k m e h = ap (λ (i : ℕ). fieldsFit (moveKind i) k m) (sym e) ∙ h
-
--- the set of a swap, with what becomes of its size
-abbrev pub swappedSet : Plan → List ℕ → Move → List Outcome
-swappedSet P own m = (m .s, exchanged (getD own (P .sets) 0) (m .p) (m .q)) ∷ []
 
 -- What a swap adds to a tree without quantifiers that tests its set by one variable only: what the resizing adds, and each flip alone.
 pub share-swap : (P : Plan) (own before sizes : List ℕ) → ShareReady P own before sizes → (n : Node) (c : Forest) (b d : ℕ) → TreeReady P n c d
@@ -339,3 +395,73 @@ share-swap P own before sizes ready n c b d stands flat m e h cross =
   where
     over : Configuration → List Pair → ℕ
     over a ps = overTuples (P .ports) d (difference (P .ports) a (pairsChange ps) (cellOf (P .ports) before) n c b d) [] % modulus
+
+-- What a swap adds to any tree: what the resizing adds, each flip alone, and what both add beyond each.
+pub share-both : (P : Plan) (own before sizes : List ℕ) → ShareReady P own before sizes → (n : Node) (c : Forest) (b d : ℕ) → TreeReady P n c d
+    → Flat (tree n c none) d → (m : Move) → m .kind ≡ 4 → legal P (inMasks own) m ≡ true
+    → shareOf P own before m n c b d % modulus
+    ≡ (resizedShare (P .ports) own sizes before (swappedSet P own m) n c b d + flippedShare (P .ports) own sizes before (swappedSet P own m) (m .p) n c b d
+    + flippedShare (P .ports) own sizes before (swappedSet P own m) (m .q) n c b d + bothShare P own sizes before m n c b d) % modulus
+unfolding legal PairsKnown ownMasks shareOf bothShare bothBy fourOf configurationAfter changeBy
+share-both P own before sizes ready n c b d stands flat m e h =
+    let k = inMasks own in
+    let known-are = subst (PairsKnown P) (swap-pairs P k m e) (known-pairs P k m (and-left (known P m) _ h)) in
+    let fit = swap-fits k m e (and-right (known P m) _ h) in
+    subst (λ (a : Configuration). So a (movePairs P k m)) (sym (move-spells P m own h (ready .settled .masks-long)))
+    (subst (λ (a : List Pair). So (configuration P (flips a k)) a) (sym (swap-pairs P k m e))
+    (swap-whole P own before sizes ready n c b d stands flat (m .s) (m .p) (m .q) (known-are .0) (known-are .1) (known-are .2 .1)
+    (and-left (k (m .s) (m .p)) _ fit) (not-true _ (and-right (k (m .s) (m .p)) _ fit))))
+  where
+    zs : List Outcome
+    zs = swappedSet P own m
+
+    So : Configuration → List Pair → Type 0
+    So a ps =
+        overTuples (P .ports) d (difference (P .ports) a (pairsChange ps) (cellOf (P .ports) before) n c b d) [] % modulus
+        ≡ (resizedShare (P .ports) own sizes before zs n c b d + flippedShare (P .ports) own sizes before zs (m .p) n c b d
+        + flippedShare (P .ports) own sizes before zs (m .q) n c b d
+        + overTuples (P .ports) d (λ x. newCell (P .ports) a (pairsChange ps) (cellOf (P .ports) before) n c b d x
+        + (modulus - newCell (P .ports) (flippedTo own sizes zs (m .p)) (flipping zs (m .p)) (cellOf (P .ports) before) n c b d x)
+        + (newCell (P .ports) (resizedTo own sizes zs) (resizing zs) (cellOf (P .ports) before) n c b d x
+        + (modulus - newCell (P .ports) (flippedTo own sizes zs (m .q)) (flipping zs (m .q)) (cellOf (P .ports) before) n c b d x))) []) % modulus
+
+-- and that is nothing where the tree tests its set by one variable only
+pub both-none : (P : Plan) (own before sizes : List ℕ) → ShareReady P own before sizes → (n : Node) (c : Forest) (b d : ℕ) → TreeReady P n c d
+    → Flat (tree n c none) d → (m : Move) → m .kind ≡ 4 → legal P (inMasks own) m ≡ true → crosses (forestUses (tree n c none)) (m .s) ≡ false
+    → bothShare P own sizes before m n c b d % modulus ≡ 0
+unfolding modulus
+both-none P own before sizes ready n c b d stands flat m e h cross =
+    nothing-more _ _ _ (share-swap P own before sizes ready n c b d stands flat m e h cross) (share-both P own before sizes ready n c b d stands flat m e h)
+  where
+    nothing-more : (x y z : ℕ) → x % modulus ≡ y % modulus → x % modulus ≡ (y + z) % modulus → z % modulus ≡ 0
+    nothing-more x y z i j = omega arith
+
+-- What is asked of a swap's changes and configurations, where a list has the size after of its set if a tree uses that.
+pub four-are : (P : Plan) (own before sizes : List ℕ) → ShareReady P own before sizes → (n : Node) (c : Forest) (b d : ℕ) → TreeReady P n c d
+    → Flat (tree n c none) d → (m : Move) → m .kind ≡ 4 → legal P (inMasks own) m ≡ true → ((S : ℕ) → getD sizes S 0 ≤ 64) → (of : ℕ) (asked : List ℕ)
+    → ((S : ℕ) → S < 16 → inMask of (4 * S + 3) ≡ true → changing (swappedSet P own m) S ≡ true → getD asked S 0 ≡ sizedAs sizes (swappedSet P own m) S)
+    → FourAre of own asked (changing (swappedSet P own m)) (changing (swappedSet P own m)) (m .p) (m .q) (fourOf P own sizes m)
+unfolding legal PairsKnown ownMasks fourOf configurationAfter changeBy
+four-are P own before sizes ready n c b d stands flat m e h few of asked asked-are =
+    let k = inMasks own in
+    let known-are = subst (PairsKnown P) (swap-pairs P k m e) (known-pairs P k m (and-left (known P m) _ h)) in
+    let fit = swap-fits k m e (and-right (known P m) _ h) in
+    let inside = and-left (k (m .s) (m .p)) _ fit in
+    let outside = not-true _ (and-right (k (m .s) (m .p)) _ fit) in
+    let proper = proper-one (m .s) (exchanged (getD own (P .sets) 0) (m .p) (m .q)) (exchange-low (getD own (P .sets) 0) (m .p) (m .q)) in
+    record {
+      base-is = resizes-so zs;
+      p-is = flips-so zs (m .p);
+      q-is = flips-so zs (m .q);
+      both-is = subst (λ (a : List Pair). FlipsBoth (changing zs) (changing zs) (m .p) (m .q) (pairsChange a)) (sym (swap-pairs P k m e))
+          (both-lists P own before sizes ready n c b d stands flat (m .s) (m .p) (m .q) (known-are .0) (known-are .1) (known-are .2 .1) inside outside);
+      base-flipped = resized-flipped of own sizes asked zs proper few asked-are;
+      p-flipped = flipped-flipped of own sizes asked zs proper few asked-are (m .p);
+      q-flipped = flipped-flipped of own sizes asked zs proper few asked-are (m .q);
+      both-flipped = subst (λ (a : Configuration). Flipped of own asked (pairsChange (movePairs P k m)) a) (sym (move-spells P m own h (ready .settled .masks-long)))
+          (subst (λ (a : List Pair). Flipped of own asked (pairsChange a) (configuration P (flips a k))) (sym (swap-pairs P k m e))
+          (both-flipped P own before sizes ready n c b d stands flat (m .s) (m .p) (m .q) (known-are .0) (known-are .1) (known-are .2 .1) inside outside of asked asked-are));
+    }
+  where
+    zs : List Outcome
+    zs = swappedSet P own m

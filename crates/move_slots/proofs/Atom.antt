@@ -30,7 +30,8 @@ fits-alone : (sets : ℕ) (n : Node) (c s : Forest) (d : ℕ) → Fitting sets (
 unfolding Fitting Every
 fits-alone sets n c s d h = (h .0, h .1, tt)
 
-uses-alone : (u : ℕ) (bytes firsts ends uses : List ℕ) (i : ℕ) (n : Node) (c s : Forest) (b d : ℕ)
+-- so it uses the same
+pub uses-alone : (u : ℕ) (bytes firsts ends uses : List ℕ) (i : ℕ) (n : Node) (c s : Forest) (b d : ℕ)
     → IndexHolds u bytes firsts ends uses i (tree n c s) b d → getD uses i 0 ≡ forestUses (tree n c none)
 unfolding IndexHolds forestUses
 uses-alone u bytes firsts ends uses i n c s b d h = h .0 .uses-are ∙ sym (or-zero-r _)

@@ -5,18 +5,18 @@ use mathlib.Core.List.{List}
 use Prim.Native.Nat.{ℕ, suc, _+_, _*_, _^_, _%_, _≤_, _<_}
 use lib.Dec.{eqb, ltb}
 use native.Mathlib.Omega.{arith}
-use lib.Bits.{bitOr, or-zero-r}
 use lib.ListN.{length, getD}
 use Rattle.logic.specs.Formula.{Test, isin, notin, port, size, Node, root, all, any, and, or, lit, Forest, none, tree, Plan, testKind, kindNumber, nodeCount, childDepth}
 use Rattle.logic.specs.inner.Literals.{Every}
 use Rattle.logic.specs.Cells.{cellCount, siblingFirst}
 use Rattle.table_format.specs.Bytes.{recordLength, kindField, recordsOf, recordAt}
-use Rattle.table_format.specs.inner.Index.{nodeUses, forestUses}
+use Rattle.table_format.specs.inner.Index.{forestUses}
 use Rattle.cells_walk.specs.inner.Nodes.{IndexHolds, Fitting}
 use Rattle.cells_atoms.specs.inner.Atoms.{isAtom, Regular, AllRegular}
 use Rattle.cells_flip.specs.inner.Flips.{Flat}
 use Rattle.move_shares.specs.inner.Shares.{TreeReady}
 use Rattle.move_slots.specs.inner.Slots.{AtomGiven}
+use Rattle.move_slots.proofs.Atom.{uses-alone}
 use Rattle.move_tables.specs.inner.Taking.{NoneBinds, isSum, PlanGiven, ForestStands}
 use Rattle.move_tables.proofs.Flat.{flat-forest}
 
@@ -62,6 +62,10 @@ module _ {u sets : ℕ} {bytes firsts ends uses cells : List ℕ} {i : ℕ} {n :
   unfolding nodeCount
   node-low = omega (arith, h .nodes)
 
+  pub depth-low : d ≤ 3
+  unfolding Fitting Every
+  depth-low = h .fitting .0 .depth3
+
   pub end-here : getD ends i 0 ≡ i + suc (nodeCount c)
   unfolding IndexHolds
   end-here = h .holds .0 .end-is
@@ -95,8 +99,7 @@ module _ {u sets : ℕ} {bytes firsts ends uses cells : List ℕ} {i : ℕ} {n :
       flat-forest u bytes firsts ends uses i (tree n c none) b d until (alone .holds) (omega arith) i (omega arith) H
 
   pub uses-here : getD uses i 0 ≡ forestUses (tree n c none)
-  unfolding IndexHolds forestUses
-  uses-here = h .holds .0 .uses-are ∙ sym (or-zero-r (bitOr (nodeUses n) (forestUses c)))
+  uses-here = uses-alone u bytes firsts ends uses i n c s b d (h .holds)
 
   pub atom-here : isSum (kindField (recordAt bytes i)) ≡ false → isAtom n ≡ true
   unfolding IndexHolds AllRegular Every

@@ -1,34 +1,32 @@
 -- An atom gone into the tables: what they say of each move grows by the move's share of it. Assumes nothing.
-use mathlib.Core.Path.{_≡_, refl, sym, ap, ap₂, _∙_, subst}
-use mathlib.Core.Logic.{_≢_}
-use mathlib.Core.Bool.{Bool, true, false, cond, not, _||_, false≢true}
+use mathlib.Core.Path.{_≡_, refl, sym, ap, _∙_, subst}
+use mathlib.Core.Bool.{Bool, true, false, cond}
 use mathlib.Core.List.{List, [], _∷_}
 use Prim.Native.Nat.{ℕ, zero, suc, _+_, _*_, _^_, _%_, _≤_, _<_}
 use native.Mathlib.Omega.{arith}
-use lib.Bits.{bitOr}
 use lib.ListN.{getD}
 use borrow.Author.Tests.{not-true, eqb-false}
 use Rattle.logic.specs.declared.Move.{Move}
 use Rattle.logic.specs.Formula.{Node, Forest, none, tree, Plan, childDepth}
 use Rattle.logic.specs.Configuration.{inMask, inMasks}
-use Rattle.logic.specs.Moves.{MoveKind, add, drop, transfer, swap, unknown, moveKind, kindPairs, movePairs, namedPairs, fieldsFit, fits, known, legal}
+use Rattle.logic.specs.Moves.{moveKind, fieldsFit, fits, known, legal}
 use Rattle.logic.specs.Change.{modulus}
 use Rattle.logic.specs.inner.MoveFields.{tEnd, qEnd, Fields}
-use Rattle.logic.proofs.Lists.{and-left, and-right, and-true}
+use Rattle.logic.proofs.Lists.{and-left, and-right}
 use Rattle.logic.proofs.MoveFields.{known-fields}
 use Rattle.table_format.specs.inner.Index.{forestUses}
-use Rattle.cells_touch.specs.inner.Hits.{meets}
-use Rattle.cells_touch.proofs.Bits.{in-or, meets-or}
+use Rattle.cells_touch.proofs.Bits.{in-zero}
 use Rattle.cells_atoms.specs.inner.Atoms.{isAtom, ofAtoms}
 use Rattle.cells_atoms.proofs.Over.{sum-mod}
+use Rattle.cells_share.specs.inner.Listed.{Listed, ofListed}
 use Rattle.cells_flip.specs.inner.Flips.{Flat}
-use Rattle.move_shares.specs.inner.Shares.{entering, leaving, exchanged, shareOf, wholeShare, ShareReady, TreeReady, setBits, crosses}
+use Rattle.move_shares.specs.inner.Shares.{entering, leaving, exchanged, shareOf, wholeShare, bothShare, ShareReady, TreeReady, crosses}
+use Rattle.move_shares.specs.inner.Listing.{crossRead}
 use Rattle.move_shares.proofs.OfKinds.{share-add, share-drop, share-transfer}
-use Rattle.move_shares.proofs.Swaps.{share-swap}
-use Rattle.move_shares.proofs.Missed.{PairsUnused, missed-share}
-use Rattle.move_slots.specs.inner.Slots.{singleRead, kindRead, moveRead, kindTold, told, SinglesTaken, JointsTaken}
-use Rattle.move_tables.specs.declared.Left.{Left}
-use Rattle.move_tables.specs.inner.Taking.{Crossed, MovesTaken}
+use Rattle.move_shares.proofs.Swaps.{share-swap, share-both}
+use Rattle.move_slots.specs.inner.Slots.{singleRead, kindRead, moveRead, SinglesTaken, JointsTaken}
+use Rattle.move_tables.specs.inner.Taking.{Crossed, wholeRead, MovesTaken}
+use Rattle.move_tables.proofs.Listing.{entry}
 
 -- what becomes of a size is one of three
 entering-few : (test p : ℕ) → entering test p ≤ 2
@@ -73,21 +71,25 @@ joint-grown a a′ b b′ c c′ x y z s h i j l =
     (sum-mod (a′ + b′) (a + b + (x + y)) c′ c′ (two-grown a a′ b b′ x y h i) refl ∙ ap (λ (w : ℕ). w % modulus) e
     ∙ sum-mod (a + b) (a + b) (c′ + (x + y)) (c + z) refl j ∙ ap (λ (w : ℕ). w % modulus) f) l
 
-nothing-grown : (a s t : ℕ) → s ≡ t → t % modulus ≡ 0 → a % modulus ≡ (a + s) % modulus
-unfolding modulus
-nothing-grown a s t h i = omega arith
+-- with what is listed beside
+listed-grown : (a b k x s : ℕ) → s ≡ x → (a + (x + b) + k) % modulus ≡ (a + b + k + s) % modulus
+listed-grown a b k x s h =
+    let e : a + (x + b) + k ≡ a + b + k + s = omega arith in ap (λ (z : ℕ). z % modulus) e
 
--- the words of what is left grow: what they told of less is told of no more
-not-more : (a b : Bool) → not (a || b) ≡ true → (a ≡ false) × (b ≡ false)
-not-more true b h = absurd (false≢true h)
-not-more false true h = absurd (false≢true h)
-not-more false false h = (refl, refl)
+beside-grown : (a a′ b s : ℕ) → a′ % modulus ≡ (a + s) % modulus → (a′ + b) % modulus ≡ (a + b + s) % modulus
+beside-grown a a′ b s h =
+    let e : a + s + b ≡ a + b + s = omega arith in sum-mod a′ (a + s) b b h refl ∙ ap (λ (z : ℕ). z % modulus) e
 
-less-hard : (hard used s : ℕ) → not (meets (bitOr hard used) (setBits s)) ≡ true → (meets hard (setBits s) ≡ false) × (meets used (setBits s) ≡ false)
-less-hard hard used s h = not-more (meets hard (setBits s)) (meets used (setBits s)) (ap not (sym (meets-or hard used (setBits s))) ∙ h)
+between-grown : (a a′ b k k′ s : ℕ) → (a′ + k′) % modulus ≡ (a + k + s) % modulus → (a′ + b + k′) % modulus ≡ (a + b + k + s) % modulus
+between-grown a a′ b k k′ s h =
+    let e : a′ + b + k′ ≡ a′ + k′ + b = omega arith in
+    let f : a + k + b + s ≡ a + b + k + s = omega arith in
+    ap (λ (z : ℕ). z % modulus) e ∙ beside-grown (a + k) (a′ + k′) b s h ∙ ap (λ (z : ℕ). z % modulus) f
 
-less-crossed : (crossed word s : ℕ) → not (inMask (bitOr crossed word) (4 * s)) ≡ true → (inMask crossed (4 * s) ≡ false) × (inMask word (4 * s) ≡ false)
-less-crossed crossed word s h = not-more (inMask crossed (4 * s)) (inMask word (4 * s)) (ap not (sym (in-or crossed word (4 * s))) ∙ h)
+crossing-grown : (a a′ k w x s : ℕ) → a′ % modulus ≡ (a + x) % modulus → s % modulus ≡ (x + w) % modulus → (a′ + (w + k)) % modulus ≡ (a + k + s) % modulus
+crossing-grown a a′ k w x s h i =
+    let e : a + x + (w + k) ≡ a + k + (x + w) = omega arith in
+    sum-mod a′ (a + x) (w + k) (w + k) h refl ∙ ap (λ (z : ℕ). z % modulus) e ∙ sum-mod (a + k) (a + k) (x + w) s refl (sym i)
 
 plus-none : (x : ℕ) → x + 0 ≡ x
 plus-none x = omega arith
@@ -100,11 +102,6 @@ by-kinds Q a b c d (suc (suc zero)) l h = b
 by-kinds Q a b c d (suc (suc (suc zero))) l h = c
 by-kinds Q a b c d (suc (suc (suc (suc zero)))) l h = d
 by-kinds Q a b c d (suc (suc (suc (suc (suc j))))) l h = absurd (omega arith)
-
--- of a swap's set, that it is not crossed
-swap-told : (hard crossed : ℕ) (m : Move) → kindTold (moveKind 4) hard crossed m ≡ true → not (inMask crossed (4 * m .s)) ≡ true
-unfolding kindTold moveKind
-swap-told hard crossed m h = and-right (not (meets hard (setBits (m .s)))) _ h
 
 module _ (P : Plan) (masks sizes cells : List ℕ) (ready : ShareReady P masks cells sizes) (n : Node) (c : Forest) (b d : ℕ) (stands : TreeReady P n c d)
     (atom : isAtom n ≡ true) where
@@ -121,26 +118,13 @@ module _ (P : Plan) (masks sizes cells : List ℕ) (ready : ShareReady P masks c
   unfolding ofAtoms
   atom-only g = ap (λ (a : Bool). cond a (g n c b d) (ofAtoms (P .ports) g c (b + P .ports ^ d) (childDepth n d)) + 0) atom ∙ plus-none (g n c b d)
 
-  -- An atom with quantifiers leaves the tables as they are, and its sets are told no more.
-  kind-hard : (κ : MoveKind) (hard crossed : ℕ) (m : Move) → kindTold κ (bitOr hard used) crossed m ≡ true → (kindTold κ hard crossed m ≡ true) × PairsUnused used (kindPairs κ m)
-  unfolding kindTold kindPairs PairsUnused
-  kind-hard add hard crossed m h = let r = less-hard hard used (m .s) h in (ap not (r .0), (r .1, tt))
-  kind-hard drop hard crossed m h = let r = less-hard hard used (m .s) h in (ap not (r .0), (r .1, tt))
-  kind-hard transfer hard crossed m h =
-      let r = less-hard hard used (m .s) (and-left _ _ h) in
-      let t = less-hard hard used (m .t) (and-right (not (meets (bitOr hard used) (setBits (m .s)))) _ h) in
-      (and-true _ _ (ap not (r .0)) (ap not (t .0)), (r .1, (t .1, tt)))
-  kind-hard swap hard crossed m h =
-      let r = less-hard hard used (m .s) (and-left _ _ h) in
-      (and-true _ _ (ap not (r .0)) (and-right (not (meets (bitOr hard used) (setBits (m .s)))) _ h), (r .1, (r .1, tt)))
-  kind-hard unknown hard crossed m h = (refl, tt)
-
-  pub hard-taken : (transfers : Bool) (one still joint : List ℕ) (left left′ : Left) → left′ .hard ≡ bitOr (left .hard) used → left′ .crossed ≡ left .crossed
-      → MovesTaken (P .ports) (P .sets) masks cells P transfers (tree n c none) b d one still joint left one still joint left′
-  unfolding MovesTaken told movePairs namedPairs
-  hard-taken transfers one still joint left left′ h i m leg t told′ =
-      let r = kind-hard (moveKind (m .kind)) (left .hard) (left .crossed) m (ap₂ (λ (x y : ℕ). kindTold (moveKind (m .kind)) x y m) (sym h) (sym i) ∙ told′) in
-      (r .0, nothing-grown (moveRead one still joint test m) _ (share m) (atom-only (shareOf P masks cells m)) (missed-share P masks cells sizes m ready leg n c b d stands (r .1)))
+  -- An atom with quantifiers leaves the tables as they are, and is listed.
+  pub hard-taken : (transfers : Bool) (one still joint : List ℕ) (xs ys : List Listed) (i : ℕ) (s : Forest)
+      → MovesTaken (P .ports) masks sizes cells P transfers (tree n c none) b d one still joint xs ys one still joint (entry i d n c s b ∷ xs) ys
+  unfolding MovesTaken wholeRead ofListed entry
+  hard-taken transfers one still joint xs ys i s m leg t =
+      listed-grown (moveRead one still joint test m) (ofListed (shareOf P masks cells m) xs) (crossRead (moveKind (m .kind)) P masks sizes cells m ys) (share m) _
+      (atom-only (shareOf P masks cells m))
 
   -- One without quantifiers goes into the tables.
   module _ (flat : Flat (tree n c none) d) (one still joint one′ still′ joint′ : List ℕ)
@@ -150,74 +134,91 @@ module _ (P : Plan) (masks sizes cells : List ℕ) (ready : ShareReady P masks c
     unfolding singleRead wholeShare SinglesTaken
     single-grown s j x l h i = let r = singles s j l h in two-grown _ _ _ _ _ _ (r .0) (r .1 x i)
 
-    module _ (m : Move) (leg : legal P (inMasks masks) m ≡ true) (F : Fields (P .ports) (P .sets) m) where
+    module _ (ys ys′ : List Listed) (m : Move) (leg : legal P (inMasks masks) m ≡ true) (F : Fields (P .ports) (P .sets) m) where
       abbrev Grown : ℕ → Type 0
-      Grown j = kindRead (moveKind j) one′ still′ joint′ test m % modulus ≡ (kindRead (moveKind j) one still joint test m + share m) % modulus
+      Grown j =
+          (kindRead (moveKind j) one′ still′ joint′ test m + crossRead (moveKind j) P masks sizes cells m ys′) % modulus
+          ≡ (kindRead (moveKind j) one still joint test m + crossRead (moveKind j) P masks sizes cells m ys + share m) % modulus
 
       add-grown : m .kind ≡ 1 → Grown 1
-      unfolding kindRead moveKind
+      unfolding kindRead crossRead moveKind
       add-grown e =
-          one-grown _ _ _ _ (single-grown (m .s) (entering test (m .p)) (m .p) (F .s-below) (entering-few test (m .p)) (F .p-below))
-          (share-add P masks cells sizes m ready leg n c b d stands e)
+          beside-grown _ _ 0 _
+          (one-grown _ _ _ _ (single-grown (m .s) (entering test (m .p)) (m .p) (F .s-below) (entering-few test (m .p)) (F .p-below))
+          (share-add P masks cells sizes m ready leg n c b d stands e))
 
       drop-grown : m .kind ≡ 2 → Grown 2
-      unfolding kindRead moveKind
+      unfolding kindRead crossRead moveKind
       drop-grown e =
-          one-grown _ _ _ _ (single-grown (m .s) (leaving test (m .p)) (m .p) (F .s-below) (omega (arith, leaving-few test (m .p))) (F .p-below))
-          (share-drop P masks cells sizes m ready leg n c b d stands e)
+          beside-grown _ _ 0 _
+          (one-grown _ _ _ _ (single-grown (m .s) (leaving test (m .p)) (m .p) (F .s-below) (omega (arith, leaving-few test (m .p))) (F .p-below))
+          (share-drop P masks cells sizes m ready leg n c b d stands e))
 
       transfer-grown : JointsTaken (P .ports) (P .sets) test masks sizes cells n c b d joint joint′ → m .kind ≡ 3 → Grown 3
-      unfolding kindRead moveKind JointsTaken tEnd fits fieldsFit legal
+      unfolding kindRead crossRead moveKind JointsTaken tEnd fits fieldsFit legal
       transfer-grown joints e =
           let t : m .t < P .sets = subst (λ (j : ℕ). m .t < tEnd j (P .sets)) e (F .t-below) in
           let f = ap (λ (j : ℕ). fieldsFit (moveKind j) (inMasks masks) m) (sym e) ∙ and-right (known P m) _ leg in
           let apart = eqb-false (m .s) (m .t) (not-true _ (and-left _ _ (and-left _ _ f))) in
-          joint-grown _ _ _ _ _ _ _ _ _ _
+          beside-grown _ _ 0 _
+          (joint-grown _ _ _ _ _ _ _ _ _ _
           (single-grown (m .s) (leaving test (m .p)) (m .p) (F .s-below) (omega (arith, leaving-few test (m .p))) (F .p-below))
           (single-grown (m .t) (entering test (m .p)) (m .p) t (entering-few test (m .p)) (F .p-below))
           (joints (m .s) (m .t) (m .p) (F .s-below) t apart (F .p-below))
-          (share-transfer P masks cells sizes m ready leg n c b d stands e)
+          (share-transfer P masks cells sizes m ready leg n c b d stands e))
 
-      swap-grown : crosses used (m .s) ≡ false → m .kind ≡ 4 → Grown 4
-      unfolding kindRead moveKind SinglesTaken qEnd
-      swap-grown cross e =
-          let q : m .q < P .ports = subst (λ (j : ℕ). m .q < qEnd j (P .ports)) e (F .q-below) in
+    -- a swap of a set that the atom tests by one variable, and of any, where the atom is listed
+    module _ (ys : List Listed) (m : Move) (leg : legal P (inMasks masks) m ≡ true) (F : Fields (P .ports) (P .sets) m) (e : m .kind ≡ 4) where
+      q-low : m .q < P .ports
+      unfolding qEnd
+      q-low = subst (λ (j : ℕ). m .q < qEnd j (P .ports)) e (F .q-below)
+
+      swap-grown : crosses used (m .s) ≡ false → Grown ys ys m leg F 4
+      unfolding kindRead crossRead moveKind SinglesTaken
+      swap-grown cross =
           let r = singles (m .s) (exchanged test (m .p) (m .q)) (F .s-below) (exchanged-few test (m .p) (m .q)) in
-          three-grown _ _ _ _ _ _ _ _ _ _ (r .0) (r .1 (m .p) (F .p-below)) (r .1 (m .q) q)
-          (share-swap P masks cells sizes ready n c b d stands flat m e leg cross)
+          beside-grown _ _ (ofListed (bothShare P masks sizes cells m) ys) _
+          (three-grown _ _ _ _ _ _ _ _ _ _ (r .0) (r .1 (m .p) (F .p-below)) (r .1 (m .q) q-low)
+          (share-swap P masks cells sizes ready n c b d stands flat m e leg cross))
 
-    kind-crossed : (κ : MoveKind) (hard crossed word : ℕ) (m : Move) → kindTold κ hard (bitOr crossed word) m ≡ true → kindTold κ hard crossed m ≡ true
-    unfolding kindTold
-    kind-crossed add hard crossed word m h = h
-    kind-crossed drop hard crossed word m h = h
-    kind-crossed transfer hard crossed word m h = h
-    kind-crossed swap hard crossed word m h =
-        and-true _ _ (and-left (not (meets hard (setBits (m .s)))) (not (inMask (bitOr crossed word) (4 * m .s))) h) (ap not (less-crossed crossed word (m .s) (and-right (not (meets hard (setBits (m .s)))) _ h) .0))
-    kind-crossed unknown hard crossed word m h = h
+      swap-listed : (i : ℕ) → Grown ys (entry i d n c none b ∷ ys) m leg F 4
+      unfolding kindRead crossRead moveKind SinglesTaken ofListed entry
+      swap-listed i =
+          let r = singles (m .s) (exchanged test (m .p) (m .q)) (F .s-below) (exchanged-few test (m .p) (m .q)) in
+          crossing-grown _ _ (ofListed (bothShare P masks sizes cells m) ys) (bothShare P masks sizes cells m n c b d) _ _
+          (three-grown _ _ _ _ _ _ _ _ _ _ (r .0) (r .1 (m .p) (F .p-below)) (r .1 (m .q) q-low) refl)
+          (share-both P masks cells sizes ready n c b d stands flat m e leg)
 
-    pub flat-taken : (transfers : Bool) (left left′ : Left) (word : ℕ) → left′ .hard ≡ left .hard → left′ .crossed ≡ bitOr (left .crossed) word → Crossed used word
-        → (transfers ≡ true → JointsTaken (P .ports) (P .sets) test masks sizes cells n c b d joint joint′)
-        → MovesTaken (P .ports) (P .sets) masks cells P transfers (tree n c none) b d one still joint left one′ still′ joint′ left′
-    unfolding MovesTaken told moveRead legal Crossed
-    flat-taken transfers left left′ word h i cross joints m leg t told′ =
-        let F = known-fields P m (and-left (known P m) _ leg) in
-        let now = ap₂ (λ (x y : ℕ). kindTold (moveKind (m .kind)) x y m) (sym h) (sym i) ∙ told′ in (
-          kind-crossed (moveKind (m .kind)) (left .hard) (left .crossed) word m now,
-          by-kinds (λ j. m .kind ≡ j → Grown m leg F j)
-              (add-grown m leg F) (drop-grown m leg F) (λ e. transfer-grown m leg F (joints (wanted e)) e) (λ e. swap-grown m leg F (uncrossed e) e)
-              (m .kind) (F .kind-low) (F .kind-high) refl
-              ∙ ap (λ (x : ℕ). (moveRead one still joint test m + x) % modulus) (sym (atom-only (shareOf P masks cells m))),
-        )
-      where
-        wanted : m .kind ≡ 3 → transfers ≡ true
-        wanted e = go transfers refl
-          where
-            go : (a : Bool) → transfers ≡ a → transfers ≡ true
-            go true x = x
-            go false x = absurd (t x e)
+    module _ (transfers : Bool) (joints : transfers ≡ true → JointsTaken (P .ports) (P .sets) test masks sizes cells n c b d joint joint′) (xs ys : List Listed) where
+      moves-taken : (ys′ : List Listed)
+          → ((m : Move) (leg : legal P (inMasks masks) m ≡ true) (F : Fields (P .ports) (P .sets) m) → m .kind ≡ 4 → Grown ys ys′ m leg F 4)
+          → MovesTaken (P .ports) masks sizes cells P transfers (tree n c none) b d one still joint xs ys one′ still′ joint′ xs ys′
+      unfolding MovesTaken moveRead wholeRead legal
+      moves-taken ys′ swaps m leg t =
+          let F = known-fields P m (and-left (known P m) _ leg) in
+          let κ = moveKind (m .kind) in
+          between-grown (moveRead one still joint test m) (moveRead one′ still′ joint′ test m) (ofListed (shareOf P masks cells m) xs)
+          (crossRead κ P masks sizes cells m ys) (crossRead κ P masks sizes cells m ys′) _
+          (by-kinds (λ j. m .kind ≡ j → Grown ys ys′ m leg F j)
+          (add-grown ys ys′ m leg F) (drop-grown ys ys′ m leg F) (λ e. transfer-grown ys ys′ m leg F (joints (wanted e)) e) (swaps m leg F)
+          (m .kind) (F .kind-low) (F .kind-high) refl
+          ∙ ap (λ (x : ℕ). (moveRead one still joint test m + crossRead κ P masks sizes cells m ys + x) % modulus) (sym (atom-only (shareOf P masks cells m))))
+        where
+          wanted : m .kind ≡ 3 → transfers ≡ true
+          wanted e = go transfers refl
+            where
+              go : (a : Bool) → transfers ≡ a → transfers ≡ true
+              go true x = x
+              go false x = absurd (t x e)
 
-        uncrossed : m .kind ≡ 4 → crosses used (m .s) ≡ false
-        uncrossed e =
-            let F = known-fields P m (and-left (known P m) _ leg) in
-            let now = swap-told (left .hard) (bitOr (left .crossed) word) m (ap₂ (λ (x y : ℕ). kindTold (moveKind 4) x y m) (sym h) (sym i) ∙ ap (λ (j : ℕ). kindTold (moveKind j) (left′ .hard) (left′ .crossed) m) (sym e) ∙ told′) in
-            sym (cross (m .s) (omega (arith, F .s-below, ready .settled .sets16))) ∙ less-crossed (left .crossed) word (m .s) now .1
+      pub flat-taken : (word : ℕ) → word ≡ 0 → Crossed used word
+          → MovesTaken (P .ports) masks sizes cells P transfers (tree n c none) b d one still joint xs ys one′ still′ joint′ xs ys
+      unfolding Crossed
+      flat-taken word z cross = moves-taken ys (λ m leg F e. swap-grown ys m leg F e (uncrossed (m .s) (omega (arith, F .s-below, ready .settled .sets16))))
+        where
+          uncrossed : (S : ℕ) → S < 16 → crosses used S ≡ false
+          uncrossed S l = sym (cross S l) ∙ ap (λ (x : ℕ). inMask x (4 * S)) z ∙ in-zero (4 * S)
+
+      pub crossing-taken : (i : ℕ)
+          → MovesTaken (P .ports) masks sizes cells P transfers (tree n c none) b d one still joint xs ys one′ still′ joint′ xs (entry i d n c none b ∷ ys)
+      crossing-taken i = moves-taken (entry i d n c none b ∷ ys) (λ m leg F e. swap-listed ys m leg F e i)

@@ -7,16 +7,17 @@ use move_joints::take_joints;
 use move_slots::take_slots;
 ghost use mathlib.Core.Path.{_≡_};
 ghost use mathlib.Core.Bool.{true};
-ghost use Prim.Native.Nat.{_*_, _≤_};
+ghost use Prim.Native.Nat.{_+_, _*_, _≤_, _<_};
 ghost use lib.ListN.{length};
 ghost use Rattle.table_format.specs.Bytes.{recordLength, recordsOf};
 ghost use Rattle.move_tables.specs.inner.Taking.{NoneBinds, Crossed, TakeReady, TakesTree};
 
-// What the tables do not tell: the uses of the atoms with quantifiers, and the sets that some atom tests by more than one variable, the
-// lowest of their four bits.
+// What the tables do not tell: all moves are walked; how many atoms with quantifiers are listed; and how many others, which test some set by
+// more than one variable.
 pub struct Left {
-    pub hard: u64,
-    pub crossed: u64,
+    pub walked: bool,
+    pub hards: usize,
+    pub crossed: usize,
 }
 
 // Whether no node from i up to `until` binds a variable.
@@ -35,7 +36,7 @@ fn is_flat(table: &[u8], i: usize, until: usize) -> bool
 }
 
 // The sets that a word of uses tests by more than one variable.
-fn crossings(used: u64) -> u64
+pub fn crossings(used: u64) -> u64
     ensures { λ r. ⌜ Crossed used r ⌝ }
 {
     let second = used >> 1;
@@ -43,7 +44,16 @@ fn crossings(used: u64) -> u64
     (used & (second | third)) | (second & third)
 }
 
-// One atom: its flips go into the tables; one with quantifiers is left to the walk. Transfers are worked only where they are asked for.
+// An atom's number in a list of them.
+fn listed_as(i: usize, depth: usize) -> u16
+    requires { ⌜ (i < 512) × (depth ≤ 3) ⌝ }
+    ensures { λ r. ⌜ r ≡ 4 * i + depth ⌝ }
+{
+    (4 * i + depth) as u16
+}
+
+// One atom: its flips go into the tables; one with quantifiers is listed instead, and one that tests some set by two variables beside, for
+// swaps. Transfers are worked only where they are asked for.
 pub fn take_atom(
     table: &[u8],
     firsts: &[u32; 512],
@@ -62,15 +72,18 @@ pub fn take_atom(
     one: &mut [u32],
     still: &mut [u32],
     joint: &mut [u32],
+    lists: &mut [u16],
     left: Left,
 ) -> Left
-    requires { ⌜ TakeReady ports sets (now table) (now firsts) (now ends) (now uses) (now masks) (now sizes) (now cells) i depth true (now mine) (now own) (now one) (now still) (now joint) ⌝ }
-    ensures { λ r. ⌜ TakesTree ports sets (now (table .entry)) (now (firsts .entry)) (now (ends .entry)) (now (uses .entry)) (now (masks .entry)) (now (sizes .entry)) (now (cells .entry)) i depth transfers (now (one .entry)) (now (still .entry)) (now (joint .entry)) left (now (one .exit)) (now (still .exit)) (now (joint .exit)) r ⌝ }
+    requires { ⌜ TakeReady ports sets (now table) (now firsts) (now ends) (now uses) (now masks) (now sizes) (now cells) i depth true (now mine) (now own) (now one) (now still) (now joint) (now lists) left ⌝ }
+    ensures { λ r. ⌜ TakesTree ports sets (now (table .entry)) (now (firsts .entry)) (now (ends .entry)) (now (uses .entry)) (now (masks .entry)) (now (sizes .entry)) (now (cells .entry)) i depth transfers (now (one .entry)) (now (still .entry)) (now (joint .entry)) (now (lists .entry)) left (now (one .exit)) (now (still .exit)) (now (joint .exit)) (now (lists .exit)) r ⌝ }
 {
-    let used = uses_at(uses, i);
     if !is_flat(table, i, end_at(ends, i)) {
+        let count = left.hards;
+        lists[count] = listed_as(i, depth);
         return Left {
-            hard: left.hard | used,
+            walked: left.walked,
+            hards: count + 1,
             crossed: left.crossed,
         };
     }
@@ -108,8 +121,14 @@ pub fn take_atom(
         &own[..],
         joint,
     );
+    if crossings(uses_at(uses, i)) == 0 {
+        return left;
+    }
+    let count = left.crossed;
+    lists[512 + count] = listed_as(i, depth);
     Left {
-        hard: left.hard,
-        crossed: left.crossed | crossings(used),
+        walked: left.walked,
+        hards: left.hards,
+        crossed: count + 1,
     }
 }

@@ -3,7 +3,7 @@ use Prim.Native.Nat.{_+_, _-_, _*_}
 use native.Mathlib.Omega.{arith}
 use borrow.Author.Needs.{needs}
 use borrow.Author.Tests.{not-true, not-false}
-use Rattle.cells_flip.proofs.Flipping.{count-some, node-low, place-low, from-low, old-room, record-room, count-low, again, literal-ready, trees-ready, gives-none, gives-kept, gives-literal, gives-joint, joins-kept, joins-row, tree-ready, Onward, onward-first, onward-next, onward-last}
+use Rattle.cells_flip.proofs.Flipping.{node-low, place-low, from-low, old-room, record-room, count-low, again, literal-ready, trees-ready, gives-kept, gives-literal, gives-joint, joins-kept, joins-row, tree-ready, Onward, onward-first, onward-next, onward-last, onward-done}
 use Prim.Native.Nat.{ℕ, _<_}
 use borrow.Fn.Kinds.{In}
 use borrow.Fn.PlainCycle.{Measures, is, falls, and}
@@ -16,6 +16,7 @@ use Rattle.cells_flip.proofs.+flip_row+flip_tree+flip_trees.Lts-flip_tr
 use Rattle.cells_flip.proofs.flip_trees.Reads as flip-trees
 use Rattle.cells_flip.proofs.flip_trees.Kinds as flip-trees-kinds
 use Rattle.cells_flip.proofs.+flip_row+flip_tree+flip_trees.Lts-flip_trees as flip-trees-lts
+use Rattle.cells_flip.proofs.is_done.Reads as is-done-reads
 use Rattle.cells_flip.proofs.literal_row.Reads as literal-row-reads
 use Rattle.cells_row.proofs.begin_row.Reads as begin-row-reads
 use Rattle.cells_row.proofs.cells_from.Reads as cells-from-reads
@@ -72,23 +73,19 @@ flip-tree-claims t = (place-at-reads.Asked, place-at-reads.Learnt, cells-from-re
 
 -- what the callees of `flip-trees` ask and give
 abbrev flip-trees-claims : ℕ → flip-trees-lts.Claims
-flip-trees-claims t = (flip-tree-below t, flip-tree.Post, end-at-reads.Asked, end-at-reads.Learnt)
-
-flip-row-returns : (t : ℕ) → flip-row-lts.Need-returns (flip-row-claims t) (flip-row-at t) flip-row.Post
-flip-row-returns t c =
-    gives-none _ _ _ _ _ _ _ _ _ _ _ _ _ _ (c .if1 .taken)
+flip-trees-claims t = (is-done-reads.Asked, is-done-reads.Learnt, flip-tree-below t, flip-tree.Post, end-at-reads.Asked, end-at-reads.Learnt)
 
 flip-row-place-at-requires : (t : ℕ) → flip-row-lts.Need-place-at-requires (flip-row-claims t) (flip-row-at t) flip-row.Post
 flip-row-place-at-requires t c κs =
-    place-low _ _ _ _ _ _ _ _ _ _ _ _ _ (c .before .before .before .before .before .pre .1) (count-some _ (c .if1 .left))
+    place-low _ _ _ _ _ _ _ _ _ _ _ _ _ (c .before .before .before .before .pre .1)
 
 flip-row-cells-from-requires : (t : ℕ) → flip-row-lts.Need-cells-from-requires (flip-row-claims t) (flip-row-at t) flip-row.Post
 flip-row-cells-from-requires t c κs =
-    from-low _ _ _ _ _ _ _ _ _ _ _ _ _ (c .before .before .before .before .before .before .pre .1) (count-some _ (c .before .if1 .left)) _ (c .place-at .ensures)
+    from-low _ _ _ _ _ _ _ _ _ _ _ _ _ (c .before .before .before .before .before .pre .1) _ (c .place-at .ensures)
 
 flip-row-uses-at-requires : (t : ℕ) → flip-row-lts.Need-uses-at-requires (flip-row-claims t) (flip-row-at t) flip-row.Post
 flip-row-uses-at-requires t c κs =
-    node-low _ _ _ _ _ _ _ _ _ _ _ _ _ (c .before .before .before .before .before .before .before .pre .1)
+    node-low _ _ _ _ _ _ _ _ _ _ _ _ _ (c .before .before .before .before .before .before .pre .1)
 
 flip-row-meet-requires : (t : ℕ) → flip-row-lts.Need-meet-requires (flip-row-claims t) (flip-row-at t) flip-row.Post
 flip-row-meet-requires t c κs =
@@ -96,31 +93,31 @@ flip-row-meet-requires t c κs =
 
 flip-row-copy-row-requires : (t : ℕ) → flip-row-lts.Need-copy-row-requires (flip-row-claims t) (flip-row-at t) flip-row.Post
 flip-row-copy-row-requires t c κs =
-    (old-room _ _ _ _ _ _ _ _ _ _ _ _ _ (c .before .before .before .before .before .before .before .before .before .before .before .pre .1) (count-some _ (c .before .before .before .before .before .before .if1 .left)) _ _ (c .before .before .before .before .before .place-at .ensures) (c .before .before .before .before .cells-from .ensures), c .before .before .before .before .before .before .before .before .before .before .before .pre .1 .room)
+    (old-room _ _ _ _ _ _ _ _ _ _ _ _ _ (c .before .before .before .before .before .before .before .before .before .before .pre .1) _ _ (c .before .before .before .before .before .place-at .ensures) (c .before .before .before .before .cells-from .ensures), c .before .before .before .before .before .before .before .before .before .before .pre .1 .room)
 
 flip-row-same-length : (t : ℕ) → flip-row-lts.Need-same-length (flip-row-claims t) (flip-row-at t) flip-row.Post
 flip-row-same-length t c =
     search needs
 
-flip-row-returns-2 : (t : ℕ) → flip-row-lts.Need-returns-2 (flip-row-claims t) (flip-row-at t) flip-row.Post
-flip-row-returns-2 t c =
-    gives-kept _ _ _ _ _ _ _ _ _ _ _ _ _ _ (c .before .before .before .before .before .before .uses-at .ensures) _ _ _ _ (c .before .before .before .before .before .before .before .before .place-at .ensures) (c .before .before .before .before .before .before .before .cells-from .ensures) (sym (c .before .before .before .before .before .meet .ensures) ∙ not-true _ (c .before .before .before .before .if2 .taken)) (c .before .before .copy-row .ensures)
+flip-row-returns : (t : ℕ) → flip-row-lts.Need-returns (flip-row-claims t) (flip-row-at t) flip-row.Post
+flip-row-returns t c =
+    gives-kept _ _ _ _ _ _ _ _ _ _ _ _ _ _ (c .before .before .before .before .before .before .uses-at .ensures) _ _ _ _ (c .before .before .before .before .before .before .before .before .place-at .ensures) (c .before .before .before .before .before .before .before .cells-from .ensures) (sym (c .before .before .before .before .before .meet .ensures) ∙ not-true _ (c .before .before .before .before .if1 .taken)) (c .before .before .copy-row .ensures)
 
 flip-row-kind-at-requires : (t : ℕ) → flip-row-lts.Need-kind-at-requires (flip-row-claims t) (flip-row-at t) flip-row.Post
 flip-row-kind-at-requires t c κs =
-    record-room _ _ _ _ _ _ _ _ _ _ _ _ _ (c .before .before .before .before .before .before .before .before .before .before .pre .1)
+    record-room _ _ _ _ _ _ _ _ _ _ _ _ _ (c .before .before .before .before .before .before .before .before .before .pre .1)
 
 flip-row-literal-row-requires : (t : ℕ) → flip-row-lts.Need-literal-row-requires (flip-row-claims t) (flip-row-at t) flip-row.Post
 flip-row-literal-row-requires t c κs =
-    literal-ready _ _ _ _ _ _ _ _ _ _ _ _ _ (c .before .before .before .before .before .before .before .before .before .before .before .before .before .pre .1) _ _ _ (count-some _ (c .before .before .before .before .before .before .before .before .if1 .left)) (c .before .before .kind-at .ensures) (c .before .if3 .taken) (c .before .before .before .before .before .uses-at .ensures) (sym (c .before .before .before .before .meet .ensures) ∙ not-false _ (c .before .before .before .if2 .left))
+    literal-ready _ _ _ _ _ _ _ _ _ _ _ _ _ (c .before .before .before .before .before .before .before .before .before .before .before .before .pre .1) _ _ _ (c .before .before .kind-at .ensures) (c .before .if2 .taken) (c .before .before .before .before .before .uses-at .ensures) (sym (c .before .before .before .before .meet .ensures) ∙ not-false _ (c .before .before .before .if1 .left))
 
 flip-row-same-length-2 : (t : ℕ) → flip-row-lts.Need-same-length-2 (flip-row-claims t) (flip-row-at t) flip-row.Post
 flip-row-same-length-2 t c =
     search needs
 
-flip-row-returns-3 : (t : ℕ) → flip-row-lts.Need-returns-3 (flip-row-claims t) (flip-row-at t) flip-row.Post
-flip-row-returns-3 t c =
-    gives-literal _ _ _ _ _ _ _ _ _ _ _ _ _ _ (c .before .before .before .before .before .before .before .before .uses-at .ensures) (sym (c .before .before .before .before .before .before .before .meet .ensures) ∙ not-false _ (c .before .before .before .before .before .before .if2 .left)) _ (c .before .before .before .before .before .kind-at .ensures) _ (c .before .before .before .before .if3 .taken) (c .before .before .literal-row .ensures)
+flip-row-returns-2 : (t : ℕ) → flip-row-lts.Need-returns-2 (flip-row-claims t) (flip-row-at t) flip-row.Post
+flip-row-returns-2 t c =
+    gives-literal _ _ _ _ _ _ _ _ _ _ _ _ _ _ (c .before .before .before .before .before .before .before .before .uses-at .ensures) (sym (c .before .before .before .before .before .before .before .meet .ensures) ∙ not-false _ (c .before .before .before .before .before .before .if1 .left)) _ (c .before .before .before .before .before .kind-at .ensures) _ (c .before .before .before .before .if2 .taken) (c .before .before .literal-row .ensures)
 
 flip-row-adds-of-requires : (t : ℕ) → flip-row-lts.Need-adds-of-requires (flip-row-claims t) (flip-row-at t) flip-row.Post
 flip-row-adds-of-requires t c κs =
@@ -128,35 +125,35 @@ flip-row-adds-of-requires t c κs =
 
 flip-row-begin-row-requires : (t : ℕ) → flip-row-lts.Need-begin-row-requires (flip-row-claims t) (flip-row-at t) flip-row.Post
 flip-row-begin-row-requires t c κs =
-    (old-room _ _ _ _ _ _ _ _ _ _ _ _ _ (c .before .before .before .before .before .before .before .before .before .before .before .before .before .before .pre .1) (count-some _ (c .before .before .before .before .before .before .before .before .before .if1 .left)) _ _ (c .before .before .before .before .before .before .before .before .place-at .ensures) (c .before .before .before .before .before .before .before .cells-from .ensures), c .before .before .before .before .before .before .before .before .before .before .before .before .before .before .pre .1 .room)
+    (old-room _ _ _ _ _ _ _ _ _ _ _ _ _ (c .before .before .before .before .before .before .before .before .before .before .before .before .before .pre .1) _ _ (c .before .before .before .before .before .before .before .before .place-at .ensures) (c .before .before .before .before .before .before .before .cells-from .ensures), c .before .before .before .before .before .before .before .before .before .before .before .before .before .pre .1 .room)
 
 flip-row-add-flip-trees : (t : ℕ) → flip-row-lts.Need-add-flip-trees (flip-row-claims t) (flip-row-at t) flip-row.Post
 flip-row-add-flip-trees t c =
-    let l = node-low _ _ _ _ _ _ _ _ _ _ _ _ _ (c .before .before .before .before .before .before .before .before .before .before .before .before .before .before .before .before .before .pre .1) in omega arith
+    let l = node-low _ _ _ _ _ _ _ _ _ _ _ _ _ (c .before .before .before .before .before .before .before .before .before .before .before .before .before .before .before .before .pre .1) in omega arith
 
 flip-row-end-at-requires : (t : ℕ) → flip-row-lts.Need-end-at-requires (flip-row-claims t) (flip-row-at t) flip-row.Post
 flip-row-end-at-requires t c κs =
-    node-low _ _ _ _ _ _ _ _ _ _ _ _ _ (c .before .before .before .before .before .before .before .before .before .before .before .before .before .before .before .before .before .pre .1)
+    node-low _ _ _ _ _ _ _ _ _ _ _ _ _ (c .before .before .before .before .before .before .before .before .before .before .before .before .before .before .before .before .pre .1)
 
 flip-row-flip-trees-requires : (t : ℕ) → flip-row-lts.Need-flip-trees-requires (flip-row-claims t) (flip-row-at t) flip-row.Post
 flip-row-flip-trees-requires t c κs =
-    (omega (arith, c .before .before .before .before .before .before .before .before .before .before .before .before .before .before .before .before .before .before .before .pre .0, node-low _ _ _ _ _ _ _ _ _ _ _ _ _ (c .before .before .before .before .before .before .before .before .before .before .before .before .before .before .before .before .before .before .before .pre .1)), trees-ready _ _ _ _ _ _ _ _ _ _ _ _ _ (c .before .before .before .before .before .before .before .before .before .before .before .before .before .before .before .before .before .before .before .pre .1) _ _ _ _ _ (count-some _ (c .before .before .before .before .before .before .before .before .before .before .before .before .before .before .if1 .left)) (c .before .end-at .ensures) (c .before .before .before .before .before .before .before .before .before .before .before .before .before .place-at .ensures) (c .before .before .before .before .before .before .before .before .before .before .before .before .cells-from .ensures) omega (arith, c .before .before .before .before .begin-row .kept .1 .1 .1 .0, c .before .before .before .before .before .before .before .before .before .before .before .before .before .before .before .before .before .before .before .pre .1 .room) (c .before .before .before .before .begin-row .ensures))
+    (omega (arith, c .before .before .before .before .before .before .before .before .before .before .before .before .before .before .before .before .before .before .pre .0, node-low _ _ _ _ _ _ _ _ _ _ _ _ _ (c .before .before .before .before .before .before .before .before .before .before .before .before .before .before .before .before .before .before .pre .1)), trees-ready _ _ _ _ _ _ _ _ _ _ _ _ _ (c .before .before .before .before .before .before .before .before .before .before .before .before .before .before .before .before .before .before .pre .1) _ _ _ _ _ (c .before .end-at .ensures) (c .before .before .before .before .before .before .before .before .before .before .before .before .before .place-at .ensures) (c .before .before .before .before .before .before .before .before .before .before .before .before .cells-from .ensures) omega (arith, c .before .before .before .before .begin-row .kept .1 .1 .1 .0, c .before .before .before .before .before .before .before .before .before .before .before .before .before .before .before .before .before .before .pre .1 .room) (c .before .before .before .before .begin-row .ensures))
 
 flip-row-same-length-3 : (t : ℕ) → flip-row-lts.Need-same-length-3 (flip-row-claims t) (flip-row-at t) flip-row.Post
 flip-row-same-length-3 t c =
     search needs
 
-flip-row-returns-4 : (t : ℕ) → flip-row-lts.Need-returns-4 (flip-row-claims t) (flip-row-at t) flip-row.Post
-flip-row-returns-4 t c =
-    gives-joint _ _ _ _ _ _ _ _ _ _ _ _ _ _ (c .before .before .before .before .before .before .before .before .before .before .before .before .before .before .uses-at .ensures) (sym (c .before .before .before .before .before .before .before .before .before .before .before .before .before .meet .ensures) ∙ not-false _ (c .before .before .before .before .before .before .before .before .before .before .before .before .if2 .left)) _ (c .before .before .before .before .before .before .before .before .before .before .before .kind-at .ensures) _ _ _ _ _ _ _ (c .before .before .before .before .before .before .before .before .before .before .if3 .left) (c .before .before .before .before .end-at .ensures) (c .before .before .before .before .before .before .before .before .before .adds-of .ensures) (c .before .before .before .before .before .before .before .before .before .before .before .before .before .before .before .before .place-at .ensures) (c .before .before .before .before .before .before .before .before .before .before .before .before .before .before .before .cells-from .ensures) (c .before .before .before .before .before .before .before .begin-row .ensures) (c .before .before .flip-trees .ensures)
+flip-row-returns-3 : (t : ℕ) → flip-row-lts.Need-returns-3 (flip-row-claims t) (flip-row-at t) flip-row.Post
+flip-row-returns-3 t c =
+    gives-joint _ _ _ _ _ _ _ _ _ _ _ _ _ _ (c .before .before .before .before .before .before .before .before .before .before .before .before .before .before .uses-at .ensures) (sym (c .before .before .before .before .before .before .before .before .before .before .before .before .before .meet .ensures) ∙ not-false _ (c .before .before .before .before .before .before .before .before .before .before .before .before .if1 .left)) _ (c .before .before .before .before .before .before .before .before .before .before .before .kind-at .ensures) _ _ _ _ _ _ _ (c .before .before .before .before .before .before .before .before .before .before .if2 .left) (c .before .before .before .before .end-at .ensures) (c .before .before .before .before .before .before .before .before .before .adds-of .ensures) (c .before .before .before .before .before .before .before .before .before .before .before .before .before .before .before .before .place-at .ensures) (c .before .before .before .before .before .before .before .before .before .before .before .before .before .before .before .cells-from .ensures) (c .before .before .before .before .before .before .before .begin-row .ensures) (c .before .before .flip-trees .ensures)
 
 flip-tree-place-at-requires : (t : ℕ) → flip-tree-lts.Need-place-at-requires (flip-tree-claims t) (flip-tree-at t) flip-tree.Post
 flip-tree-place-at-requires t c κs =
-    place-low _ _ _ _ _ _ _ _ _ _ _ _ _ (c .before .before .before .before .pre .1 .begins) (c .before .before .before .before .pre .1 .some)
+    place-low _ _ _ _ _ _ _ _ _ _ _ _ _ (c .before .before .before .before .pre .1 .begins)
 
 flip-tree-cells-from-requires : (t : ℕ) → flip-tree-lts.Need-cells-from-requires (flip-tree-claims t) (flip-tree-at t) flip-tree.Post
 flip-tree-cells-from-requires t c κs =
-    from-low _ _ _ _ _ _ _ _ _ _ _ _ _ (c .before .before .before .before .before .pre .1 .begins) (c .before .before .before .before .before .pre .1 .some) _ (c .place-at .ensures)
+    from-low _ _ _ _ _ _ _ _ _ _ _ _ _ (c .before .before .before .before .before .pre .1 .begins) _ (c .place-at .ensures)
 
 flip-tree-uses-at-requires : (t : ℕ) → flip-tree-lts.Need-uses-at-requires (flip-tree-claims t) (flip-tree-at t) flip-tree.Post
 flip-tree-uses-at-requires t c κs =
@@ -168,7 +165,7 @@ flip-tree-meet-requires t c κs =
 
 flip-tree-keep-row-requires : (t : ℕ) → flip-tree-lts.Need-keep-row-requires (flip-tree-claims t) (flip-tree-at t) flip-tree.Post
 flip-tree-keep-row-requires t c κs =
-    (old-room _ _ _ _ _ _ _ _ _ _ _ _ _ (c .before .before .before .before .before .before .before .before .before .before .pre .1 .begins) (c .before .before .before .before .before .before .before .before .before .before .pre .1 .some) _ _ (c .before .before .before .before .before .place-at .ensures) (c .before .before .before .before .cells-from .ensures), c .before .before .before .before .before .before .before .before .before .before .pre .1 .begins .room)
+    (old-room _ _ _ _ _ _ _ _ _ _ _ _ _ (c .before .before .before .before .before .before .before .before .before .before .pre .1 .begins) _ _ (c .before .before .before .before .before .place-at .ensures) (c .before .before .before .before .cells-from .ensures), c .before .before .before .before .before .before .before .before .before .before .pre .1 .begins .room)
 
 flip-tree-same-length : (t : ℕ) → flip-tree-lts.Need-same-length (flip-tree-claims t) (flip-tree-at t) flip-tree.Post
 flip-tree-same-length t c =
@@ -192,7 +189,7 @@ flip-tree-slice-aggregate-join-row t c =
 
 flip-tree-join-row-requires : (t : ℕ) → flip-tree-lts.Need-join-row-requires (flip-tree-claims t) (flip-tree-at t) flip-tree.Post
 flip-tree-join-row-requires t c κs =
-    (omega (arith, c .before .before .before .flip-row .kept .1 .1 .1 .1 .1 .1 .1 .1 .1 .1 .1 .1 .1 .0, count-low _ _ _ _ _ _ _ _ _ _ _ _ _ (c .before .before .before .before .before .before .before .before .before .before .before .before .before .before .pre .1 .begins)), old-room _ _ _ _ _ _ _ _ _ _ _ _ _ (c .before .before .before .before .before .before .before .before .before .before .before .before .before .before .pre .1 .begins) (c .before .before .before .before .before .before .before .before .before .before .before .before .before .before .pre .1 .some) _ _ (c .before .before .before .before .before .before .before .before .before .place-at .ensures) (c .before .before .before .before .before .before .before .before .cells-from .ensures), c .before .before .before .before .before .before .before .before .before .before .before .before .before .before .pre .1 .begins .room)
+    (omega (arith, c .before .before .before .flip-row .kept .1 .1 .1 .1 .1 .1 .1 .1 .1 .1 .1 .1 .1 .0, count-low _ _ _ _ _ _ _ _ _ _ _ _ _ (c .before .before .before .before .before .before .before .before .before .before .before .before .before .before .pre .1 .begins)), old-room _ _ _ _ _ _ _ _ _ _ _ _ _ (c .before .before .before .before .before .before .before .before .before .before .before .before .before .before .pre .1 .begins) _ _ (c .before .before .before .before .before .before .before .before .before .place-at .ensures) (c .before .before .before .before .before .before .before .before .cells-from .ensures), c .before .before .before .before .before .before .before .before .before .before .before .before .before .before .pre .1 .begins .room)
 
 flip-tree-same-length-2 : (t : ℕ) → flip-tree-lts.Need-same-length-2 (flip-tree-claims t) (flip-tree-at t) flip-tree.Post
 flip-tree-same-length-2 t c =
@@ -212,28 +209,40 @@ flip-trees-loop-holds : (t : ℕ) → flip-trees-lts.Need-loop-holds (flip-trees
 flip-trees-loop-holds t c =
     onward-first _ _ _ _ _ _ _ _ _ _ _ _ _ _ _ _ (c .before .before .before .before .pre .1)
 
-flip-trees-flip-tree-requires : (t : ℕ) → flip-trees-lts.Need-flip-tree-requires (flip-trees-claims t) (flip-trees-at t) flip-trees.Post flip-trees-Inv-loop flip-trees-μ-loop
-flip-trees-flip-tree-requires t c κs =
-    (omega (arith, c .before .before .before .before .before .before .before .pre .0, c .before .before .loop .inv .late), (tree-ready _ _ _ _ _ _ _ _ _ _ _ _ _ _ (c .before .before .loop .inv .ready) (c .before .loop-test .taken)))
-
-flip-trees-end-at-requires : (t : ℕ) → flip-trees-lts.Need-end-at-requires (flip-trees-claims t) (flip-trees-at t) flip-trees.Post flip-trees-Inv-loop flip-trees-μ-loop
-flip-trees-end-at-requires t c κs =
-    node-low _ _ _ _ _ _ _ _ _ _ _ _ _ ((tree-ready _ _ _ _ _ _ _ _ _ _ _ _ _ _ (c .before .before .before .before .before .loop .inv .ready) (c .before .before .before .before .loop-test .taken)) .begins)
-
-flip-trees-loop-less : (t : ℕ) → flip-trees-lts.Need-loop-less (flip-trees-claims t) (flip-trees-at t) flip-trees.Post flip-trees-Inv-loop flip-trees-μ-loop
-flip-trees-loop-less t c =
-    let n = onward-next _ _ _ _ _ _ _ _ _ _ _ _ _ _ _ _ _ _ (c .before .before .before .before .before .loop-test .taken) (c .end-at .ensures) (c .before .before .before .flip-tree .ensures) _ _ (c .before .before .before .before .before .before .loop .inv) (c .before .before .before .flip-tree .kept .1 .1 .1 .1 .1 .1 .1 .1 .1 .1 .1 .1 .1 .1 .0) in omega (arith, n .0, c .before .before .before .before .before .loop-test .taken)
-
-flip-trees-loop-again : (t : ℕ) → flip-trees-lts.Need-loop-again (flip-trees-claims t) (flip-trees-at t) flip-trees.Post flip-trees-Inv-loop flip-trees-μ-loop
-flip-trees-loop-again t c =
-    onward-next _ _ _ _ _ _ _ _ _ _ _ _ _ _ _ _ _ _ (c .before .before .before .before .before .loop-test .taken) (c .end-at .ensures) (c .before .before .before .flip-tree .ensures) _ _ (c .before .before .before .before .before .before .loop .inv) (c .before .before .before .flip-tree .kept .1 .1 .1 .1 .1 .1 .1 .1 .1 .1 .1 .1 .1 .1 .0) .1
+flip-trees-is-done-requires : (t : ℕ) → flip-trees-lts.Need-is-done-requires (flip-trees-claims t) (flip-trees-at t) flip-trees.Post flip-trees-Inv-loop flip-trees-μ-loop
+flip-trees-is-done-requires t c κs =
+    (c .before .before .loop .inv .ready .0 .visit .line .some, c .before .before .loop .inv .ready .0 .room)
 
 flip-trees-same-length : (t : ℕ) → flip-trees-lts.Need-same-length (flip-trees-claims t) (flip-trees-at t) flip-trees.Post flip-trees-Inv-loop flip-trees-μ-loop
 flip-trees-same-length t c =
-    c .before .loop .inv .same-length
+    c .before .before .before .before .loop .inv .ready .1
 
 flip-trees-returns : (t : ℕ) → flip-trees-lts.Need-returns (flip-trees-claims t) (flip-trees-at t) flip-trees.Post flip-trees-Inv-loop flip-trees-μ-loop
 flip-trees-returns t c =
+    onward-done _ _ _ _ _ _ _ _ _ _ _ _ _ _ _ _ _ _ (c .before .before .before .before .loop .inv) (c .before .is-done .ensures (c .if1 .taken))
+
+flip-trees-flip-tree-requires : (t : ℕ) → flip-trees-lts.Need-flip-tree-requires (flip-trees-claims t) (flip-trees-at t) flip-trees.Post flip-trees-Inv-loop flip-trees-μ-loop
+flip-trees-flip-tree-requires t c κs =
+    (omega (arith, c .before .before .before .before .before .before .before .before .before .before .pre .0, c .before .before .before .before .before .loop .inv .late), (tree-ready _ _ _ _ _ _ _ _ _ _ _ _ _ _ (c .before .before .before .before .before .loop .inv .ready .0) (c .before .before .before .before .loop-test .taken)))
+
+flip-trees-end-at-requires : (t : ℕ) → flip-trees-lts.Need-end-at-requires (flip-trees-claims t) (flip-trees-at t) flip-trees.Post flip-trees-Inv-loop flip-trees-μ-loop
+flip-trees-end-at-requires t c κs =
+    node-low _ _ _ _ _ _ _ _ _ _ _ _ _ ((tree-ready _ _ _ _ _ _ _ _ _ _ _ _ _ _ (c .before .before .before .before .before .before .before .before .loop .inv .ready .0) (c .before .before .before .before .before .before .before .loop-test .taken)) .begins)
+
+flip-trees-loop-less : (t : ℕ) → flip-trees-lts.Need-loop-less (flip-trees-claims t) (flip-trees-at t) flip-trees.Post flip-trees-Inv-loop flip-trees-μ-loop
+flip-trees-loop-less t c =
+    let n = onward-next _ _ _ _ _ _ _ _ _ _ _ _ _ _ _ _ _ _ (c .before .before .before .before .before .before .before .before .loop-test .taken) (c .end-at .ensures) (c .before .before .before .flip-tree .ensures) _ _ (c .before .before .before .before .before .before .before .before .before .loop .inv) (c .before .before .before .flip-tree .kept .1 .1 .1 .1 .1 .1 .1 .1 .1 .1 .1 .1 .1 .1 .0) in omega (arith, n .0, c .before .before .before .before .before .before .before .before .loop-test .taken)
+
+flip-trees-loop-again : (t : ℕ) → flip-trees-lts.Need-loop-again (flip-trees-claims t) (flip-trees-at t) flip-trees.Post flip-trees-Inv-loop flip-trees-μ-loop
+flip-trees-loop-again t c =
+    onward-next _ _ _ _ _ _ _ _ _ _ _ _ _ _ _ _ _ _ (c .before .before .before .before .before .before .before .before .loop-test .taken) (c .end-at .ensures) (c .before .before .before .flip-tree .ensures) _ _ (c .before .before .before .before .before .before .before .before .before .loop .inv) (c .before .before .before .flip-tree .kept .1 .1 .1 .1 .1 .1 .1 .1 .1 .1 .1 .1 .1 .1 .0) .1
+
+flip-trees-same-length-2 : (t : ℕ) → flip-trees-lts.Need-same-length-2 (flip-trees-claims t) (flip-trees-at t) flip-trees.Post flip-trees-Inv-loop flip-trees-μ-loop
+flip-trees-same-length-2 t c =
+    c .before .loop .inv .ready .1
+
+flip-trees-returns-2 : (t : ℕ) → flip-trees-lts.Need-returns-2 (flip-trees-claims t) (flip-trees-at t) flip-trees.Post flip-trees-Inv-loop flip-trees-μ-loop
+flip-trees-returns-2 t c =
     onward-last _ _ _ _ _ _ _ _ _ _ _ _ _ _ _ _ _ _ (c .before .loop .inv) (c .loop-test .left)
 
 pub +flip-row+flip-tree+flip-trees-spec : {M : Type 1} → statement M
@@ -241,25 +250,24 @@ pub +flip-row+flip-tree+flip-trees-spec : {M : Type 1} → statement M
     close μ-flip-row μ-flip-tree μ-flip-trees (λ t. flip-row-lts.spec (flip-row-claims t)
     (flip-row-at t)
     flip-row.Post
-    (flip-row-returns t)
     (flip-row-place-at-requires t)
     (flip-row-cells-from-requires t)
     (flip-row-uses-at-requires t)
     (flip-row-meet-requires t)
     (flip-row-copy-row-requires t)
     (flip-row-same-length t)
-    (flip-row-returns-2 t)
+    (flip-row-returns t)
     (flip-row-kind-at-requires t)
     (flip-row-literal-row-requires t)
     (flip-row-same-length-2 t)
-    (flip-row-returns-3 t)
+    (flip-row-returns-2 t)
     (flip-row-adds-of-requires t)
     (flip-row-begin-row-requires t)
     (flip-row-add-flip-trees t)
     (flip-row-end-at-requires t)
     (flip-row-flip-trees-requires t)
     (flip-row-same-length-3 t)
-    (flip-row-returns-4 t))
+    (flip-row-returns-3 t))
     (λ t. flip-tree-lts.spec (flip-tree-claims t)
     (flip-tree-at t)
     flip-tree.Post
@@ -276,16 +284,18 @@ pub +flip-row+flip-tree+flip-trees-spec : {M : Type 1} → statement M
     (flip-tree-join-row-requires t)
     (flip-tree-same-length-2 t)
     (flip-tree-returns-2 t))
-    λ t. flip-trees-lts.spec
-    (flip-tree-below t, flip-tree.Post, end-at-reads.Asked, end-at-reads.Learnt)
+    λ t. flip-trees-lts.spec (flip-trees-claims t)
     (flip-trees-at t)
     flip-trees.Post
     flip-trees-Inv-loop
     flip-trees-μ-loop
     (flip-trees-loop-holds t)
+    (flip-trees-is-done-requires t)
+    (flip-trees-same-length t)
+    (flip-trees-returns t)
     (flip-trees-flip-tree-requires t)
     (flip-trees-end-at-requires t)
     (flip-trees-loop-less t)
     (flip-trees-loop-again t)
-    (flip-trees-same-length t)
-    (flip-trees-returns t)
+    (flip-trees-same-length-2 t)
+    (flip-trees-returns-2 t)

@@ -42,6 +42,7 @@ Flat f d = Every (λ n c i. NoQuantifier n) f d
 -- `own` is no variable's number.
 pub record Line (u d count own row digits : ℕ) (at : ℕ → Tuple) : Type 0 where
   pub few : count ≤ u
+  pub some : 1 ≤ count
   pub tuples : (x : ℕ) → x < count → TupleOf u d (at x)
   pub places : (x : ℕ) → x < count → placeOf u (at x) ≡ row + x
   pub same : (x v : ℕ) → x < count → v < d → v ≢ own → portOf (at x) v ≡ digits / 256 ^ v % 256

@@ -58,7 +58,6 @@ pub record LiteralReady (bytes masks sizes : List ℕ) (i count own digits : ℕ
   pub line : Line ports depth count own row digits at
   pub is : RecordOf sets depth bytes i test
   pub asks : AsksSet test
-  pub some : 1 ≤ count
   pub room : count ≤ length out
 
 -- Its penalties.
@@ -67,10 +66,9 @@ LiteralGives bytes masks sizes i count own digits out =
     (u sets d row : ℕ) (at : ℕ → Tuple) (t : Test) → Line u d count own row digits at → RecordOf sets d bytes i t → AsksSet t
     → (x : ℕ) → x < count → (k : Configuration) → FlippedAt masks sizes k t (at x) → getD out x 0 ≡ testPenalty k t (at x)
 
--- Before the cells of one tree, at least one, which go into as many sums or minima.
+-- Before the cells of one tree, which go into as many sums or minima.
 pub record JoinReady (bytes firsts ends uses masks sizes cells : List ℕ) (i count own row digits : ℕ) (out : List ℕ) : Type 0 where
   pub begins : FlipReady bytes firsts ends uses masks sizes cells i count own row digits out
-  pub some : 1 ≤ count
   pub low : (x : ℕ) → x < count → getD out x 0 < modulus
 
 pub record Joins (bytes firsts ends uses masks sizes cells : List ℕ) (i count own row digits word : ℕ) (add : Bool) (acc out : List ℕ) : Type 0 where
@@ -94,7 +92,6 @@ pub record TreesReady (bytes firsts ends uses masks sizes cells : List ℕ) (i u
   pub visit : FlipVisit ports sets bytes firsts ends uses cells i forest first depth count own row digits at
   pub ends-at : until ≡ i + nodeCount forest
   pub room : count ≤ length out
-  pub some : 1 ≤ count
   pub low : (x : ℕ) → x < count → getD out x 0 < modulus
 
 unfoldable pub TreesGive : List ℕ → List ℕ → List ℕ → List ℕ → List ℕ → List ℕ → List ℕ → ℕ → ℕ → ℕ → ℕ → ℕ → ℕ → ℕ → Bool → List ℕ → List ℕ → Type 0

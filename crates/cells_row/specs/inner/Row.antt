@@ -1,7 +1,8 @@
 -- The cells of a node at every port of one variable: a row of u numbers, and the row of the numbers before.
+use mathlib.Core.Path.{_≡_}
 use mathlib.Core.Bool.{Bool, true, false, not}
 use mathlib.Core.List.{List, [], _∷_, _++_}
-use Prim.Native.Nat.{ℕ}
+use Prim.Native.Nat.{ℕ, _<_}
 use lib.Dec.{eqb}
 use lib.ListN.{getD, drop}
 use Rattle.logic.specs.Configuration.{indicator}
@@ -13,6 +14,10 @@ use Rattle.cells_sum.specs.inner.Walk.{taken, gathered}
 -- The first u numbers of a table by port; the others are as they were.
 unfoldable pub rowOf : ℕ → (ℕ → ℕ) → List ℕ → List ℕ
 rowOf u g out = tabulate u g ++ drop u out
+
+-- The first u numbers of a row are 0.
+unfoldable pub ZeroRow : List ℕ → ℕ → Type 0
+ZeroRow row u = (x : ℕ) → x < u → getD row x 0 ≡ 0
 
 -- The cell at port x, before and after.
 unfoldable pub renewalAt : List ℕ → List ℕ → ℕ → Renewal

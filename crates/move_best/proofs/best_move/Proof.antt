@@ -1,9 +1,9 @@
 use Prim.Native.Nat.{ℕ}
 use native.Mathlib.Omega.{arith}
 use lib.ListN.{length-replicate}
-use borrow.Author.Needs.{needs}
 use Rattle.call_open.proofs.OpenPlan.{sets-fit, masks-long}
 use Rattle.move_best.proofs.Owning.{zeros-empty, fill-ready, chooses-whole}
+use borrow.Author.Needs.{needs}
 use Rattle.move_best.proofs.best_move.Statement.{statement}
 use Rattle.move_best.proofs.best_move.Tie as tie
 
@@ -40,9 +40,12 @@ slice-aggregate-fill-tables-2 c = search needs
 slice-aggregate-fill-tables-3 : tie.Need-slice-aggregate-fill-tables-3
 slice-aggregate-fill-tables-3 c = search needs
 
+slice-aggregate-fill-tables-4 : tie.Need-slice-aggregate-fill-tables-4
+slice-aggregate-fill-tables-4 c = search needs
+
 fill-tables-requires : tie.Need-fill-tables-requires
 fill-tables-requires c κs =
-    fill-ready (c .before .before .before .before .before .before .before .before .before .pre .tables-open .opened) _ (omega arith) (c .before .before .before .before .before .before .before .before .before .pre .tables-open .cells-fit) _ _ (c .before .before .before .before .before .own-masks .ensures) (c .before .before .before .before .before .before .before .before .before .pre .cells-own) _ _ _ (length-replicate {A = ℕ} 4096 0) (length-replicate {A = ℕ} 64 0) (length-replicate {A = ℕ} 16384 0) (zeros-empty 4096) (zeros-empty 64) (zeros-empty 16384)
+    fill-ready (c .before .before .before .before .before .before .before .before .before .before .pre .tables-open .opened) _ (omega arith) (c .before .before .before .before .before .before .before .before .before .before .pre .tables-open .cells-fit) _ _ (c .before .before .before .before .before .before .own-masks .ensures) (c .before .before .before .before .before .before .before .before .before .before .pre .cells-own) _ _ _ _ (length-replicate {A = ℕ} 4096 0) (length-replicate {A = ℕ} 64 0) (length-replicate {A = ℕ} 16384 0) (length-replicate {A = ℕ} 1024 0) (zeros-empty 4096) (zeros-empty 64) (zeros-empty 16384)
 
 sub-choose : tie.Need-sub-choose
 sub-choose c = search needs
@@ -52,7 +55,7 @@ part-choose-start c = search needs
 
 part-choose-end : tie.Need-part-choose-end
 part-choose-end c =
-    omega (arith, c .before .before .before .before .before .before .before .before .before .own-masks .ensures, masks-long (c .before .before .before .before .before .before .before .before .before .before .before .before .before .pre .tables-open .opened))
+    omega (arith, c .before .before .before .before .before .before .before .before .before .before .before .own-masks .ensures, masks-long (c .before .before .before .before .before .before .before .before .before .before .before .before .before .before .before .pre .tables-open .opened))
 
 sub-choose-2 : tie.Need-sub-choose-2
 sub-choose-2 c = search needs
@@ -62,7 +65,7 @@ part-choose-start-2 c = search needs
 
 part-choose-end-2 : tie.Need-part-choose-end-2
 part-choose-end-2 c =
-    omega (arith, c .before .before .before .before .before .before .before .before .before .before .before .before .before .before .pre .tables-open .opened .own-cells, c .before .before .before .before .before .before .before .before .before .before .before .before .before .before .pre .cells-own (c .before .before .before .before .before .before .before .before .before .before .before .before .before .before .pre .tables-open .opened .plan) (c .before .before .before .before .before .before .before .before .before .before .before .before .before .before .pre .tables-open .opened .decodes))
+    omega (arith, c .before .before .before .before .before .before .before .before .before .before .before .before .before .before .before .before .pre .tables-open .opened .own-cells, c .before .before .before .before .before .before .before .before .before .before .before .before .before .before .before .before .pre .cells-own (c .before .before .before .before .before .before .before .before .before .before .before .before .before .before .before .before .pre .tables-open .opened .plan) (c .before .before .before .before .before .before .before .before .before .before .before .before .before .before .before .before .pre .tables-open .opened .decodes))
 
 slice-aggregate-choose : tie.Need-slice-aggregate-choose
 slice-aggregate-choose c = search needs
@@ -73,13 +76,16 @@ slice-aggregate-choose-2 c = search needs
 slice-aggregate-choose-3 : tie.Need-slice-aggregate-choose-3
 slice-aggregate-choose-3 c = search needs
 
+slice-aggregate-choose-4 : tie.Need-slice-aggregate-choose-4
+slice-aggregate-choose-4 c = search needs
+
 choose-requires : tie.Need-choose-requires
 choose-requires c κs =
-    c .before .before .before .before .before .before .before .before .fill-tables .ensures
+    c .before .before .before .before .before .before .before .before .before .before .fill-tables .ensures
 
 returns : tie.Need-returns
 returns c =
-    chooses-whole (c .before .before .before .before .before .before .before .before .before .before .before .before .before .before .before .before .before .before .before .pre .tables-open .opened) _ (omega arith) (c .before .before .before .before .before .before .before .before .before .before .before .before .before .before .before .before .before .before .before .pre .tables-open .cells-fit) _ _ (c .before .before .before .before .before .before .before .before .before .before .before .before .before .before .before .own-masks .ensures) (c .before .before .before .before .before .before .before .before .before .before .before .before .before .before .before .before .before .before .before .pre .cells-own) _ _ (c .choose .ensures)
+    chooses-whole (c .before .before .before .before .before .before .before .before .before .before .before .before .before .before .before .before .before .before .before .before .before .before .pre .tables-open .opened) _ (omega arith) (c .before .before .before .before .before .before .before .before .before .before .before .before .before .before .before .before .before .before .before .before .before .before .pre .tables-open .cells-fit) _ _ (c .before .before .before .before .before .before .before .before .before .before .before .before .before .before .before .before .before .before .own-masks .ensures) (c .before .before .before .before .before .before .before .before .before .before .before .before .before .before .before .before .before .before .before .before .before .before .pre .cells-own) _ _ (c .choose .ensures)
 
 pub best-move-spec : {M : Type 1} → statement M
 best-move-spec =
@@ -95,6 +101,7 @@ best-move-spec =
     slice-aggregate-fill-tables
     slice-aggregate-fill-tables-2
     slice-aggregate-fill-tables-3
+    slice-aggregate-fill-tables-4
     fill-tables-requires
     sub-choose
     part-choose-start
@@ -105,5 +112,6 @@ best-move-spec =
     slice-aggregate-choose
     slice-aggregate-choose-2
     slice-aggregate-choose-3
+    slice-aggregate-choose-4
     choose-requires
     returns)

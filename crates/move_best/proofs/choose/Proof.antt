@@ -1,13 +1,12 @@
 use native.Mathlib.Omega.{arith}
 use Rattle.call_open.proofs.OpenPlan.{sets-fit}
 use borrow.Author.Needs.{needs}
-use borrow.Author.Needs.{needs}
 use Rattle.move_best.proofs.choose.Statement.{statement}
 use Rattle.move_best.proofs.choose.Tie as tie
 
 own-masks-requires : tie.Need-own-masks-requires
 own-masks-requires c κs =
-    sets-fit (c .before .before .before .before .before .before .pre .tables-open .opened)
+    sets-fit (c .before .before .before .before .before .before .before .pre .tables-open .opened)
 
 sub-search : tie.Need-sub-search
 sub-search c = search needs
@@ -17,7 +16,7 @@ part-work-start c = search needs
 
 part-work-end : tie.Need-part-work-end
 part-work-end c =
-    omega (arith, sets-fit (c .before .before .before .before .before .before .before .pre .tables-open .opened), c .own-masks .ensures)
+    omega (arith, sets-fit (c .before .before .before .before .before .before .before .before .pre .tables-open .opened), c .own-masks .ensures)
 
 search-requires : tie.Need-search-requires
 search-requires c κs = search needs

@@ -1,13 +1,12 @@
 use native.Mathlib.Omega.{arith}
 use Rattle.call_open.proofs.OpenPlan.{sets-fit}
 use borrow.Author.Needs.{needs}
-use borrow.Author.Needs.{needs}
 use Rattle.move_best.proofs.list_best.Statement.{statement}
 use Rattle.move_best.proofs.list_best.Tie as tie
 
 own-masks-requires : tie.Need-own-masks-requires
 own-masks-requires c κs =
-    sets-fit (c .before .before .before .before .before .before .pre .told .tables-open .opened)
+    sets-fit (c .before .before .before .before .before .before .before .pre .told .tables-open .opened)
 
 sub-write-best : tie.Need-sub-write-best
 sub-write-best c = search needs
@@ -17,7 +16,7 @@ part-work-start c = search needs
 
 part-work-end : tie.Need-part-work-end
 part-work-end c =
-    omega (arith, sets-fit (c .before .before .before .before .before .before .before .pre .told .tables-open .opened), c .own-masks .ensures)
+    omega (arith, sets-fit (c .before .before .before .before .before .before .before .before .pre .told .tables-open .opened), c .own-masks .ensures)
 
 write-best-requires : tie.Need-write-best-requires
 write-best-requires c κs = search needs

@@ -19,8 +19,8 @@ use Rattle.move_root.specs.inner.Telling.{Told}
 use Rattle.move_tables.specs.declared.Left.{Left}
 
 -- Tables that tell of the moves, and room for the masks after one.
-pub record SearchRoom (ports sets : ℕ) (bytes firsts ends uses masks cells : List ℕ) (kinds : ℕ) (one still joint : List ℕ) (left : Left) (work : List ℕ) : Type 0 where
-  pub told : Told ports sets bytes firsts ends uses masks cells kinds one still joint left
+pub record SearchRoom (ports sets : ℕ) (bytes firsts ends uses masks cells : List ℕ) (kinds : ℕ) (one still joint lists : List ℕ) (left : Left) (work : List ℕ) : Type 0 where
+  pub told : Told ports sets bytes firsts ends uses masks cells kinds one still joint lists left
   pub work-long : length work ≡ maskCount sets
 
 -- Open tables, and how many cells are the plan's own.
@@ -43,15 +43,15 @@ Chooses bytes masks cells kinds r =
     (P : Plan) → decode bytes ≡ sound P → (let own = ownTables P (tables masks cells) in BestIs (bestMoves P kinds own) P own r)
 
 -- Tables that tell of the moves, the choice among the candidates, and a list with room for the best.
-pub record ListRoom (ports sets : ℕ) (bytes firsts ends uses masks cells : List ℕ) (kinds : ℕ) (one still joint : List ℕ) (left : Left) (best : Choice) (list : List (List ℕ)) : Type 0 where
-  pub told : Told ports sets bytes firsts ends uses masks cells kinds one still joint left
+pub record ListRoom (ports sets : ℕ) (bytes firsts ends uses masks cells : List ℕ) (kinds : ℕ) (one still joint lists : List ℕ) (left : Left) (best : Choice) (list : List (List ℕ)) : Type 0 where
+  pub told : Told ports sets bytes firsts ends uses masks cells kinds one still joint lists left
   pub chooses : Chooses bytes masks cells kinds best
   pub list-long : best .count ≤ length list
 
 -- The same with room for the masks after a move.
-pub record WriteRoom (ports sets : ℕ) (bytes firsts ends uses masks cells : List ℕ) (kinds : ℕ) (one still joint : List ℕ) (left : Left) (best : Choice) (work : List ℕ)
+pub record WriteRoom (ports sets : ℕ) (bytes firsts ends uses masks cells : List ℕ) (kinds : ℕ) (one still joint lists : List ℕ) (left : Left) (best : Choice) (work : List ℕ)
     (list : List (List ℕ)) : Type 0 where
-  pub room : ListRoom ports sets bytes firsts ends uses masks cells kinds one still joint left best list
+  pub room : ListRoom ports sets bytes firsts ends uses masks cells kinds one still joint lists left best list
   pub work-long : length work ≡ maskCount sets
 
 -- The list afterwards: the records of the best moves in their order, and behind them what stood there.

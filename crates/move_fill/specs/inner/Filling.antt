@@ -17,7 +17,7 @@ unfoldable pub AllZero : List ℕ → Type 0
 AllZero xs = (i : ℕ) → getD xs i 0 ≡ 0
 
 -- Open tables, a plan's own masks and cells and no more of these, and empty tables.
-pub record FillReady (ports sets : ℕ) (bytes firsts ends uses masks cells one still joint : List ℕ) : Type 0 where
+pub record FillReady (ports sets : ℕ) (bytes firsts ends uses masks cells one still joint lists : List ℕ) : Type 0 where
   pub tables-open : OpenTables ports sets bytes firsts ends uses masks cells
   pub masks-own : length masks ≡ ownMasks (tables-open .opened .plan)
   pub cells-own : length cells ≡ ownCells (tables-open .opened .plan)
@@ -27,3 +27,4 @@ pub record FillReady (ports sets : ℕ) (bytes firsts ends uses masks cells one 
   pub one-empty : AllZero one
   pub still-empty : AllZero still
   pub joint-empty : AllZero joint
+  pub lists-long : length lists ≡ 1024

@@ -18,6 +18,7 @@ use Rattle.cells_walk.specs.inner.Nodes.{Fitting}
 use Rattle.cells_walk.specs.inner.Visit.{MasksSettled, CellsFit}
 use Rattle.cells_atoms.specs.inner.Atoms.{overTuples, difference, AllRegular}
 use Rattle.cells_ports.specs.inner.Ports.{resizedBy, flippedBy}
+use Rattle.cells_both.specs.inner.Both.{FourChanges, bothBy}
 
 -- The configuration and the change of a move, and its share of an atom: new minus old over all the atom's cells.
 unfoldable pub configurationAfter : Plan → List ℕ → Move → Configuration
@@ -79,6 +80,28 @@ flippedShare u own sizes before zs x n c b d =
 -- Both.
 unfoldable pub wholeShare : ℕ → List ℕ → List ℕ → List ℕ → List Outcome → ℕ → Node → Forest → ℕ → ℕ → ℕ
 wholeShare u own sizes before zs x n c b d = resizedShare u own sizes before zs n c b d + flippedShare u own sizes before zs x n c b d
+
+-- The set of a swap, with what becomes of its size.
+abbrev pub swappedSet : Plan → List ℕ → Move → List Outcome
+swappedSet P own m = (m .s, exchanged (getD own (P .sets) 0) (m .p) (m .q)) ∷ []
+
+-- A swap's resizing alone, with each flip, and with both; and what both add to an atom beyond each.
+unfoldable pub fourOf : Plan → List ℕ → List ℕ → Move → FourChanges
+fourOf P own sizes m =
+    let zs = swappedSet P own m in
+    record {
+      k₀ = resizedTo own sizes zs;
+      base = resizing zs;
+      kp = flippedTo own sizes zs (m .p);
+      atp = flipping zs (m .p);
+      kq = flippedTo own sizes zs (m .q);
+      atq = flipping zs (m .q);
+      kb = configurationAfter P own m;
+      both = changeBy P own m;
+    }
+
+unfoldable pub bothShare : Plan → List ℕ → List ℕ → List ℕ → Move → Node → Forest → ℕ → ℕ → ℕ
+bothShare P own sizes before m n c b d = overTuples (P .ports) d (bothBy (P .ports) (fourOf P own sizes m) (cellOf (P .ports) before) n c b d) []
 
 -- The list has the sizes of a plan's sets.
 unfoldable pub SizesAre : Plan → List ℕ → List ℕ → Type 0

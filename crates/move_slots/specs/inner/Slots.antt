@@ -1,7 +1,7 @@
 -- The tables that improve keeps: what flips bring to the root, by set, by what becomes of its size, and by port.
 use mathlib.Core.Path.{_≡_}
 use mathlib.Core.Logic.{_≢_}
-use mathlib.Core.Bool.{Bool, true, cond, not, _&&_}
+use mathlib.Core.Bool.{true, cond}
 use mathlib.Core.List.{List, [], _∷_}
 use Prim.Native.Nat.{ℕ, _+_, _*_, _%_, _≤_, _<_}
 use lib.ListN.{length, getD}
@@ -52,18 +52,6 @@ kindRead unknown one still joint test m = 0
 
 unfoldable pub moveRead : List ℕ → List ℕ → List ℕ → ℕ → Move → ℕ
 moveRead one still joint test m = kindRead (moveKind (m .kind)) one still joint test m
-
--- Whether a move is told by the tables: no atom with quantifiers uses its sets (`hard` has the uses of those), and a swap's set is tested by
--- one variable in each atom (`crossed` has bit 4 s of the others).
-unfoldable pub kindTold : MoveKind → ℕ → ℕ → Move → Bool
-kindTold add hard crossed m = not (meets hard (setBits (m .s)))
-kindTold drop hard crossed m = not (meets hard (setBits (m .s)))
-kindTold transfer hard crossed m = not (meets hard (setBits (m .s))) && not (meets hard (setBits (m .t)))
-kindTold swap hard crossed m = not (meets hard (setBits (m .s))) && not (inMask crossed (4 * m .s))
-kindTold unknown hard crossed m = true
-
-unfoldable pub told : ℕ → ℕ → Move → Bool
-told hard crossed m = kindTold (moveKind (m .kind)) hard crossed m
 
 -- An atom without quantifiers, of a plan with its sizes: what every step over it asks.
 pub record AtomGiven (u sets : ℕ) (bytes firsts ends uses masks sizes cells : List ℕ) (i d : ℕ) (P : Plan) (n : Node) (c s : Forest) (b : ℕ) : Type 0 where

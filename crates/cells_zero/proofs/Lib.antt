@@ -1,0 +1,3 @@
+-- Laws.
+pub mod Hitting
+pub mod Telling

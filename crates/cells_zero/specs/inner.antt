@@ -1,0 +1,2 @@
+-- What only proofs and inner contracts use.
+pub mod Zero

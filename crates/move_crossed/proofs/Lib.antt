@@ -1,0 +1,4 @@
+-- Laws.
+mod Atoms
+mod Listing
+mod Sizes
