@@ -8,7 +8,7 @@
  *
  * An answer's number is 0 where the call is accepted, else the ground for refusal, with all other fields 0. A refused call
  * writes nothing. Nothing past a plan's own bytes, masks or cells is ever read or written. A plan's own masks are one for each set
- * and, after these, that of the ports in test. No call takes more than 309 KiB of stack, whatever it is given (measured:
+ * and, after these, that of the ports in test. No call takes more than 311 KiB of stack, whatever it is given (measured:
  * docs/PERFORMANCE.md, Stack).
  *
  * Grounds: 1 text over 4,096 bytes; 2 a byte of no token, space or line end; 3 outside the grammar; 4 more than 64 of `(`, `~` and

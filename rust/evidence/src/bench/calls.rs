@@ -233,7 +233,7 @@ pub fn parts(state: &State, m: Move) -> Parts {
 }
 
 /// Only the improve is timed; the move that it made is then taken back.
-fn improved(state: &mut State, times: usize, improve: &mut dyn FnMut(&mut State) -> Result<Improved, u32>) -> Duration {
+pub fn improved(state: &mut State, times: usize, improve: &mut dyn FnMut(&mut State) -> Result<Improved, u32>) -> Duration {
     let mut total = Duration::ZERO;
     for _ in 0..times {
         let start = now();

@@ -1,4 +1,5 @@
 //! What the program `bench` measures: the archive beside the plain engine, sampled in turn in one run.
+pub mod against;
 pub mod calls;
 pub mod clock;
 pub mod deep;

@@ -1,5 +1,8 @@
 //! `bench [PLAN..]`: times of the archive beside the plain engine, as tables in markdown. Answers are compared; times are only
 //! printed. With names (B1 to B6, `deep` for the deep texts, `improve` for the plain engine's two ways to improve), only these.
+//!
+//! `bench against BEFORE NOW`: improve of two archives, given as shared objects.
+use evidence::bench::against::{self, Opened};
 use evidence::bench::calls::{improve_ways, measure, parts, read_times, Line};
 use evidence::bench::deep::{deep_texts, PORTS};
 use evidence::bench::growth::{larger, more_touched, ADD};
@@ -10,6 +13,11 @@ use evidence::with_stack;
 fn main() {
     let names: Vec<String> = std::env::args().skip(1).collect();
     with_stack(move || {
+        if let [against, before, now] = &names[..] {
+            if against == "against" {
+                return print_against(Opened::of(before), Opened::of(now));
+            }
+        }
         let asked = |name: &str| names.is_empty() || names.iter().any(|asked| asked == name);
         if names.is_empty() {
             print_plans();
@@ -78,6 +86,15 @@ fn print_improve() {
             let chosen = format!("{} | {}", time(w.chosen), ratio(w.walks / w.chosen));
             println!("| {} | {} | {} | {times} | {chosen} |", plan.name, w.kinds, w.candidates);
         }
+    }
+}
+
+fn print_against(before: Opened, now: Opened) {
+    println!("| plan | improve | before | now | before/now |\n|---|---|---|---|---|");
+    for plan in plans() {
+        against::measure(before, now, &State::of(&plan).1, &mut |p| {
+            println!("| {} | {} | {} | {} | {} |", plan.name, p.kinds, time(p.before), time(p.now), ratio(p.before / p.now));
+        });
     }
 }
 

@@ -1,10 +1,14 @@
 //! Every cell of a plan from scratch (Definition 5), children first, all cells of a node or of a part of it at once.
-use super::check::{Node, Tables, ALL, AND, COMPARE, IN, MOST_NODES, NOT_IN, OR, ROOT, SOME};
+use super::check::{Node, Tables, ALL, AND, COMPARE, IN, NOT_IN, OR, ROOT, SOME};
 use super::configuration::Configuration;
 use super::literal::{digit, penalty, related, with_digit};
 
 /// A node of more cells is done by the parts below one port of an outermost quantifier, so that what is read was written just before.
 const LARGE: usize = 4096;
+
+/// Literals that stand again are copied, which costs less than to make them, but for memberships of more cells than this: what these
+/// would be copied from has left the nearest cache by then.
+const LONG: usize = 2048;
 
 /// The cells of each node whose tuples begin alike: the number of variables fixed, their digits, and the number of the prefix.
 #[derive(Clone, Copy)]
@@ -18,13 +22,13 @@ struct Filler<'a> {
     tables: &'a Tables,
     of: &'a Configuration,
     powers: [usize; 4],
-    /// For each node one behind it whose cells are the same, or 0.
-    same: [u16; MOST_NODES],
+    /// For what a literal says, the node filled last that says so, or 0.
+    last: [u16; 1 << 11],
 }
 
 pub fn all(tables: &Tables, of: &Configuration, cells: &mut [u32]) {
     let u = tables.u;
-    let filler = Filler { tables, of, powers: [1, u, u * u, u * u * u], same: written_again(&tables.nodes) };
+    let mut filler = Filler { tables, of, powers: [1, u, u * u, u * u * u], last: [0; 1 << 11] };
     let whole = Prefix { fixed: 0, digits: 0, place: 0 };
     // From `done` on every cell is filled; no node met before it is deeper than `depth`.
     let (mut done, mut depth) = (tables.nodes.len(), 0);
@@ -42,25 +46,12 @@ pub fn all(tables: &Tables, of: &Configuration, cells: &mut [u32]) {
     }
 }
 
-/// For each literal the next one behind it that says the same under as many quantifiers, or 0. It has the same cells, filled before:
-/// to copy them costs less than to make them.
-fn written_again(nodes: &[Node]) -> [u16; MOST_NODES] {
-    let mut same = [0; MOST_NODES];
-    let mut behind = [0; 1 << 11];
-    for (k, node) in nodes.iter().enumerate().rev() {
-        // The relations are 0 to 5.
-        let said = match node.kind() {
-            IN => 6,
-            NOT_IN => 7,
-            COMPARE => node.relation(),
-            _ => continue,
-        };
-        let [said, a, b, depth] = [said, node.a(), node.b(), node.depth].map(usize::from);
-        let last = &mut behind[said << 8 | b << 4 | a << 2 | depth];
-        same[k] = *last;
-        *last = k as u16;
-    }
-    same
+/// What a membership or a comparison says, and under how many quantifiers.
+fn said(node: &Node) -> Option<usize> {
+    // Relations are 0 to 5, and that of a membership is 0.
+    let [kind, relation, a, b, depth] = [node.kind(), node.relation(), node.a(), node.b(), node.depth].map(usize::from);
+    let said = kind.wrapping_sub(usize::from(IN));
+    (said < 3).then_some((said + relation) << 8 | b << 4 | a << 2 | depth)
 }
 
 /// The cells behind a node's own under a prefix, its children's among them: how many stand before, and the number of the prefix.
@@ -80,7 +71,7 @@ impl<'a> Behind<'a> {
 
 impl Filler<'_> {
     /// All cells below an outermost quantifier, up to its end, port by port.
-    fn below(&self, i: usize, end: usize, cells: &mut [u32]) {
+    fn below(&mut self, i: usize, end: usize, cells: &mut [u32]) {
         for port in 0..self.tables.u {
             let prefix = Prefix { fixed: 1, digits: with_digit(0, 0, port), place: port };
             for k in (i + 1..end).rev() {
@@ -93,13 +84,17 @@ impl Filler<'_> {
         self.powers[usize::from(self.tables.nodes[k].depth - prefix.fixed)]
     }
 
-    /// A node's cells under a prefix, with those of all nodes behind it filled.
-    fn block(&self, k: usize, prefix: Prefix, cells: &mut [u32]) {
+    /// A node's cells under a prefix, with those of all nodes behind it filled. Inlined, since it costs as much as a short row.
+    #[inline(always)]
+    fn block(&mut self, k: usize, prefix: Prefix, cells: &mut [u32]) {
         let length = self.length(k, prefix);
         let start = |k: usize| self.tables.nodes[k].first as usize + prefix.place * length;
-        let same = usize::from(self.same[k]);
-        if same != 0 {
-            return cells.copy_within(start(same)..start(same) + length, start(k));
+        if let Some(said) = said(&self.tables.nodes[k]) {
+            // One behind it has the same cells, which are filled. One before it was filled under another prefix.
+            let same = usize::from(std::mem::replace(&mut self.last[said], k as u16));
+            if same > k && (length <= LONG || self.tables.nodes[k].kind() == COMPARE) {
+                return cells.copy_within(start(same)..start(same) + length, start(k));
+            }
         }
         let (head, tail) = cells.split_at_mut(start(k) + length);
         let behind = Behind { cells: tail, before: head.len(), place: prefix.place };

@@ -1,7 +1,7 @@
 //! What moves bring to the root, summed over all atoms by set and port. A move then costs a few reads.
 use super::atom::{atoms, Atom, Brought};
 use super::both_ports::BothPorts;
-use super::flips::{members, size, Flips, Sizes};
+use super::flips::{members, sets, size, Flips, Sizes};
 use super::rows::{total, Row};
 use super::under::Present;
 use crate::calls::Move;
@@ -58,21 +58,24 @@ impl<'a> Differences<'a> {
             swaps: if kinds & SWAP != 0 { vec![none; CHANGES.len()] } else { Vec::new() },
             beyond: vec![Vec::new(); n],
         };
-        atoms(&present).into_iter().for_each(|atom| all.take(atom));
+        let mut own = Vec::with_capacity(n);
+        for atom in atoms(&present) {
+            own.clear();
+            own.extend(sets(atom.uses).map(|set| Own { set, row: all.of_set(atom, set) }));
+            all.take(atom, &own);
+        }
         all
     }
 
-    fn take(&mut self, atom: Atom) {
-        let used = (0..self.n).filter(|s| atom.uses & (members(*s) | size(*s)) != 0);
-        let own: Vec<Own> = used.map(|set| Own { set, row: self.of_set(atom, set) }).collect();
-        for one in &own {
+    fn take(&mut self, atom: Atom, own: &[Own]) {
+        for one in own {
             add(&mut self.one[one.set], &one.row);
             if self.kinds & SWAP != 0 {
                 self.take_swaps(atom, one);
             }
         }
         if self.kinds & TRANSFER != 0 {
-            for s in &own {
+            for s in own {
                 own.iter().filter(|t| t.set != s.set).for_each(|t| self.take_transfers(atom, s, t));
             }
         }
@@ -91,16 +94,17 @@ impl<'a> Differences<'a> {
         [(asked & !self.present.sets.in_test, 1), (asked & self.present.sets.in_test, 0)]
     }
 
-    /// What adds and drops of a set bring to an atom.
+    /// What adds and drops of a set bring to an atom, at the ports that are asked for.
     fn of_set(&self, atom: Atom, s: usize) -> Row {
         let outside = if self.kinds & (ADD | TRANSFER) != 0 { self.all_ports() & !self.set(s) } else { 0 };
         let inside = if self.kinds & (DROP | TRANSFER) != 0 { self.set(s) } else { 0 };
-        let mut row = [0; 64];
         if atom.uses & size(s) == 0 {
+            // No size changes, and what stands at other ports is not read.
             let swaps = self.kinds & SWAP != 0 && !atom.binds(atom.variables(members(s)));
-            self.put(atom, members(s), &self.sizes, if swaps { self.all_ports() } else { outside | inside }, &mut row);
-            return row;
+            let asked = if swaps { self.all_ports() } else { outside | inside };
+            return atom.brought(self.present, members(s), &self.sizes, asked).by_port;
         }
+        let mut row = [0; 64];
         for (asked, sign) in [(outside, 1), (inside, -1)] {
             for (asked, counted) in self.by_test(asked) {
                 self.put(atom, members(s), &self.sizes.with(s, sign * counted), asked, &mut row);

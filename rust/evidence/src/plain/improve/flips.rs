@@ -12,6 +12,15 @@ pub fn size(set: usize) -> u64 {
     8 << (4 * set)
 }
 
+/// The sets that a node's uses tell of, rising.
+pub fn sets(mut uses: u64) -> impl Iterator<Item = usize> {
+    std::iter::from_fn(move || {
+        let set = uses.trailing_zeros() as usize / 4;
+        uses &= !(members(set % MOST_SETS) | size(set % MOST_SETS));
+        (set < MOST_SETS).then_some(set)
+    })
+}
+
 /// The variables by which membership literals test some sets, given in words of four bits a set.
 pub fn variables(uses: u64, sets: u64) -> u64 {
     let mut met = uses & sets & 0x7777_7777_7777_7777;

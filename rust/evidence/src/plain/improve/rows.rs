@@ -35,10 +35,12 @@ fn least_into(into: &mut [u32], cells: &[u32]) {
 impl Present<'_> {
     /// The least of those children of a minimum that no part of a change touches.
     pub fn least_untouched(&self, k: usize, word: u64, place: usize, out: &mut [u32]) {
-        out.fill(u32::MAX);
-        for c in self.children(k).filter(|c| self.nodes[*c].uses & word == 0) {
-            least_into(out, self.row(c, place));
+        let mut untouched = self.children(k).filter(|c| self.nodes[*c].uses & word == 0).map(|c| self.row(c, place));
+        match untouched.next() {
+            Some(first) => out.copy_from_slice(first),
+            None => return out.fill(u32::MAX),
         }
+        untouched.for_each(|row| least_into(out, row));
     }
 }
 
@@ -102,8 +104,8 @@ impl Under<'_> {
 
     /// Joins those children of a minimum that a wider word touches to the others, whose least `out` is already.
     pub fn join_touched(&self, k: usize, wider: u64, row: At, out: &mut [u32]) {
-        // Below 0 there is nothing.
-        if out.iter().any(|c| *c != 0) {
+        // Below 0 there is nothing. All bits together are found by vectors, the first cell that is not 0 is not.
+        if out.iter().fold(0, |bits, c| bits | c) != 0 {
             self.join_children(k, wider, row, out);
         }
         if !self.touched(k, self.flips.rest(row.word, self.present.nodes[k].depth - 1)) {
