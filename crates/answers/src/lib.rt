@@ -1,4 +1,5 @@
 // What the calls answer, as C structs: the structs, and the conversions by the paper's numbers and values.
+#![tactic(auto)]
 ghost use Rattle.std.specs.Prelude.{◌≡◌};
 ghost use Rattle.contracts.specs.declared.Moved.TheVariants.{Accepted};
 ghost use Rattle.contracts.specs.declared.Improved.TheVariants.{Made};
@@ -39,7 +40,7 @@ pub fn made(m: Move, a: After) -> Improved
 
 // vk_read_answer: 0 or the ground's number, node count, cell total.
 #[repr(C)]
-#[derive(Drop)]
+#[derive(Clone, Copy)]
 pub struct ReadAnswer {
     pub number: u32,
     pub nodes: u32,
@@ -48,7 +49,7 @@ pub struct ReadAnswer {
 
 // vk_load_answer: 0 or the ground's number, the root's penalty, cell total.
 #[repr(C)]
-#[derive(Drop)]
+#[derive(Clone, Copy)]
 pub struct LoadAnswer {
     pub number: u32,
     pub root: u32,
@@ -93,7 +94,7 @@ pub fn load_fields(a: Loaded) -> LoadAnswer
 
 // vk_move_answer: 0 or the ground's number, root before, root after, how many cells differ.
 #[repr(C)]
-#[derive(Drop)]
+#[derive(Clone, Copy)]
 pub struct MoveAnswer {
     pub number: u32,
     pub before: u32,
@@ -103,7 +104,7 @@ pub struct MoveAnswer {
 
 // vk_improve_answer: 0 or the ground's number, whether a move was made, that move, and the three numbers.
 #[repr(C)]
-#[derive(Drop)]
+#[derive(Clone, Copy)]
 pub struct ImproveAnswer {
     pub number: u32,
     pub found: u32,
@@ -176,7 +177,7 @@ pub fn improve_fields(a: Improved) -> ImproveAnswer
 
 // vk_count_answer: 0 or the ground's number, and how many.
 #[repr(C)]
-#[derive(Drop)]
+#[derive(Clone, Copy)]
 pub struct CountAnswer {
     pub number: u32,
     pub count: u32,

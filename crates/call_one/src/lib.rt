@@ -1,4 +1,5 @@
 // Works one encoded call. Paper 01, section Lists of calls; paper 02, requests 2026-03 and 2026-05.
+#![tactic(auto)]
 ghost use Rattle.std.specs.Prelude.{◌≡◌, ◌≤◌, length};
 ghost use Rattle.contracts.specs.Journal.{journaled};
 ghost use Rattle.call_one.specs.Lending.{lends};
@@ -15,7 +16,7 @@ use journal_rules::chosen_of;
 use logic::{Move, lesser, wide};
 
 // Whether a call was worked, and the record that goes into the journal if the record count was raised.
-#[derive(Drop)]
+#[derive(Clone, Copy)]
 pub struct One {
     pub known: bool,
     pub recorded: Move,

@@ -1,4 +1,5 @@
 // Grounds 11 to 13, which every call over a plan's tables tries first. Paper 01, section Grounds for refusal.
+#![tactic(auto)]
 ghost use Rattle.std.specs.Prelude.{◌≡◌, ◌≤◌, length, take};
 ghost use Rattle.logic.specs.Configuration.{all_within};
 ghost use Rattle.table_check.specs.inner.Check.{IndexRoom};
@@ -24,7 +25,7 @@ fn masks_ok(masks: &[u64], count: usize, ports: usize) -> bool
 }
 
 // The ports, sets, nodes and cells of a plan whose tables may be worked, or the first ground of 11 to 13 that applies.
-#[derive(Drop)]
+#[derive(Clone, Copy)]
 pub struct Opened {
     pub number: u8,
     pub ports: usize,

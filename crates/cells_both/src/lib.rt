@@ -1,4 +1,5 @@
 // What a swap brings to a tree without quantifiers beyond the flips of its two ports, where both meet in a tuple.
+#![tactic(auto)]
 ghost use Rattle.std.specs.Prelude.{◌≡◌, ◌+◌, ◌*◌, ◌<◌, ◌≤◌, [], ◌∷◌};
 ghost use Rattle.logic.specs.Configuration.{indicator};
 ghost use Rattle.cells_flip.specs.inner.Flips.{FlipReady, FlipGives};
@@ -167,7 +168,7 @@ fn both_cell(
 }
 
 // The tuples that go on by port x.
-#[cycle(both_from_port_from_ports_from)]
+#[cycle(both)]
 fn port_from(
     table: &[u8],
     firsts: &[u32; 512],
@@ -219,7 +220,7 @@ fn port_from(
 }
 
 // The tuples that go on by any port.
-#[cycle(both_from_port_from_ports_from)]
+#[cycle(both)]
 fn ports_from(
     table: &[u8],
     firsts: &[u32; 512],
@@ -260,7 +261,7 @@ fn ports_from(
 
 // The tuples that go on from one of `level` ports, where `left` of the variables to come count. A variable stands at one port, so that
 // no tuple holds both ports if fewer are left than ports are missing; if as many are left, each must stand at one of the two.
-#[cycle(both_from_port_from_ports_from)]
+#[cycle(both)]
 fn both_from(
     table: &[u8],
     firsts: &[u32; 512],

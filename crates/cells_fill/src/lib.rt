@@ -1,4 +1,5 @@
 // Fills every cell of a plan, by recursion over its records. Paper 01, section Penalty.
+#![tactic(auto)]
 ghost use Rattle.std.specs.Prelude.{◌≤◌, length};
 ghost use Rattle.table_format.specs.Bytes.{record_length};
 ghost use Rattle.cells_fill.specs.inner.Fill.{TreesPlaced, FillsTree, FillPlaced, Fills, FillReady, FillsPlan};
@@ -11,7 +12,7 @@ use table_rules::{child_depth, child_width};
 
 // Fills the cells of a part's first tree, node i, from place `at` on, and says how many they are. A literal is lent its own cells
 // and no others; the children of another node, a shorter part, its own with all that stand behind them.
-#[cycle(fill_children_fill_tree)]
+#[cycle(filling)]
 fn fill_tree(
     part: &[u8],
     i: usize,
@@ -62,7 +63,7 @@ fn fill_tree(
 
 // Fills the cells of a node's children, which stand behind its own, the first `over`, and joins them to these; says where they
 // end. Siblings are taken in a loop, so that only a node below a node takes a further call's room on the stack.
-#[cycle(fill_children_fill_tree)]
+#[cycle(filling)]
 fn fill_children(
     part: &[u8],
     i: usize,

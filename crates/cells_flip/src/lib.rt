@@ -1,5 +1,6 @@
 // The cells of a tree without quantifiers under flips, a row of them or one alone: their new numbers where some literals are hit.
 // Nothing is written to the cells, and nothing counted. Paper 01, section One move.
+#![tactic(auto)]
 ghost use Rattle.std.specs.Prelude.{◌≡◌, ◌≢◌, true, false, ◌-◌, ◌^◌, ◌/◌, ◌%◌, ◌≤◌, ◌<◌, length, get_or};
 ghost use Rattle.logic.specs.Configuration.{in_mask};
 ghost use Rattle.cells_rule.specs.inner.Rule.{rule_penalty};
@@ -79,7 +80,7 @@ fn is_done(add: bool, row: &[u32], count: usize) -> bool
 
 // A node's new numbers at some cells side by side, put into `out`: where the word meets its uses, those that the flips make, else the
 // old ones. Membership in a hit literal is the other way round than in the masks, so that no masks after the change are asked for.
-#[cycle(flip_row_flip_tree_flip_trees)]
+#[cycle(flips)]
 pub fn flip_row(
     table: &[u8],
     firsts: &[u32; 512],
@@ -132,7 +133,7 @@ pub fn flip_row(
 }
 
 // The new numbers of a forest's trees, gone into sums or minima, until none changes them any more.
-#[cycle(flip_row_flip_tree_flip_trees)]
+#[cycle(flips)]
 fn flip_trees(
     table: &[u8],
     firsts: &[u32; 512],
@@ -168,7 +169,7 @@ fn flip_trees(
 }
 
 // One tree's new numbers, gone into sums or minima; one that is not touched is not visited.
-#[cycle(flip_row_flip_tree_flip_trees)]
+#[cycle(flips)]
 fn flip_tree(
     table: &[u8],
     firsts: &[u32; 512],

@@ -1,4 +1,5 @@
 // Runs of equal cells, copies of the first cells, and the port of a variable from cell to cell. Paper 01, section Plan table.
+#![tactic(auto)]
 ghost use Rattle.std.specs.Prelude.{◌≡◌, ◌++◌, ℕ, ◌+◌, ◌%◌, ◌^◌, ◌≤◌, ◌<◌, min, length, take, drop};
 ghost use Rattle.logic.specs.Cells.{tabulate};
 ghost use Rattle.cells_runs.specs.inner.Ports.{block_of, DigitIs, repeated};
@@ -6,7 +7,7 @@ ghost use Rattle.cells_runs.specs.inner.Ports.{block_of, DigitIs, repeated};
 use logic::lesser;
 
 // The port of a variable at a cell, and how many cells are left before it changes.
-#[derive(Drop)]
+#[derive(Clone, Copy)]
 pub struct Digit {
     pub port: u32,
     pub left: usize,

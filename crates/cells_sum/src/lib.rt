@@ -1,4 +1,5 @@
 // A cell's new number from those directly below: sums by differences modulo 2^32, minima afresh. Paper 01, section One move.
+#![tactic(auto)]
 ghost use Rattle.std.specs.Prelude.{◌≡◌, ◌+◌, ◌-◌, ◌%◌, not, ◌==◌};
 ghost use Rattle.logic.specs.Configuration.{indicator};
 ghost use Rattle.cells_sum.specs.inner.Walk.{begun, Joined};
@@ -7,7 +8,7 @@ use logic::{lesser_cell, unless};
 use std::num::{wrapping_add_u32, wrapping_sub_u32};
 
 // A cell's old number, its new one, and how many cells at or below it differ from before.
-#[derive(Drop)]
+#[derive(Clone, Copy)]
 pub struct After {
     pub old: u32,
     pub value: u32,
@@ -15,7 +16,7 @@ pub struct After {
 }
 
 // What the cells directly below have come to so far.
-#[derive(Drop)]
+#[derive(Clone, Copy)]
 pub struct Sum {
     pub value: u32,
     pub changed: u32,

@@ -1,4 +1,5 @@
 // Which cells a change touches: one word for a tuple, so that the test of a node is one `and`. Paper 01, section One move.
+#![tactic(auto)]
 ghost use Rattle.std.specs.Prelude.{◌≡◌, ◌<◌};
 ghost use Rattle.cells_touch.specs.inner.Hits.{meets, level, other_levels, at_port, first_word, rest_word, port_word, variable_bits, size_bit, change_at, change_in, Tells};
 
@@ -6,7 +7,7 @@ use logic::{Move, bit, wide};
 
 // A change: the ports p and q, the sets that change at p, those that change at q, and those that are resized. The words have
 // four bits a set, as the table of uses has.
-#[derive(Drop)]
+#[derive(Clone, Copy)]
 pub struct Changed {
     pub p: usize,
     pub q: usize,

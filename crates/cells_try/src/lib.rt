@@ -1,4 +1,5 @@
 // The walk over the touched cells that only reads. Paper 01, section One move.
+#![tactic(auto)]
 ghost use Rattle.std.specs.Prelude.{true};
 ghost use Rattle.cells_touch.specs.inner.Hits.{change_in};
 ghost use Rattle.cells_walk.specs.inner.Root.{RootReady, RootGives};
@@ -15,7 +16,7 @@ use cells_walk::{
 use std::num::wrapping_add_u32;
 
 // A cell's old number, its new one, and how many cells at or below it differ from before.
-#[cycle(all_ports_after_cell_after_pair_after_ports_after_row_after_row_cells_after_row_tree_after_row_trees_after_tree_after_trees_after)]
+#[cycle(walk)]
 pub fn cell_after(
     table: &[u8],
     firsts: &[u32; 512],
@@ -72,7 +73,7 @@ pub fn cell_after(
 }
 
 // A touched cell among its siblings. A literal's is done here, so that the loop over them makes no call for one.
-#[cycle(all_ports_after_cell_after_pair_after_ports_after_row_after_row_cells_after_row_tree_after_row_trees_after_tree_after_trees_after)]
+#[cycle(walk)]
 fn tree_after(
     table: &[u8],
     firsts: &[u32; 512],
@@ -102,7 +103,7 @@ fn tree_after(
 }
 
 // The trees of a forest at a tuple, gone into a sum or a minimum.
-#[cycle(all_ports_after_cell_after_pair_after_ports_after_row_after_row_cells_after_row_tree_after_row_trees_after_tree_after_trees_after)]
+#[cycle(walk)]
 fn trees_after(
     table: &[u8],
     firsts: &[u32; 512],
@@ -144,7 +145,7 @@ fn trees_after(
 
 // A touched quantifier's cell: it has one child. A sum of which only the ports of the change can be touched takes these; else
 // the child's cells at all ports are one row.
-#[cycle(all_ports_after_cell_after_pair_after_ports_after_row_after_row_cells_after_row_tree_after_row_trees_after_tree_after_trees_after)]
+#[cycle(walk)]
 fn ports_after(
     table: &[u8],
     firsts: &[u32; 512],
@@ -197,7 +198,7 @@ fn ports_after(
 
 // The same from the row of its child. It is called from two places and copies the old row, so that the compiler keeps its rows out of
 // the frame of `cell_after`, of which there is one for each level of the plan.
-#[cycle(all_ports_after_cell_after_pair_after_ports_after_row_after_row_cells_after_row_tree_after_row_trees_after_tree_after_trees_after)]
+#[cycle(walk)]
 fn all_ports_after(
     table: &[u8],
     firsts: &[u32; 512],
@@ -244,7 +245,7 @@ fn all_ports_after(
 }
 
 // A sum with the child's cells at the ports of the change.
-#[cycle(all_ports_after_cell_after_pair_after_ports_after_row_after_row_cells_after_row_tree_after_row_trees_after_tree_after_trees_after)]
+#[cycle(walk)]
 fn pair_after(
     table: &[u8],
     firsts: &[u32; 512],
@@ -307,7 +308,7 @@ fn pair_after(
 }
 
 // A node's cells at every port of the variable above it, put into `out`; how many cells at or below them differ from before.
-#[cycle(all_ports_after_cell_after_pair_after_ports_after_row_after_row_cells_after_row_tree_after_row_trees_after_tree_after_trees_after)]
+#[cycle(walk)]
 fn row_after(
     table: &[u8],
     firsts: &[u32; 512],
@@ -368,7 +369,7 @@ fn row_after(
 }
 
 // The cells of a row visited one by one: at every port, or at those of the change where no other can be touched.
-#[cycle(all_ports_after_cell_after_pair_after_ports_after_row_after_row_cells_after_row_tree_after_row_trees_after_tree_after_trees_after)]
+#[cycle(walk)]
 fn row_cells_after(
     table: &[u8],
     firsts: &[u32; 512],
@@ -417,7 +418,7 @@ fn row_cells_after(
 }
 
 // The rows of a forest's trees, gone into a row of sums or minima.
-#[cycle(all_ports_after_cell_after_pair_after_ports_after_row_after_row_cells_after_row_tree_after_row_trees_after_tree_after_trees_after)]
+#[cycle(walk)]
 fn row_trees_after(
     table: &[u8],
     firsts: &[u32; 512],
@@ -454,7 +455,7 @@ fn row_trees_after(
 }
 
 // One tree's row, gone into a row of sums or minima; one that is not touched is not visited.
-#[cycle(all_ports_after_cell_after_pair_after_ports_after_row_after_row_cells_after_row_tree_after_row_trees_after_tree_after_trees_after)]
+#[cycle(walk)]
 fn row_tree_after(
     table: &[u8],
     firsts: &[u32; 512],

@@ -32,6 +32,7 @@ use Rattle.cells_walk.proofs.Outcomes.{no-trees}
 -- a tree of a forest stands in the forest's region
 first-tree : (u : ℕ) {n : Node} {c s : Forest} {b d j : ℕ} {e : Tuple} → Region u (tree n c none) b d e j → Region u (tree n c s) b d e j
 first-tree u (own h) = own h
+first-tree u {n = n} {c = c} {s = s} {b = b} {d = d} {j = j} {e = e} (later x) = elim x [ ]
 first-tree u (under w r) = under w r
 
 -- what stands directly below a node that binds no variable, and below a quantifier

@@ -1,4 +1,5 @@
 // The walk that writes the touched cells in place. Paper 01, section One move.
+#![tactic(auto)]
 ghost use Rattle.std.specs.Prelude.{◌≡◌, ◌+◌, ◌<◌, true, length, slice_index, slice_set};
 ghost use Rattle.cells_touch.specs.inner.Hits.{change_in};
 ghost use Rattle.cells_walk.specs.inner.Root.{RootReady, RootGives, RootWrites};
@@ -25,7 +26,7 @@ fn put_cell(firsts: &[u32; 512], i: usize, place: usize, value: u32, cells: &mut
 }
 
 // A cell and all that is touched below it, written. Its old number is read first: the sum above takes the new minus the old.
-#[cycle(all_ports_written_cell_written_pair_written_ports_written_row_cells_written_row_tree_written_row_trees_written_row_written_tree_written_trees_written)]
+#[cycle(walk)]
 fn cell_written(
     table: &[u8],
     firsts: &[u32; 512],
@@ -85,7 +86,7 @@ fn cell_written(
 }
 
 // A touched cell among its siblings. A literal's is done here, so that the loop over them makes no call for one.
-#[cycle(all_ports_written_cell_written_pair_written_ports_written_row_cells_written_row_tree_written_row_trees_written_row_written_tree_written_trees_written)]
+#[cycle(walk)]
 fn tree_written(
     table: &[u8],
     firsts: &[u32; 512],
@@ -117,7 +118,7 @@ fn tree_written(
 }
 
 // The trees of a forest at a tuple, written one after the other and gone into a sum or a minimum.
-#[cycle(all_ports_written_cell_written_pair_written_ports_written_row_cells_written_row_tree_written_row_trees_written_row_written_tree_written_trees_written)]
+#[cycle(walk)]
 fn trees_written(
     table: &[u8],
     firsts: &[u32; 512],
@@ -159,7 +160,7 @@ fn trees_written(
 
 // A touched quantifier's cell, written: it has one child. A sum of which only the ports of the change can be touched takes these; else
 // the child's cells at all ports are one row.
-#[cycle(all_ports_written_cell_written_pair_written_ports_written_row_cells_written_row_tree_written_row_trees_written_row_written_tree_written_trees_written)]
+#[cycle(walk)]
 fn ports_written(
     table: &[u8],
     firsts: &[u32; 512],
@@ -213,7 +214,7 @@ fn ports_written(
 
 // The same from the row of its child. It is called from two places, so that the compiler keeps its rows out of the frame of
 // `cell_written`, of which there is one for each level of the plan.
-#[cycle(all_ports_written_cell_written_pair_written_ports_written_row_cells_written_row_tree_written_row_trees_written_row_written_tree_written_trees_written)]
+#[cycle(walk)]
 fn all_ports_written(
     table: &[u8],
     firsts: &[u32; 512],
@@ -263,7 +264,7 @@ fn all_ports_written(
 }
 
 // A sum with the child's cells at the ports of the change, written.
-#[cycle(all_ports_written_cell_written_pair_written_ports_written_row_cells_written_row_tree_written_row_trees_written_row_written_tree_written_trees_written)]
+#[cycle(walk)]
 fn pair_written(
     table: &[u8],
     firsts: &[u32; 512],
@@ -327,7 +328,7 @@ fn pair_written(
 
 // A node's cells at every port of the variable above it, put into `out` and written with all that is touched below them; how
 // many cells at or below them differ from before. `old` has the numbers that the row is about to lose.
-#[cycle(all_ports_written_cell_written_pair_written_ports_written_row_cells_written_row_tree_written_row_trees_written_row_written_tree_written_trees_written)]
+#[cycle(walk)]
 fn row_written(
     table: &[u8],
     firsts: &[u32; 512],
@@ -390,7 +391,7 @@ fn row_written(
 }
 
 // The cells of a row written one by one: at every port, or at those of the change where no other can be touched.
-#[cycle(all_ports_written_cell_written_pair_written_ports_written_row_cells_written_row_tree_written_row_trees_written_row_written_tree_written_trees_written)]
+#[cycle(walk)]
 fn row_cells_written(
     table: &[u8],
     firsts: &[u32; 512],
@@ -439,7 +440,7 @@ fn row_cells_written(
 }
 
 // The rows of a forest's trees, written one after the other and gone into a row of sums or minima.
-#[cycle(all_ports_written_cell_written_pair_written_ports_written_row_cells_written_row_tree_written_row_trees_written_row_written_tree_written_trees_written)]
+#[cycle(walk)]
 fn row_trees_written(
     table: &[u8],
     firsts: &[u32; 512],
@@ -476,7 +477,7 @@ fn row_trees_written(
 }
 
 // One tree's row, written and gone into a row of sums or minima; one that is not touched is not visited.
-#[cycle(all_ports_written_cell_written_pair_written_ports_written_row_cells_written_row_tree_written_row_trees_written_row_written_tree_written_trees_written)]
+#[cycle(walk)]
 fn row_tree_written(
     table: &[u8],
     firsts: &[u32; 512],

@@ -1,13 +1,14 @@
 // What the calls answer. What each of them promises, the book and the lists of calls are the definitions in specs/. Paper 01.
+#![tactic(auto)]
 use logic::Move;
 
-#[derive(Drop)]
+#[derive(Clone, Copy)]
 pub enum Answer {
     Accepted { nodes: u32, cells: u32 },
     Refused(u8),
 }
 
-#[derive(Drop)]
+#[derive(Clone, Copy)]
 pub enum Loaded {
     Accepted { root: u32, cells: u32 },
     Refused(u8),
@@ -15,14 +16,14 @@ pub enum Loaded {
 
 // A node's cells: a part of the caller's cell table by place and length. vk_part: a slice cannot be handed back to C.
 #[repr(C)]
-#[derive(Drop)]
+#[derive(Clone, Copy)]
 pub struct Part {
     pub first: usize,
     pub count: usize,
 }
 
 // A move and a trial answer root before, root after and how many cells differ.
-#[derive(Drop)]
+#[derive(Clone, Copy)]
 pub enum Moved {
     Accepted {
         before: u32,
@@ -33,7 +34,7 @@ pub enum Moved {
 }
 
 // Improve answers the move that it made with the three numbers, or "no better move" with the root.
-#[derive(Drop)]
+#[derive(Clone, Copy)]
 pub enum Improved {
     Made {
         chosen: Move,
@@ -48,7 +49,7 @@ pub enum Improved {
 }
 
 // How many: the best moves, or the bytes of a text.
-#[derive(Drop)]
+#[derive(Clone, Copy)]
 pub enum Counted {
     Accepted(u32),
     Refused(u8),

@@ -184,7 +184,7 @@ holds_of u u1 k table (tree n c s) b d h =
     let z = layout u (λ n c b d e. penalty u k n c e) s (sibling_first u n c b d) d in
     let r = stands-right table b x (y ++ z) h in
     let ly : b + length x ≡ b + u ^ d = ap (λ (j : ℕ). b + j) (length-tabulate (u ^ d) g) in
-    let lz : b + length x + length y ≡ sibling_first u n c b d = ap₂ ◌+◌ ly (length-layout u _ c _ _) in (
+    let lz : b + length x + length y ≡ sibling_first u n c b d = ap₂ ◌+◌ ly (length-layout u (λ n c b d e. penalty u k n c e) c (b + u ^ d) (child_depth n d)) in (
       (λ e te. stands-left table b x (y ++ z) h (place_of u e) (rw length-tabulate (place-lt u u1 te))
           ∙ get_d_tabulate (u ^ d) g (place_of u e) (place-lt u u1 te) ∙ ap (penalty u k n c) (tuple-place u u1 te)),
       holds_of u u1 k table c (b + u ^ d) (child_depth n d) (rw ly at (stands-left table (b + length x) y z r)),

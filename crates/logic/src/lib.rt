@@ -1,5 +1,6 @@
 // The logic of port plans: a move, and small functions on masks, bits and numbers. What a plan means stands in specs/.
 // Paper 01, sections Plan table, Penalty and One move.
+#![tactic(auto)]
 ghost use Rattle.std.specs.Prelude.{◌≡◌, not, ◌≤◌, ◌<◌, ◌^◌, min};
 ghost use Rattle.logic.specs.Configuration.{indicator, ports_in, out_of_test, in_mask, mask_count, within_ports};
 ghost use Rattle.logic.specs.Moves.{no_move};
@@ -8,7 +9,7 @@ ghost use Rattle.logic.specs.inner.Flip.{flip_port};
 // A move as the operator gives it: kind, set S, set T, port p, port q. The fields are wide, so that no value is cut before
 // ground 14 sees it. The same struct at the C boundary, vk_move_record.
 #[repr(C)]
-#[derive(Drop)]
+#[derive(Clone, Copy)]
 pub struct Move {
     pub kind: u32,
     pub s: u32,

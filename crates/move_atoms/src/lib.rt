@@ -1,4 +1,5 @@
 // The tables of what flips bring to the root: all atoms of a formula go into them.
+#![tactic(auto)]
 ghost use Rattle.std.specs.Prelude.{◌≡◌, false, cond, ◌+◌, ◌≤◌, eqb};
 ghost use Rattle.move_tables.specs.inner.Taking.{is_sum, TakeReady, TakesTree, TakeAllReady, TakesAll};
 
@@ -28,7 +29,7 @@ fn depth_below(kind: u8, depth: usize) -> usize
 }
 
 // One tree: an atom, or the atoms below it.
-#[cycle(take_atoms_take_tree)]
+#[cycle(atoms)]
 fn take_tree(
     table: &[u8],
     firsts: &[u32; 512],
@@ -85,7 +86,7 @@ fn take_tree(
 }
 
 // The trees of a forest, which ends at node `until`.
-#[cycle(take_atoms_take_tree)]
+#[cycle(atoms)]
 pub fn take_atoms(
     table: &[u8],
     firsts: &[u32; 512],

@@ -70,7 +70,7 @@ module _ (ports sets : ℕ) (m : Move) (masks : List ℕ) (L : LegalOver ports s
   own-sets = in_masks (take (mask_count sets) masks)
 
   here : (p : ℕ) → in_masks masks m.s p ≡ own-sets m.s p
-  here p = sym (in-own (mask_count sets) masks m.s p (omega (arith, L.Known-over.fields.s-below)))
+  here p = sym (in-own (mask_count sets) masks m.s p (omega (arith, L.known_over.fields.s-below)))
 
   transfer-parts : (a b c : Bool) → (a && b && c) ≡ true → (a ≡ true) × (b ≡ true) × (c ≡ true)
   transfer-parts a b c h = let x = and_left (a && b) c h in (and_left a b x, and_right a b x, and_right (a && b) c h)
@@ -81,14 +81,14 @@ module _ (ports sets : ℕ) (m : Move) (masks : List ℕ) (L : LegalOver ports s
       let f = sym (fits-transfer own-sets m e) ∙ L.fitting in
       let r = transfer-parts (not (eqb m.s m.t)) (own-sets m.s m.p) (not (own-sets m.t m.p)) f in
       sym (transfer-flips masks m.s m.t m.p (eqb-false _ _ (not-true _ r.0)) (here m.p ∙ r.1)
-      (sym (in-own (mask_count sets) masks m.t m.p (omega (arith, t-used ports sets m L.Known-over.fields e))) ∙ not-true _ r.2))
+      (sym (in-own (mask_count sets) masks m.t m.p (omega (arith, t-used ports sets m L.known_over.fields e))) ∙ not-true _ r.2))
       ∙ sym (masks-transfer m masks e)
 
   pub after-swap : m.kind ≡ 4 → flipped (flipped masks m.s m.p) m.s m.q ≡ named_masks m masks
   unfolding in_masks
   after-swap e =
       let f = sym (fits-swap own-sets m e) ∙ L.fitting in
-      let l : m.s < length masks = omega (arith, L.Known-over.fields.s-below, L.Known-over.masks-enough) in
+      let l : m.s < length masks = omega (arith, L.known_over.fields.s-below, L.known_over.masks-enough) in
       sym (swap-flips masks m.s m.p m.q l (here m.p ∙ and_left (own-sets m.s m.p) _ f)
       (here m.q ∙ not-true _ (and_right (own-sets m.s m.p) _ f)))
       ∙ sym (masks-swap m masks e)
@@ -102,8 +102,8 @@ module _ (ports sets : ℕ) (m : Move) (masks : List ℕ) (L : LegalOver ports s
           let f = sym (fits-add own-sets m e) ∙ L.fitting in
           sym (ap (set masks m.s) (enter-flip (get_or masks m.s 0) m.p (here m.p ∙ not-true _ f))) ∙ sym (masks-add m masks e)
       go (no n) =
-          let l = L.Known-over.fields.kind-low in
-          let h = L.Known-over.fields.kind-high in
+          let l = L.known_over.fields.kind-low in
+          let h = L.known_over.fields.kind-high in
           let e : m.kind ≡ 2 = omega (arith, l, h, x, y, n) in
           let f = sym (fits-drop own-sets m e) ∙ L.fitting in
           sym (ap (set masks m.s) (leave-flip (get_or masks m.s 0) m.p (here m.p ∙ f))) ∙ sym (masks-drop m masks e)

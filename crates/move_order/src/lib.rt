@@ -1,5 +1,6 @@
 // All legal moves of some kinds in one order, and the step from one to the next. Paper 01, section One move; the order is paper
 // 02's, request 2026-01.
+#![tactic(auto)]
 ghost use Rattle.std.specs.Prelude.{◌≡◌, ◌/◌, ◌%◌, ◌<◌, eqb, length};
 ghost use Rattle.logic.specs.Moves.{move_kind, kind_weight, kinds_known};
 ghost use Rattle.contracts.specs.MoveOrder.{fields_are};
@@ -10,7 +11,7 @@ use logic::Move;
 use move_legal::{fits_move, has_fields, is_in, q_end, t_end};
 
 // The next candidate, if there is one.
-#[derive(Drop)]
+#[derive(Clone, Copy)]
 pub struct Next {
     pub found: bool,
     pub m: Move,

@@ -1,4 +1,5 @@
 // The best of some moves so far, by the root that each would leave, and one more of them. Paper 02, request 2026-01.
+#![tactic(auto)]
 ghost use Rattle.std.specs.Prelude.{◌≡◌, ◌<◌};
 ghost use Rattle.move_order.specs.inner.Stepping.{outset};
 ghost use Rattle.move_rank.specs.inner.Ranking.{choice_of, ranked_by};
@@ -6,7 +7,7 @@ ghost use Rattle.move_rank.specs.inner.Ranking.{choice_of, ranked_by};
 use logic::{Move, no_move};
 
 // How many are the best so far, the first of them, and the root that each would leave; before any candidate the count is 0.
-#[derive(Drop)]
+#[derive(Clone, Copy)]
 pub struct Choice {
     pub count: u32,
     pub m: Move,

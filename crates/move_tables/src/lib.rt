@@ -1,4 +1,5 @@
 // The tables of what flips bring to the root: the atoms of a formula go into them one after the other.
+#![tactic(auto)]
 ghost use Rattle.std.specs.Prelude.{◌≡◌, true, ◌+◌, ◌*◌, ◌≤◌, ◌<◌, length};
 ghost use Rattle.table_format.specs.Bytes.{record_length, records_of};
 ghost use Rattle.move_tables.specs.inner.Taking.{NoneBinds, Crossed, TakeReady, TakesTree};
@@ -9,7 +10,7 @@ use move_slots::take_slots;
 
 // What the tables do not tell: all moves are walked; how many atoms with quantifiers are listed; and how many others, which test some set by
 // more than one variable.
-#[derive(Drop)]
+#[derive(Clone, Copy)]
 pub struct Left {
     pub walked: bool,
     pub hards: usize,

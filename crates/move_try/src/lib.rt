@@ -1,4 +1,5 @@
 // Tries a legal move over open tables: its three numbers, by the masks that it would leave. Paper 01, section One move.
+#![tactic(auto)]
 ghost use Rattle.move_try.specs.inner.Trying.{TryReady, GivesNumbers};
 
 use cells_sum::After;

@@ -1,5 +1,6 @@
 // planroot: reads u, masks and a text from standard input and prints the root's penalty and the cell total, or the number of a
 // refusal. Paper 01, section Known plans.
+#![tactic(auto)]
 ghost use Rattle.planroot_input.specs.inner.Scans.{InputRoom};
 ghost use Rattle.planroot_line.specs.inner.Contract.{SomeInput};
 ghost use Rattle.planroot.specs.inner.Known.{KnownInput};
@@ -8,7 +9,7 @@ use planroot_input::{Scan, decided, start, step};
 use planroot_line::answer;
 
 // Standard input as far as it is passed: to its end, or as far as bytes can change the line; or a read failed.
-#[derive(Drop)]
+#[derive(Clone, Copy)]
 enum Input {
     Whole(Scan),
     Enough(Scan),

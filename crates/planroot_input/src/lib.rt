@@ -1,10 +1,11 @@
 // The input of planroot, passed piece by piece. Paper 01, section Known plans.
+#![tactic(auto)]
 ghost use Rattle.std.specs.Prelude.{◌≡◌, false, ◌&&◌, [], ◌∷◌, ◌+◌, ◌-◌, ◌≤◌, min, length};
 ghost use Rattle.planroot_input.specs.inner.Words.{AddsByte, JudgesWord};
 ghost use Rattle.planroot_input.specs.inner.Scans.{InputRoom, Starts, placed, EndsWord, WithWord, NextPhase, PassesFirst, PassesSecond, PassesText, PassesPiece, DecidesLine, Closes};
 
 // A word so far: nothing (0), the digit run 0 (1), another number (2), or no beginning of a digit run (3); and its number.
-#[derive(Drop)]
+#[derive(Clone, Copy)]
 pub struct Word {
     pub run: u8,
     pub number: u64,
@@ -66,7 +67,7 @@ pub fn is_run(w: Word) -> bool
 
 // How far the input is passed: in line 1 (phase 0), in line 2 (1) or in the text (2); whether the words that ended are digit
 // runs; the word that has not ended; u; how many masks and bytes of the text are gathered.
-#[derive(Drop)]
+#[derive(Clone, Copy)]
 pub struct Scan {
     pub phase: u8,
     pub ok: bool,

@@ -1,4 +1,5 @@
 // The line that planroot prints, as bytes. Paper 01, section Known plans.
+#![tactic(auto)]
 ghost use Rattle.std.specs.Prelude.{◌≤◌, length};
 ghost use Rattle.text_put.specs.inner.Puts.{Puts};
 ghost use Rattle.planroot_print.specs.Line.{penalty_bytes, refusal_bytes, line_room, Shows};
@@ -6,7 +7,7 @@ ghost use Rattle.planroot_print.specs.Line.{penalty_bytes, refusal_bytes, line_r
 use text_put::{put_byte, put_bytes, put_digits};
 
 // "`penalty P cells C` (root, cell total) or `refused N`".
-#[derive(Drop)]
+#[derive(Clone, Copy)]
 pub enum Line {
     Penalty { root: u32, cells: u32 },
     Refusal(u8),

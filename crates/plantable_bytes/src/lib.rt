@@ -1,4 +1,5 @@
 // What plantable writes for an input. Paper 02, request 2026-02.
+#![tactic(auto)]
 ghost use Rattle.contracts.specs.Read.{reads};
 ghost use Rattle.program_bytes.specs.Outcome.{Gives};
 ghost use Rattle.plantable_bytes.specs.Table.{read_table, input_table};
@@ -11,7 +12,7 @@ use program_bytes::Given;
 use table_format::{sets_of, table_bytes};
 
 // Line 1 of an input: whether it is a digit run that ends in a line end, its number, and where the text begins.
-#[derive(Drop)]
+#[derive(Clone, Copy)]
 struct FirstLine {
     ok: bool,
     ports: u64,

@@ -1,4 +1,5 @@
 // Standard input and output of plantable and plantext. Paper 02, request 2026-02.
+#![tactic(auto)]
 ghost use Rattle.std.specs.Prelude.{◌≤◌, length};
 ghost use Rattle.program_bytes.specs.Outcome.{named_bytes};
 ghost use Rattle.program_io.specs.inner.Known.{most_kept, KnownInput};
@@ -8,7 +9,7 @@ use program_bytes::Given;
 use text_put::put_bytes;
 
 // How many bytes of standard input are kept; or a read failed.
-#[derive(Drop)]
+#[derive(Clone, Copy)]
 pub enum Input {
     Kept(usize),
     Failed,

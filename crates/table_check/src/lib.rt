@@ -1,5 +1,6 @@
 // Ground 11: the check of a whole plan table, which fills the index of its nodes (first cell, end, sets used at or below).
 // Paper 01, section Plan table.
+#![tactic(auto)]
 ghost use Rattle.std.specs.Prelude.{◌≡◌, false, ◌+◌, ◌≤◌, ◌<◌, length, set};
 ghost use Rattle.table_check.specs.inner.Check.{PlanJudged, IndexRoom, Placed, Judged, EndJudged, TreeJudged};
 ghost use Rattle.table_format.specs.inner.Tests.{kind_depth, kind_width};
@@ -11,7 +12,7 @@ use table_rules::{arity_ok, child_depth, child_width, front_ok, record_ok, uses_
 const MOST_CELLS: usize = 1048576;
 
 // What the check of some records finds: how many trees they are, their cells, and which sets they use.
-#[derive(Drop)]
+#[derive(Clone, Copy)]
 pub struct Checked {
     pub ok: bool,
     pub trees: usize,
@@ -20,7 +21,7 @@ pub struct Checked {
 }
 
 // What the check of one tree finds: the node behind it, its cells, and which sets it uses.
-#[derive(Drop)]
+#[derive(Clone, Copy)]
 pub struct CheckedTree {
     pub ok: bool,
     pub end: usize,
@@ -92,7 +93,7 @@ fn tree_end(part: &[u8], i: usize, parent: usize, depth: usize, above: u8, sets:
 }
 
 // Checks a part's first tree, node i and its children, and fills the index tables with what it finds.
-#[cycle(check_children_check_forest_check_tree)]
+#[cycle(check)]
 fn check_tree(
     part: &[u8],
     i: usize,
@@ -136,7 +137,7 @@ fn check_tree(
 }
 
 // Checks the children of node i, a node of some kind. Most nodes have none: that is answered here, since a call costs more.
-#[cycle(check_children_check_forest_check_tree)]
+#[cycle(check)]
 fn check_children(
     part: &[u8],
     i: usize,
@@ -182,7 +183,7 @@ fn check_children(
 // Checks the records of some trees, the first of them node i, and fills the index tables with what it finds. Each record is
 // visited once: the children are the part up to the record's end, the later siblings the part behind it. Siblings are taken in
 // a loop, since a call for each costs more than their check.
-#[cycle(check_children_check_forest_check_tree)]
+#[cycle(check)]
 fn check_forest(
     part: &[u8],
     i: usize,
@@ -238,7 +239,7 @@ fn check_forest(
 }
 
 // What the check of a whole table finds.
-#[derive(Drop)]
+#[derive(Clone, Copy)]
 pub struct Info {
     pub ok: bool,
     pub ports: usize,

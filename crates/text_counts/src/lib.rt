@@ -1,4 +1,5 @@
 // How many nodes and cells the core of a text has, without making it: grounds 8 and 9 of paper 01.
+#![tactic(auto)]
 ghost use Rattle.std.specs.Prelude.{◌≡◌, true, false, ◌+◌, ◌≤◌, min};
 ghost use Rattle.text_tree.specs.inner.Stored.{JoinAt};
 ghost use Rattle.text_counts.specs.inner.Counts.{total_at, HeldBoth, Scale, PairHeld, JoinHeld, BothJoined, Scaled, Quantified, HasTotals, CountsNodes, CountsCells};
@@ -7,7 +8,7 @@ use text_tree::{flip, is_literal, joins_at, operator_at, payload_at, place};
 
 // The cells of a part for each cell of its depth (with one port: its nodes), up to a limit, by what stands above it: the
 // root or a quantifier, an "and", an "or".
-#[derive(Drop)]
+#[derive(Clone, Copy)]
 pub struct Total {
     pub alone: u32,
     pub and: u32,
@@ -15,7 +16,7 @@ pub struct Total {
 }
 
 // The totals of a part and of its negation. Both are kept, so that each record is visited once.
-#[derive(Drop)]
+#[derive(Clone, Copy)]
 pub struct Totals {
     pub plus: Total,
     pub minus: Total,
@@ -161,7 +162,7 @@ fn negated(b: Totals) -> Totals
 
 // The totals of the tree whose records end at e. Each record is visited once. The joins at its end, each the right part of the one
 // behind it, are met in a loop.
-#[cycle(last_totals_part_totals)]
+#[cycle(totals)]
 fn part_totals(t: &[u16], e: usize, u: u32, limit: u32) -> Totals
     requires { Scale u limit }
     ensures { HasTotals t.now e u limit result }
@@ -178,7 +179,7 @@ fn part_totals(t: &[u16], e: usize, u: u32, limit: u32) -> Totals
 }
 
 // The totals of a tree that is no join.
-#[cycle(last_totals_part_totals)]
+#[cycle(totals)]
 fn last_totals(t: &[u16], e: usize, u: u32, limit: u32) -> Totals
     requires { Scale u limit × (JoinAt t.now e → ⊥) }
     ensures { HasTotals t.now e u limit result }

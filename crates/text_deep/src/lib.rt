@@ -1,5 +1,6 @@
 // A unit that more than 64 of `(`, `~` and quantifiers stand around, read by a loop and not by calls, and not stored: its text is
 // refused, by ground 3 or 4, so that only the unit's end is asked. Paper 01, section Plan text; grounds 3 and 4.
+#![tactic(auto)]
 ghost use Rattle.std.specs.Prelude.{◌≡◌, true, false, ◌||◌, ◌+◌, ◌≤◌, ◌<◌, ltb};
 ghost use Rattle.text_grammar.specs.Grammar.{unit};
 ghost use Rattle.text_grammar.specs.inner.Contract.{ReaderRoom, Reads};
@@ -15,7 +16,7 @@ use text_tree::or;
 
 // How far the unit is read: whether nothing was refused, whether a unit is due (else one has ended), the position, and how many
 // brackets are open. Each open bracket has a mark in the table, behind the numbers that stand there: 1 when its arrow was met.
-#[derive(Drop)]
+#[derive(Clone, Copy)]
 struct Passing {
     ok: bool,
     due: bool,

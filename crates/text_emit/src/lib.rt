@@ -1,4 +1,5 @@
 // Writes the plan table of a text's core formula, from the tree's records. Paper 01, sections Plan table and Plan text.
+#![tactic(auto)]
 ghost use Rattle.std.specs.Prelude.{◌≡◌, true, ◌%◌, ◌≤◌, length};
 ghost use Rattle.logic.specs.Formula.{kind_number};
 ghost use Rattle.text_core.specs.Core.{joint_node};
@@ -16,7 +17,7 @@ const PORT: u16 = 16;
 const SIZE: u16 = 24;
 
 // The letters bound around a place, at most three.
-#[derive(Drop)]
+#[derive(Clone, Copy)]
 pub struct Bound {
     pub count: usize,
     pub outer: u16,
@@ -25,7 +26,7 @@ pub struct Bound {
 }
 
 // The node above: its kind and its number.
-#[derive(Drop)]
+#[derive(Clone, Copy)]
 pub struct Up {
     pub kind: u8,
     pub number: u16,
@@ -256,7 +257,7 @@ fn right_at(operator: u16, p: bool) -> bool
 
 // Writes the records of the core of the tree whose records end at e, or of its negation where p is false, below the node
 // `up`, from node i on; says the next number. It is called where the core has few nodes: it visits what it writes.
-#[cycle(emit_joined_operands)]
+#[cycle(emission)]
 fn emit(
     t: &[u16],
     e: usize,
@@ -306,7 +307,7 @@ fn emit(
 
 // The same for the two trees whose records end at m and e, joined by an operator. "No "and" is a child of "and"": the joint
 // has no record inside its like.
-#[cycle(emit_joined_operands)]
+#[cycle(emission)]
 fn joined(
     t: &[u16],
     m: usize,
@@ -355,7 +356,7 @@ fn goes_on(t: &[u16], e: usize, p: bool, kind: u8) -> bool
 
 // What the joint holds: its parts, or for `<->` the joints of `->` and `<-`. A right part that goes on with the joint is taken in
 // the loop, so that a row of siblings costs no stack.
-#[cycle(emit_joined_operands)]
+#[cycle(emission)]
 fn operands(
     t: &[u16],
     m: usize,

@@ -2,6 +2,7 @@
 // of `(`, `~` and quantifiers around it is read by crate text_deep, without calls, so that the cycle is no deeper than that; parts
 // that `&` or `|` joins are read in a loop.
 // Paper 01, section Plan text; ground 4.
+#![tactic(auto)]
 ghost use Rattle.std.specs.Prelude.{◌-◌, ◌≤◌, length};
 ghost use Rattle.text_grammar.specs.Grammar.{unit, conjunction, disjunction, formula};
 ghost use Rattle.text_grammar.specs.inner.Contract.{ReaderRoom, Reads, Prefixed};
@@ -26,7 +27,7 @@ const ARROW: u16 = 3;
 const QUANTIFIER: u8 = 2;
 
 // "A formula is one disjunction, or two with an arrow between."
-#[cycle(conjunction_disjunction_formula_prefixed_unit)]
+#[cycle(reading)]
 pub fn formula(text: &[u8], at: usize, out: &mut [u16], n: usize, d: usize) -> Reading
     requires { ReaderRoom text.now out.old at n d }
     ensures { Reads formula text.now out.old out.new at n d result }
@@ -53,7 +54,7 @@ pub fn formula(text: &[u8], at: usize, out: &mut [u16], n: usize, d: usize) -> R
 }
 
 // "A disjunction joins conjunctions by `|`": a link to the link before stands behind each but the last, the joins behind the last.
-#[cycle(conjunction_disjunction_formula_prefixed_unit)]
+#[cycle(reading)]
 fn disjunction(text: &[u8], at: usize, out: &mut [u16], n: usize, d: usize) -> Reading
     requires { ReaderRoom text.now out.old at n d }
     ensures { Reads disjunction text.now out.old out.new at n d result }
@@ -84,7 +85,7 @@ fn disjunction(text: &[u8], at: usize, out: &mut [u16], n: usize, d: usize) -> R
 }
 
 // "a conjunction joins units by `&`", likewise.
-#[cycle(conjunction_disjunction_formula_prefixed_unit)]
+#[cycle(reading)]
 fn conjunction(text: &[u8], at: usize, out: &mut [u16], n: usize, d: usize) -> Reading
     requires { ReaderRoom text.now out.old at n d }
     ensures { Reads conjunction text.now out.old out.new at n d result }
@@ -115,7 +116,7 @@ fn conjunction(text: &[u8], at: usize, out: &mut [u16], n: usize, d: usize) -> R
 }
 
 // "A unit is `~` unit, `@v` unit (for all), `?v` unit (exists), a bracketed formula, or a literal"
-#[cycle(conjunction_disjunction_formula_prefixed_unit)]
+#[cycle(reading)]
 fn unit(text: &[u8], at: usize, out: &mut [u16], n: usize, d: usize) -> Reading
     requires { ReaderRoom text.now out.old at n d }
     ensures { Reads unit text.now out.old out.new at n d result }
@@ -160,7 +161,7 @@ fn unit(text: &[u8], at: usize, out: &mut [u16], n: usize, d: usize) -> Reading
 }
 
 // `~` or a quantifier before the unit at `at`: its record's payload and operator follow the unit's.
-#[cycle(conjunction_disjunction_formula_prefixed_unit)]
+#[cycle(reading)]
 fn prefixed(
     text: &[u8],
     at: usize,

@@ -1,9 +1,10 @@
 // The grammar of a plan's text, the parser as a definition, and that each reads what the other derives. What the readers tell
 // is declared here. Paper 01, section Plan text.
+#![tactic(auto)]
 
 // What a reader tells: whether it read, whether more than 64 stand around a token (ground 4), the position after what it
 // read, and how many numbers stand in the table.
-#[derive(Drop)]
+#[derive(Clone, Copy)]
 pub struct Reading {
     pub ok: bool,
     pub deep: bool,
@@ -12,7 +13,7 @@ pub struct Reading {
 }
 
 // The set letters of a declaration: how many stand in the lent table, and the position after them.
-#[derive(Drop)]
+#[derive(Clone, Copy)]
 pub struct Letters {
     pub count: usize,
     pub next: usize,
@@ -20,7 +21,7 @@ pub struct Letters {
 
 // A text that is read: whether it is in the grammar (else ground 3), whether it is nested too deep (ground 4), how many set
 // letters and how many numbers of the tree stand in the lent tables.
-#[derive(Drop)]
+#[derive(Clone, Copy)]
 pub struct Syntax {
     pub ok: bool,
     pub deep: bool,

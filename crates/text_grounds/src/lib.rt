@@ -1,4 +1,5 @@
 // Grounds 5 to 9 in their order. Paper 01, section Grounds for refusal.
+#![tactic(auto)]
 ghost use Rattle.std.specs.Prelude.{◌≡◌, ◌≤◌};
 ghost use Rattle.text_grounds.specs.inner.Answered.{Answers};
 
@@ -6,7 +7,7 @@ use text_counts::{cell_count, node_count};
 use text_names::{formula_faults, misdeclared};
 
 // The answer of grounds 5 to 9: the first that applies, else 0 with the core's node count and cell total.
-#[derive(Drop)]
+#[derive(Clone, Copy)]
 pub struct CoreAnswer {
     pub refused: u8,
     pub nodes: u32,

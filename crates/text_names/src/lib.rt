@@ -1,4 +1,5 @@
 // Names, constants and quantifiers of a text's tree: grounds 5 to 7 of paper 01.
+#![tactic(auto)]
 ghost use Rattle.std.specs.Prelude.{◌≡◌, not, ◌||◌, ◌+◌, ◌≤◌, ◌<◌, leb, length, get_or};
 ghost use Rattle.text_core.specs.Names.{among, set_number, declared_twice};
 ghost use Rattle.text_tree.specs.inner.Stored.{JoinAt};
@@ -8,7 +9,7 @@ use logic::{flip_port, has_port};
 use text_tree::{is_literal, joins_at, operator_at, payload_at, place};
 
 // Which of grounds 5 (of the formula), 6 and 7 apply.
-#[derive(Drop)]
+#[derive(Clone, Copy)]
 pub struct Faults {
     pub names: bool,
     pub constants: bool,
@@ -168,7 +169,7 @@ fn no_faults() -> Faults {
 
 // The faults of the tree whose records end at e, inside the bound letters and d quantifiers. The joins at its end, each the right
 // part of the one behind it, are met in a loop.
-#[cycle(find_faults_last_faults)]
+#[cycle(faults)]
 fn find_faults(t: &[u16], e: usize, sets: &[u8], bound: u64, d: u32) -> Faults
     ensures { Finds t.now e sets.now bound d result }
 {
@@ -183,7 +184,7 @@ fn find_faults(t: &[u16], e: usize, sets: &[u8], bound: u64, d: u32) -> Faults
 }
 
 // The faults of a tree that is no join.
-#[cycle(find_faults_last_faults)]
+#[cycle(faults)]
 fn last_faults(t: &[u16], e: usize, sets: &[u8], bound: u64, d: u32) -> Faults
     requires { JoinAt t.now e → ⊥ }
     ensures { Finds t.now e sets.now bound d result }

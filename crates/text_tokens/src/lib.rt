@@ -1,4 +1,5 @@
 // The tokens of a plan's text, and the reading position. Paper 01, section Plan text; ground 2.
+#![tactic(auto)]
 ghost use Rattle.std.specs.Prelude.{◌≡◌, true, ◌+◌, ◌-◌, ◌*◌, ◌≤◌, ◌<◌, min, length, get_or};
 ghost use Rattle.text_tokens.specs.Tokens.{between, is_digit, after_blanks, single_kind, one_or_two, sign_of, run_at, run_token, here_at, token_at, among, known_byte, known_bytes};
 
@@ -57,7 +58,7 @@ pub const NUMBER: u8 = 24;
 pub const BAD: u8 = 25;
 
 // A token: its kind, its value (a letter's byte, a number up to 64, 65 for any above), and the position after it.
-#[derive(Drop)]
+#[derive(Clone, Copy)]
 pub struct Token {
     pub kind: u8,
     pub value: u8,
@@ -65,14 +66,14 @@ pub struct Token {
 }
 
 // A sign of one to three bytes: its kind and its length.
-#[derive(Drop)]
+#[derive(Clone, Copy)]
 pub struct Sign {
     pub kind: u8,
     pub len: usize,
 }
 
 // A digit run: its number, cut at 65, and the position after it.
-#[derive(Drop)]
+#[derive(Clone, Copy)]
 pub struct Run {
     pub value: u8,
     pub end: usize,
@@ -275,7 +276,7 @@ fn token_from(text: &[u8], at: usize) -> Token
 }
 
 // The reading position, which moves over the text.
-#[derive(Drop)]
+#[derive(Clone, Copy)]
 pub struct Position {
     pub at: usize,
 }

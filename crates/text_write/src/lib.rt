@@ -1,4 +1,5 @@
 // Forms the text of a plan in a lent table, by recursion over the plan's records. Paper 02, request 2026-02.
+#![tactic(auto)]
 ghost use Rattle.std.specs.Prelude.{◌≡◌, ◌||◌, ◌≤◌};
 ghost use Rattle.text_tree.specs.Tree.{letters_of};
 ghost use Rattle.text_form.specs.Form.{set_byte, sets_from};
@@ -11,7 +12,7 @@ use text_node::{needs_brackets, nest_below, put_if, put_join, put_own};
 use text_put::{put_byte, put_bytes};
 
 // Where a text ends, and whether more than 64 of `(` and quantifiers stand around one of its tokens.
-#[derive(Drop)]
+#[derive(Clone, Copy)]
 pub struct Extent {
     pub end: usize,
     pub deep: bool,

@@ -2,6 +2,7 @@
 // for C. None has a `requires`, so no caller can break one; each contract gives every field by the answer definitions of the
 // call that it hands on to, and every table that it may write. The calls themselves see of a journal its length, its record count and
 // its newest record; the records are read and written here.
+#![tactic(auto)]
 ghost use Rattle.std.specs.Prelude.{true, false, length};
 ghost use Rattle.table_format.specs.Decode.{decode};
 ghost use Rattle.contracts.specs.Read.{reads};

@@ -1,0 +1,13 @@
+use borrow.Author.Tests.{lt-ltb, le-ltb}
+use Rattle.call_node.specs.inner.Bounds.{bound_at}
+use Rattle.call_node.proofs.bound_of.Goals as goal
+
+pub returns-then-i-nodes : goal.returns-then-i-nodes
+unfolding bound_at
+returns-then-i-nodes c =
+    rw (lt-ltb _ _ c.if-i-nodes.true) c.wide.ensures.0
+
+pub returns : goal.returns
+unfolding bound_at
+returns c =
+    rw (le-ltb _ _ c.if-i-nodes.false)

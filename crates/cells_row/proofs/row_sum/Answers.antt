@@ -1,0 +1,19 @@
+use Rattle.std.proofs.Common.{◌≡◌, ◌-◌, true, ap, ◌∙◌, arith}
+use Rattle.logic.specs.Change.{modulus}
+use Rattle.cells_sum.specs.inner.Walk.{taken}
+use Rattle.cells_row.specs.inner.Row.{renewal_at, row_gathered}
+use Rattle.cells_row.proofs.Steps.{gathered_none, gathered-more}
+use Rattle.cells_row.proofs.row_sum.Goals as goal
+
+pub loop-x-init : goal.loop-x-init
+loop-x-init c =
+    (omega arith, gathered_none true _ _ _)
+
+pub loop-x-preserved : goal.loop-x-preserved
+unfolding taken renewal_at modulus
+loop-x-preserved c =
+    (omega arith, gathered-more true _ _ _ _ _ _ c.loop-x.invariant.1 c.with_difference-sum.ensures)
+
+pub returns : goal.returns
+returns c =
+    let e : c.loop-x.x ≡ c.args.ports = omega arith in c.loop-x.invariant.1 ∙ ap (row_gathered true c.args.acc c.args.new.now c.args.old.now) e

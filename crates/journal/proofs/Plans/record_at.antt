@@ -1,3 +1,0 @@
--- What callers' plans cite of record_at.
-pub mod Kinds
-pub mod Reads

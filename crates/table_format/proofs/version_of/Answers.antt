@@ -1,0 +1,13 @@
+use native.Mathlib.Omega.{arith}
+use Rattle.table_format.specs.Bytes.{header_length, version_field}
+use Rattle.table_format.proofs.version_of.Goals as goal
+
+pub word_at-requires : goal.word_at-requires
+unfolding header_length
+word_at-requires c =
+    omega arith
+
+pub returns : goal.returns
+unfolding version_field
+returns c =
+    record { is = c.word_at.ensures.is; fits = c.word_at.ensures.fits; bytes = c.word_at.ensures.bytes }

@@ -1,0 +1,6 @@
+use Rattle.text_counts.proofs.Counting.{both-joined}
+use Rattle.text_counts.proofs.joined.Goals as goal
+
+pub returns : goal.returns
+returns c =
+    both-joined _ _ _ _ _ c.join_total-p.ensures c.join_total-n.ensures

@@ -1,0 +1,6 @@
+use Rattle.text_counts.proofs.Counting.{quantified}
+use Rattle.text_counts.proofs.quantified.Goals as goal
+
+pub returns : goal.returns
+returns c =
+    quantified _ _ _ _ _ c.scaled-x.ensures c.scaled-y.ensures

@@ -1,0 +1,10 @@
+use Rattle.text_emit.proofs.Joints.{right-turned, right_kept}
+use Rattle.text_emit.proofs.right_at.Goals as goal
+
+pub returns-then-operator-eq8 : goal.returns-then-operator-eq8
+returns-then-operator-eq8 c =
+    right-turned _ _ _ c.if-operator-eq8.true c.flip.ensures
+
+pub returns : goal.returns
+returns c =
+    right_kept _ _ c.if-operator-eq8.false
