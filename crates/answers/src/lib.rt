@@ -1,5 +1,6 @@
 // What the calls answer, as C structs: the structs, and the conversions by the paper's numbers and values.
 #![tactic(auto)]
+
 ghost use Rattle.std.specs.Prelude.{◌≡◌};
 ghost use Rattle.contracts.specs.declared.Moved.TheVariants.{Accepted};
 ghost use Rattle.contracts.specs.declared.Improved.TheVariants.{Made};

@@ -1,5 +1,6 @@
 // The call that lists the best moves. Paper 02, request 2026-01.
 #![tactic(auto)]
+
 ghost use Rattle.std.specs.Prelude.{length};
 ghost use Rattle.table_format.specs.Decode.{decode};
 ghost use Rattle.contracts.specs.State.{tables};

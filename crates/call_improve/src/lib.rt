@@ -1,6 +1,7 @@
 // The call improve: the first of the best legal moves of some kinds, made if it leaves a smaller root than now. Paper 01, section One
 // move; paper 02, requests 2026-01 and 2026-03.
 #![tactic(auto)]
+
 ghost use Rattle.std.specs.Prelude.{◌≡◌, length};
 ghost use Rattle.table_format.specs.Decode.{decode};
 ghost use Rattle.contracts.specs.State.{tables};

@@ -1,4 +1,3 @@
 -- Laws.
 pub mod Extending
 pub mod Scratch
-pub mod Plans

@@ -1,5 +1,6 @@
 // Works a list of encoded calls. Paper 01, section Lists of calls; paper 02, request 2026-03.
 #![tactic(auto)]
+
 ghost use Rattle.std.specs.Prelude.{◌*◌, ◌≤◌, length};
 ghost use Rattle.contracts.specs.Journal.{journaled};
 ghost use Rattle.call_one.specs.Lending.{lends};

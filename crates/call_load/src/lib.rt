@@ -1,5 +1,6 @@
 // The call load: checks the tables and fills every cell. Paper 01, section Penalty.
 #![tactic(auto)]
+
 ghost use Rattle.contracts.specs.State.{tables};
 ghost use Rattle.contracts.specs.Load.{loads, LoadPromise};
 ghost use Rattle.table_format.specs.Decode.{decode};

@@ -1,5 +1,6 @@
 // The call for one node's cells. Paper 01, section One move.
 #![tactic(auto)]
+
 ghost use Rattle.std.specs.Prelude.{◌≡◌, ◌≤◌};
 ghost use Rattle.call_node.specs.inner.Bounds.{bound_at};
 ghost use Rattle.contracts.specs.NodeCells.{node_cells, PartGives};

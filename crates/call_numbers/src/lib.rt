@@ -1,5 +1,6 @@
 // The calls of a list and their answers as numbers of 32 bits. Paper 01, section Lists of calls.
 #![tactic(auto)]
+
 ghost use Rattle.std.specs.Prelude.{◌≡◌, ◌||◌, ◌++◌, ◌≤◌, eqb, length, drop};
 ghost use Rattle.contracts.specs.MoveCall.{move_values};
 ghost use Rattle.contracts.specs.ImproveCall.{improve_values};

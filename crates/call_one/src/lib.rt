@@ -1,5 +1,6 @@
 // Works one encoded call. Paper 01, section Lists of calls; paper 02, requests 2026-03 and 2026-05.
 #![tactic(auto)]
+
 ghost use Rattle.std.specs.Prelude.{◌≡◌, ◌≤◌, length};
 ghost use Rattle.contracts.specs.Journal.{journaled};
 ghost use Rattle.call_one.specs.Lending.{lends};

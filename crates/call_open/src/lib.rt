@@ -1,5 +1,6 @@
 // Grounds 11 to 13, which every call over a plan's tables tries first. Paper 01, section Grounds for refusal.
 #![tactic(auto)]
+
 ghost use Rattle.std.specs.Prelude.{◌≡◌, ◌≤◌, length, take};
 ghost use Rattle.logic.specs.Configuration.{all_within};
 ghost use Rattle.table_check.specs.inner.Check.{IndexRoom};

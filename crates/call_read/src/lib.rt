@@ -1,5 +1,6 @@
 // The call read: a plan's text to its plan table. Paper 01, sections Plan text and Grounds for refusal.
 #![tactic(auto)]
+
 ghost use Rattle.contracts.specs.Read.{reads, ReadPromise};
 ghost use Rattle.call_read.specs.inner.Contract.{SomeText, Finishes};
 

@@ -1,5 +1,6 @@
 // The calls that put a port in test and take it out. Paper 02, request 2026-05.
 #![tactic(auto)]
+
 ghost use Rattle.table_format.specs.Decode.{decode};
 ghost use Rattle.contracts.specs.State.{tables};
 ghost use Rattle.contracts.specs.MoveCall.{MadeAs};

@@ -1,5 +1,6 @@
 // The call undo. Paper 02, request 2026-03.
 #![tactic(auto)]
+
 ghost use Rattle.table_format.specs.Decode.{decode};
 ghost use Rattle.contracts.specs.State.{tables};
 ghost use Rattle.contracts.specs.Journal.{count_taken};

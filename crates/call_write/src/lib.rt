@@ -1,5 +1,6 @@
 // The call write: a plan's table to its text. Paper 02, request 2026-02.
 #![tactic(auto)]
+
 ghost use Rattle.std.specs.Prelude.{◌≡◌, cond, ◌||◌, ltb};
 ghost use Rattle.table_format.specs.Decode.{decode};
 ghost use Rattle.contracts.specs.WriteCall.{writes, WritePromise};

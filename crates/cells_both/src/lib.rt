@@ -1,5 +1,6 @@
 // What a swap brings to a tree without quantifiers beyond the flips of its two ports, where both meet in a tuple.
 #![tactic(auto)]
+
 ghost use Rattle.std.specs.Prelude.{◌≡◌, ◌+◌, ◌*◌, ◌<◌, ◌≤◌, [], ◌∷◌};
 ghost use Rattle.logic.specs.Configuration.{indicator};
 ghost use Rattle.cells_flip.specs.inner.Flips.{FlipReady, FlipGives};

@@ -1,5 +1,6 @@
 // The cells of a port comparison, kind 7. Paper 01, sections Plan table and Penalty.
 #![tactic(auto)]
+
 ghost use Rattle.std.specs.Prelude.{◌≡◌, false, ◌++◌, drop};
 ghost use Rattle.logic.specs.Cells.{tabulate};
 ghost use Rattle.cells_rule.specs.inner.Rule.{rule_penalty};

@@ -1,5 +1,6 @@
 // Fills every cell of a plan, by recursion over its records. Paper 01, section Penalty.
 #![tactic(auto)]
+
 ghost use Rattle.std.specs.Prelude.{◌≤◌, length};
 ghost use Rattle.table_format.specs.Bytes.{record_length};
 ghost use Rattle.cells_fill.specs.inner.Fill.{TreesPlaced, FillsTree, FillPlaced, Fills, FillReady, FillsPlan};

@@ -1,6 +1,7 @@
 // The cells of a tree without quantifiers under flips, a row of them or one alone: their new numbers where some literals are hit.
 // Nothing is written to the cells, and nothing counted. Paper 01, section One move.
 #![tactic(auto)]
+
 ghost use Rattle.std.specs.Prelude.{◌≡◌, ◌≢◌, true, false, ◌-◌, ◌^◌, ◌/◌, ◌%◌, ◌≤◌, ◌<◌, length, get_or};
 ghost use Rattle.logic.specs.Configuration.{in_mask};
 ghost use Rattle.cells_rule.specs.inner.Rule.{rule_penalty};

@@ -1,5 +1,6 @@
 // Cells of a child joined to the cells of the node above it: sums and minima. Paper 01, section Penalty.
 #![tactic(auto)]
+
 ghost use Rattle.std.specs.Prelude.{◌≡◌, ℕ, ◌+◌, ◌*◌, ◌<◌, ◌≤◌, min, true, false, [], ◌∷◌, length, take, drop};
 ghost use Rattle.cells_join.specs.inner.Joined.{meet, unit_of, LowTwo, join_into, merged, settled, join_of, spread_of, begin_join, join_with, Low, HeldPlaced, HeldLow, ChildPlaced, Joins};
 

@@ -1,5 +1,6 @@
 // The cells of one literal of any kind, filled when a plan is loaded. Paper 01, sections Plan table and Penalty.
 #![tactic(auto)]
+
 ghost use Rattle.std.specs.Prelude.{◌≡◌, false, ◌++◌, ◌≤◌, length, drop};
 ghost use Rattle.logic.specs.Formula.{literal_of};
 ghost use Rattle.logic.specs.Configuration.{configured, in_masks};

@@ -1,5 +1,6 @@
 // The cells of a membership literal, kinds 5 and 6. Paper 01, sections Plan table and Penalty.
 #![tactic(auto)]
+
 ghost use Rattle.std.specs.Prelude.{◌≡◌, cond, ◌++◌, ◌+◌, ◌≤◌, ◌<◌, length, take, drop};
 ghost use Rattle.logic.specs.Configuration.{in_mask};
 ghost use Rattle.logic.specs.Cells.{tabulate};

@@ -1,5 +1,6 @@
 // All ports at once: what flips of some sets bring to the row of a tree without quantifiers, for each port at which they may flip.
 #![tactic(auto)]
+
 ghost use Rattle.std.specs.Prelude.{◌≡◌, ◌≤◌, ◌<◌, length, get_or};
 ghost use Rattle.cells_ports.specs.inner.Ports.{RowPortsReady, RowPortsGive};
 ghost use Rattle.cells_ports.specs.inner.Rows.{digit, level_if, port_levels, PortRowGives, OverReady, OwnGives, OuterGives, OverGives};

@@ -1,6 +1,7 @@
 // The cells of a node at every port of one variable, a row, worked in loops without a step of a walk between, so that the
 // compiler makes vector instructions of them. Both walks share them. Paper 01, section One move.
 #![tactic(auto)]
+
 ghost use Rattle.std.specs.Prelude.{◌≡◌, ◌+◌, ◌%◌, ◌<◌, ◌≤◌, true, false, ◌++◌, length, take, drop, slice_index, slice_set};
 ghost use Rattle.logic.specs.Cells.{tabulate};
 ghost use Rattle.cells_sum.specs.inner.Walk.{begun};

@@ -1,5 +1,6 @@
 // The penalty of a literal: Definition 5, cases (f) to (i). Load and the walk of a change both call it. Paper 01, section Penalty.
 #![tactic(auto)]
+
 ghost use Rattle.std.specs.Prelude.{◌≡◌, ◌-◌, ◌≤◌, eqb};
 ghost use Rattle.logic.specs.Formula.{relation_of};
 ghost use Rattle.logic.specs.Configuration.{indicator};

@@ -1,5 +1,6 @@
 // Runs of equal cells, copies of the first cells, and the port of a variable from cell to cell. Paper 01, section Plan table.
 #![tactic(auto)]
+
 ghost use Rattle.std.specs.Prelude.{◌≡◌, ◌++◌, ℕ, ◌+◌, ◌%◌, ◌^◌, ◌≤◌, ◌<◌, min, length, take, drop};
 ghost use Rattle.logic.specs.Cells.{tabulate};
 ghost use Rattle.cells_runs.specs.inner.Ports.{block_of, DigitIs, repeated};

@@ -1,5 +1,6 @@
 // What a change adds to the cells of an atom with quantifiers: new minus old over all its tuples. Paper 01, section One move.
 #![tactic(auto)]
+
 ghost use Rattle.std.specs.Prelude.{◌≡◌, ◌/◌, ◌%◌, ◌<◌, length, slice_index};
 ghost use Rattle.cells_touch.specs.inner.Hits.{change_in};
 ghost use Rattle.cells_share.specs.inner.Sharing.{TouchedReady, SharesReady, SharesGive};

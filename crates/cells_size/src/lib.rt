@@ -1,6 +1,7 @@
 // A set's mask and its size, as literals ask for them. Load and the walk of a change both call it. Paper 01, section Penalty; paper 02,
 // request 2026-05.
 #![tactic(auto)]
+
 ghost use Rattle.std.specs.Prelude.{◌≡◌, ◌≤◌, ◌<◌, length, get_or};
 ghost use Rattle.logic.specs.Configuration.{ports_in, out_of_test, in_masks};
 

@@ -1,5 +1,6 @@
 // A cell's new number from those directly below: sums by differences modulo 2^32, minima afresh. Paper 01, section One move.
 #![tactic(auto)]
+
 ghost use Rattle.std.specs.Prelude.{◌≡◌, ◌+◌, ◌-◌, ◌%◌, not, ◌==◌};
 ghost use Rattle.logic.specs.Configuration.{indicator};
 ghost use Rattle.cells_sum.specs.inner.Walk.{begun, Joined};

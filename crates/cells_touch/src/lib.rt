@@ -1,5 +1,6 @@
 // Which cells a change touches: one word for a tuple, so that the test of a node is one `and`. Paper 01, section One move.
 #![tactic(auto)]
+
 ghost use Rattle.std.specs.Prelude.{◌≡◌, ◌<◌};
 ghost use Rattle.cells_touch.specs.inner.Hits.{meets, level, other_levels, at_port, first_word, rest_word, port_word, variable_bits, size_bit, change_at, change_in, Tells};
 

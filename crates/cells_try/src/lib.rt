@@ -1,5 +1,6 @@
 // The walk over the touched cells that only reads. Paper 01, section One move.
 #![tactic(auto)]
+
 ghost use Rattle.std.specs.Prelude.{true};
 ghost use Rattle.cells_touch.specs.inner.Hits.{change_in};
 ghost use Rattle.cells_walk.specs.inner.Root.{RootReady, RootGives};

@@ -1,5 +1,6 @@
 // All ports at once, over all tuples of a tree without quantifiers.
 #![tactic(auto)]
+
 ghost use Rattle.std.specs.Prelude.{◌≡◌, suc, ◌^◌, ◌<◌, ◌≤◌, length, slice_index};
 ghost use Rattle.logic.specs.Cells.{tuple_at};
 ghost use Rattle.cells_walk.specs.inner.Visit.{packed};

@@ -1,6 +1,7 @@
 // The steps of a change's walk over the cells: a node's entries in the index, the tuple's ports, literals afresh, the ports to
 // visit. Paper 01, section One move.
 #![tactic(auto)]
+
 ghost use Rattle.std.specs.Prelude.{◌≡◌, cond, not, ◌&&◌, ◌||◌, ◌+◌, ◌*◌, ◌/◌, ◌%◌, ◌^◌, ◌≤◌, ◌<◌, eqb, leb, ltb, length, get_or, drop};
 ghost use Rattle.logic.specs.Configuration.{indicator};
 ghost use Rattle.table_format.specs.Bytes.{record_length, kind_field, records_of, record_at};

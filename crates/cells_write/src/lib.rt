@@ -1,5 +1,6 @@
 // The walk that writes the touched cells in place. Paper 01, section One move.
 #![tactic(auto)]
+
 ghost use Rattle.std.specs.Prelude.{◌≡◌, ◌+◌, ◌<◌, true, length, slice_index, slice_set};
 ghost use Rattle.cells_touch.specs.inner.Hits.{change_in};
 ghost use Rattle.cells_walk.specs.inner.Root.{RootReady, RootGives, RootWrites};

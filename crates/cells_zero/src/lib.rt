@@ -1,5 +1,6 @@
 // Whether a minimum is decided by a child that a change does not touch: it is 0. Paper 01, section One move.
 #![tactic(auto)]
+
 ghost use Rattle.std.specs.Prelude.{◌≡◌, not, ◌&&◌, ◌+◌, ◌<◌, eqb, length, get_or};
 ghost use Rattle.cells_touch.specs.inner.Hits.{meets};
 ghost use Rattle.cells_zero.specs.inner.Zero.{ZeroReady, ZeroTells, TreesReady, TreesTell};

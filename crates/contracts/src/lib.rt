@@ -1,5 +1,6 @@
 // What the calls answer. What each of them promises, the book and the lists of calls are the definitions in specs/. Paper 01.
 #![tactic(auto)]
+
 use logic::Move;
 
 #[derive(Clone, Copy)]

@@ -1,5 +1,6 @@
 // The rules of a journal of made moves, by value: its length, its record count and its newest record. Paper 02, request 2026-03.
 #![tactic(auto)]
+
 ghost use Rattle.std.specs.Prelude.{◌≡◌, cond, ◌-◌, ◌<◌};
 ghost use Rattle.contracts.specs.Journal.{full, count_past, opposite, count_after, count_taken};
 ghost use Rattle.contracts.specs.MoveCall.{move_values, MoveTold, move_made};

@@ -1,5 +1,6 @@
 // The known plans of paper 01 as texts, inputs of planroot, tables and moves: what it prints is held to the file stdout.
 #![tactic(auto)]
+
 mod inputs;
 mod moves;
 mod plans;

@@ -1,6 +1,7 @@
 // The logic of port plans: a move, and small functions on masks, bits and numbers. What a plan means stands in specs/.
 // Paper 01, sections Plan table, Penalty and One move.
 #![tactic(auto)]
+
 ghost use Rattle.std.specs.Prelude.{◌≡◌, not, ◌≤◌, ◌<◌, ◌^◌, min};
 ghost use Rattle.logic.specs.Configuration.{indicator, ports_in, out_of_test, in_mask, mask_count, within_ports};
 ghost use Rattle.logic.specs.Moves.{no_move};

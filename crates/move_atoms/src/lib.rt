@@ -1,5 +1,6 @@
 // The tables of what flips bring to the root: all atoms of a formula go into them.
 #![tactic(auto)]
+
 ghost use Rattle.std.specs.Prelude.{◌≡◌, false, cond, ◌+◌, ◌≤◌, eqb};
 ghost use Rattle.move_tables.specs.inner.Taking.{is_sum, TakeReady, TakesTree, TakeAllReady, TakesAll};
 

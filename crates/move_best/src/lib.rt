@@ -1,6 +1,7 @@
 // The best of all candidates, by the root that each would leave: how many they are, the first of them, and their records in a lent list.
 // The masks that a candidate would leave stand in a table of this crate's own. Paper 01, section One move; paper 02, request 2026-01.
 #![tactic(auto)]
+
 ghost use Rattle.move_root.specs.inner.Telling.{Told};
 ghost use Rattle.move_best.specs.inner.Choosing.{SearchRoom, BestAsked, Chooses, ListRoom, WriteRoom, Lists};
 

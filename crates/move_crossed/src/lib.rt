@@ -1,5 +1,6 @@
 // What a swap brings beyond its two flips, where both meet in an atom: over the atoms of a list.
 #![tactic(auto)]
+
 ghost use Rattle.std.specs.Prelude.{◌≡◌, ◌+◌, ◌-◌, ◌/◌, ◌%◌, ◌<◌, ◌≤◌, length};
 ghost use Rattle.cells_both.specs.inner.Both.{BothReady, BothGives};
 ghost use Rattle.move_shares.specs.inner.Shares.{entering, leaving, exchanged};

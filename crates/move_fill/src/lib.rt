@@ -1,5 +1,6 @@
 // The tables of what flips bring to the root, filled for a plan as it stands.
 #![tactic(auto)]
+
 ghost use Rattle.std.specs.Prelude.{◌≤◌, ◌<◌, length};
 ghost use Rattle.move_root.specs.inner.Telling.{Told};
 ghost use Rattle.move_fill.specs.inner.Filling.{SizesSet, FillReady};

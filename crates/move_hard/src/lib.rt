@@ -1,5 +1,6 @@
 // What a legal move adds to the atoms with quantifiers: each is gone through by itself, where the change touches it.
 #![tactic(auto)]
+
 ghost use Rattle.move_hard.specs.inner.Hard.{HardReady, HardGives};
 
 use cells_share::list_shares;

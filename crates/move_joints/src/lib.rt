@@ -1,6 +1,7 @@
 // The table of what a transfer brings beyond a drop and an add, by its two sets and its port: one atom goes into it. Paper 01, section
 // One move.
 #![tactic(auto)]
+
 ghost use Rattle.std.specs.Prelude.{◌≡◌, true, ◌&&◌, ◌+◌, ◌-◌, ◌*◌, ◌≤◌, ◌<◌, length, get_or};
 ghost use Rattle.cells_touch.specs.inner.Hits.{meets};
 ghost use Rattle.move_shares.specs.inner.Shares.{set_bits};

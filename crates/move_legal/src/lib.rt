@@ -1,5 +1,6 @@
 // Which moves are legal: grounds 14 and 15. Paper 01, section One move.
 #![tactic(auto)]
+
 ghost use Rattle.std.specs.Prelude.{◌≡◌, not, ◌&&◌, ◌≤◌, ◌<◌, length, take};
 ghost use Rattle.logic.specs.Configuration.{in_masks, mask_count};
 ghost use Rattle.logic.specs.Moves.{fits};

@@ -1,5 +1,6 @@
 // The records of the best moves in a lent list, one behind the other. Paper 02, request 2026-01.
 #![tactic(auto)]
+
 ghost use Rattle.std.specs.Prelude.{◌≡◌};
 ghost use Rattle.contracts.specs.BestCall.{move_record};
 ghost use Rattle.move_list.specs.inner.Records.{RoomFor, Put};

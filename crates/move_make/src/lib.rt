@@ -1,5 +1,6 @@
 // Makes a legal move over open tables. Paper 01, section One move.
 #![tactic(auto)]
+
 ghost use Rattle.move_try.specs.inner.Trying.{LegalMove};
 ghost use Rattle.move_make.specs.inner.Carrying.{Carries};
 

@@ -1,5 +1,6 @@
 // The masks that a legal move leaves. Paper 01, section One move.
 #![tactic(auto)]
+
 ghost use Rattle.std.specs.Prelude.{◌≡◌, ◌++◌, ◌≤◌, ◌<◌, length, get_or, set, take, drop};
 ghost use Rattle.logic.specs.inner.Flip.{flip_port};
 ghost use Rattle.logic.specs.Moves.{named_masks};

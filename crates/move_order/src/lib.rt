@@ -1,6 +1,7 @@
 // All legal moves of some kinds in one order, and the step from one to the next. Paper 01, section One move; the order is paper
 // 02's, request 2026-01.
 #![tactic(auto)]
+
 ghost use Rattle.std.specs.Prelude.{◌≡◌, ◌/◌, ◌%◌, ◌<◌, eqb, length};
 ghost use Rattle.logic.specs.Moves.{move_kind, kind_weight, kinds_known};
 ghost use Rattle.contracts.specs.MoveOrder.{fields_are};

@@ -1,5 +1,6 @@
 // The best of some moves so far, by the root that each would leave, and one more of them. Paper 02, request 2026-01.
 #![tactic(auto)]
+
 ghost use Rattle.std.specs.Prelude.{◌≡◌, ◌<◌};
 ghost use Rattle.move_order.specs.inner.Stepping.{outset};
 ghost use Rattle.move_rank.specs.inner.Ranking.{choice_of, ranked_by};

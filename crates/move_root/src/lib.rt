@@ -1,5 +1,6 @@
 // The root that a legal move would leave: by the tables of what flips bring and the atoms that are listed, or by a walk.
 #![tactic(auto)]
+
 ghost use Rattle.std.specs.Prelude.{◌≡◌, ◌+◌, ◌*◌, ◌%◌, ◌<◌, [], length};
 ghost use Rattle.logic.specs.Moves.{transfer, swap};
 ghost use Rattle.move_slots.specs.inner.Slots.{slot_at, flip_read, single_read, kind_read, move_read};

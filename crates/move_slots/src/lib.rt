@@ -1,5 +1,6 @@
 // The tables of what flips bring, by set, by what becomes of its size, and by port: one atom goes into them.
 #![tactic(auto)]
+
 ghost use Rattle.std.specs.Prelude.{◌≡◌, ◌+◌, ◌/◌, ◌<◌, ◌≤◌, length, slice_index};
 ghost use Rattle.move_slots.specs.inner.Slots.{AtomReady, SlotRoom, TakesSlots};
 ghost use Rattle.move_slots.specs.inner.Taking.{takes_slot, asked_size, asked_sizes, added_at, SlotReady, SlotGives, SlotPut, SlotTaking, SlotStep};

@@ -1,5 +1,6 @@
 // The tables of what flips bring to the root: the atoms of a formula go into them one after the other.
 #![tactic(auto)]
+
 ghost use Rattle.std.specs.Prelude.{◌≡◌, true, ◌+◌, ◌*◌, ◌≤◌, ◌<◌, length};
 ghost use Rattle.table_format.specs.Bytes.{record_length, records_of};
 ghost use Rattle.move_tables.specs.inner.Taking.{NoneBinds, Crossed, TakeReady, TakesTree};

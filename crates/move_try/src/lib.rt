@@ -1,5 +1,6 @@
 // Tries a legal move over open tables: its three numbers, by the masks that it would leave. Paper 01, section One move.
 #![tactic(auto)]
+
 ghost use Rattle.move_try.specs.inner.Trying.{TryReady, GivesNumbers};
 
 use cells_sum::After;

@@ -1,6 +1,7 @@
 // planroot: reads u, masks and a text from standard input and prints the root's penalty and the cell total, or the number of a
 // refusal. Paper 01, section Known plans.
 #![tactic(auto)]
+
 ghost use Rattle.planroot_input.specs.inner.Scans.{InputRoom};
 ghost use Rattle.planroot_line.specs.inner.Contract.{SomeInput};
 ghost use Rattle.planroot.specs.inner.Known.{KnownInput};

@@ -1,5 +1,6 @@
 // The input of planroot, passed piece by piece. Paper 01, section Known plans.
 #![tactic(auto)]
+
 ghost use Rattle.std.specs.Prelude.{◌≡◌, false, ◌&&◌, [], ◌∷◌, ◌+◌, ◌-◌, ◌≤◌, min, length};
 ghost use Rattle.planroot_input.specs.inner.Words.{AddsByte, JudgesWord};
 ghost use Rattle.planroot_input.specs.inner.Scans.{InputRoom, Starts, placed, EndsWord, WithWord, NextPhase, PassesFirst, PassesSecond, PassesText, PassesPiece, DecidesLine, Closes};

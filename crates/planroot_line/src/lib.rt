@@ -1,5 +1,6 @@
 // The line that planroot prints for an input. Paper 01, section Known plans.
 #![tactic(auto)]
+
 ghost use Rattle.std.specs.Prelude.{◌≤◌, length};
 ghost use Rattle.planroot_print.specs.Line.{line_room};
 ghost use Rattle.planroot_line.specs.inner.Contract.{Tables, PlanTables, LinesLoad, LinesPlan, LinesText, SomeInput, LinesInput, ShowsInput};

@@ -1,5 +1,6 @@
 // The line that planroot prints, as bytes. Paper 01, section Known plans.
 #![tactic(auto)]
+
 ghost use Rattle.std.specs.Prelude.{◌≤◌, length};
 ghost use Rattle.text_put.specs.inner.Puts.{Puts};
 ghost use Rattle.planroot_print.specs.Line.{penalty_bytes, refusal_bytes, line_room, Shows};

@@ -1,5 +1,6 @@
 // plantable: reads u and a text from standard input and writes the plan table's bytes. Paper 02, request 2026-02.
 #![tactic(auto)]
+
 use plantable_bytes::answer;
 use program_io::{Input, gather, give};
 

@@ -1,5 +1,6 @@
 // What plantable writes for an input. Paper 02, request 2026-02.
 #![tactic(auto)]
+
 ghost use Rattle.contracts.specs.Read.{reads};
 ghost use Rattle.program_bytes.specs.Outcome.{Gives};
 ghost use Rattle.plantable_bytes.specs.Table.{read_table, input_table};

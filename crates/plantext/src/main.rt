@@ -1,5 +1,6 @@
 // plantext: reads a plan table's bytes from standard input and prints its text and a line end. Paper 02, request 2026-02.
 #![tactic(auto)]
+
 use plantext_bytes::answer;
 use program_io::{Input, gather, give};
 

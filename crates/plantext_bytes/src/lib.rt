@@ -1,5 +1,6 @@
 // What plantext prints for a table. Paper 02, request 2026-02.
 #![tactic(auto)]
+
 ghost use Rattle.std.specs.Prelude.{◌≤◌, length};
 ghost use Rattle.program_bytes.specs.Outcome.{Gives};
 ghost use Rattle.plantext_bytes.specs.Text.{input_text, text_room};

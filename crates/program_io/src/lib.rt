@@ -1,5 +1,6 @@
 // Standard input and output of plantable and plantext. Paper 02, request 2026-02.
 #![tactic(auto)]
+
 ghost use Rattle.std.specs.Prelude.{◌≤◌, length};
 ghost use Rattle.program_bytes.specs.Outcome.{named_bytes};
 ghost use Rattle.program_io.specs.inner.Known.{most_kept, KnownInput};

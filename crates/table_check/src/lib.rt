@@ -1,6 +1,7 @@
 // Ground 11: the check of a whole plan table, which fills the index of its nodes (first cell, end, sets used at or below).
 // Paper 01, section Plan table.
 #![tactic(auto)]
+
 ghost use Rattle.std.specs.Prelude.{◌≡◌, false, ◌+◌, ◌≤◌, ◌<◌, length, set};
 ghost use Rattle.table_check.specs.inner.Check.{PlanJudged, IndexRoom, Placed, Judged, EndJudged, TreeJudged};
 ghost use Rattle.table_format.specs.inner.Tests.{kind_depth, kind_width};

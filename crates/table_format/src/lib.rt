@@ -1,5 +1,6 @@
 // The plan table's bytes: a record's fields and the header's, read and written. Paper 01, section Plan table.
 #![tactic(auto)]
+
 ghost use Rattle.std.specs.Prelude.{◌≡◌, ◌&&◌, ◌<◌, ◌+◌, ◌*◌, ◌≤◌, length};
 ghost use Rattle.table_format.specs.inner.Fields.{FieldIs};
 ghost use Rattle.table_format.specs.Bytes.{header_length, record_length, records_from, table_bytes, word_field, word_bytes, kind_field, relation_field, a_field, b_field, parent_field, end_field, marked, version_field, ports_field, sets_field, nodes_field, records_of, record_at, header};

@@ -1,5 +1,6 @@
 // The rules of one record and of the header, tested on their bytes. Paper 01, section Plan table.
 #![tactic(auto)]
+
 ghost use Rattle.std.specs.Prelude.{◌≡◌, ◌≤◌, length};
 ghost use Rattle.table_format.specs.Bytes.{header_length, record_length};
 ghost use Rattle.table_format.specs.Rules.{arity_rule, may_nest};

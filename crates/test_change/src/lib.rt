@@ -1,5 +1,6 @@
 // The change that a port makes when it goes into test or out of it: which sets are resized. Paper 02, request 2026-05.
 #![tactic(auto)]
+
 ghost use Rattle.std.specs.Prelude.{◌≡◌, ◌≤◌, ◌<◌, length};
 ghost use Rattle.test_change.specs.inner.Holders.{held_bit, size_bits, TellsTest};
 

@@ -1,5 +1,6 @@
 // Puts a port in test or takes it out, over open tables. Paper 02, request 2026-05.
 #![tactic(auto)]
+
 ghost use Rattle.test_make.specs.inner.Putting.{PortReady, Puts};
 
 use cells_sum::After;

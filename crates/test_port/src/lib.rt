@@ -1,5 +1,6 @@
 // Which ports may be put in test or taken out: grounds 14 and 20. Paper 02, request 2026-05.
 #![tactic(auto)]
+
 ghost use Rattle.std.specs.Prelude.{◌≡◌, ◌≤◌, ◌<◌, length};
 ghost use Rattle.std.specs.Bool.{beq};
 ghost use Rattle.test_port.specs.inner.Port.{PortNumber};

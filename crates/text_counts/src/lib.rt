@@ -1,5 +1,6 @@
 // How many nodes and cells the core of a text has, without making it: grounds 8 and 9 of paper 01.
 #![tactic(auto)]
+
 ghost use Rattle.std.specs.Prelude.{◌≡◌, true, false, ◌+◌, ◌≤◌, min};
 ghost use Rattle.text_tree.specs.inner.Stored.{JoinAt};
 ghost use Rattle.text_counts.specs.inner.Counts.{total_at, HeldBoth, Scale, PairHeld, JoinHeld, BothJoined, Scaled, Quantified, HasTotals, CountsNodes, CountsCells};

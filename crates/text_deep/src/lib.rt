@@ -1,6 +1,7 @@
 // A unit that more than 64 of `(`, `~` and quantifiers stand around, read by a loop and not by calls, and not stored: its text is
 // refused, by ground 3 or 4, so that only the unit's end is asked. Paper 01, section Plan text; grounds 3 and 4.
 #![tactic(auto)]
+
 ghost use Rattle.std.specs.Prelude.{◌≡◌, true, false, ◌||◌, ◌+◌, ◌≤◌, ◌<◌, ltb};
 ghost use Rattle.text_grammar.specs.Grammar.{unit};
 ghost use Rattle.text_grammar.specs.inner.Contract.{ReaderRoom, Reads};

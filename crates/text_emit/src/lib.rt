@@ -1,5 +1,6 @@
 // Writes the plan table of a text's core formula, from the tree's records. Paper 01, sections Plan table and Plan text.
 #![tactic(auto)]
+
 ghost use Rattle.std.specs.Prelude.{◌≡◌, true, ◌%◌, ◌≤◌, length};
 ghost use Rattle.logic.specs.Formula.{kind_number};
 ghost use Rattle.text_core.specs.Core.{joint_node};

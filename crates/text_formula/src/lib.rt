@@ -3,6 +3,7 @@
 // that `&` or `|` joins are read in a loop.
 // Paper 01, section Plan text; ground 4.
 #![tactic(auto)]
+
 ghost use Rattle.std.specs.Prelude.{◌-◌, ◌≤◌, length};
 ghost use Rattle.text_grammar.specs.Grammar.{unit, conjunction, disjunction, formula};
 ghost use Rattle.text_grammar.specs.inner.Contract.{ReaderRoom, Reads, Prefixed};

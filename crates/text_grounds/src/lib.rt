@@ -1,5 +1,6 @@
 // Grounds 5 to 9 in their order. Paper 01, section Grounds for refusal.
 #![tactic(auto)]
+
 ghost use Rattle.std.specs.Prelude.{◌≡◌, ◌≤◌};
 ghost use Rattle.text_grounds.specs.inner.Answered.{Answers};
 

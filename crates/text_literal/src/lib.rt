@@ -1,5 +1,6 @@
 // Reads one literal of a plan's text, and the letters of a declaration. Paper 01, section Plan text.
 #![tactic(auto)]
+
 ghost use Rattle.std.specs.Prelude.{◌≡◌, false, ◌≤◌, length};
 ghost use Rattle.text_grammar.specs.Parser.{variable_literal, size_literal};
 ghost use Rattle.text_grammar.specs.inner.Contract.{ReaderRoom, Outcome, Operands, Keeps, LettersRead};

@@ -1,5 +1,6 @@
 // Names, constants and quantifiers of a text's tree: grounds 5 to 7 of paper 01.
 #![tactic(auto)]
+
 ghost use Rattle.std.specs.Prelude.{◌≡◌, not, ◌||◌, ◌+◌, ◌≤◌, ◌<◌, leb, length, get_or};
 ghost use Rattle.text_core.specs.Names.{among, set_number, declared_twice};
 ghost use Rattle.text_tree.specs.inner.Stored.{JoinAt};

@@ -1,5 +1,6 @@
 // What one node of a plan puts into the plan's text. Paper 02, request 2026-02.
 #![tactic(auto)]
+
 ghost use Rattle.std.specs.Prelude.{◌≡◌, [], ◌∷◌, ◌+◌, ◌≤◌};
 ghost use Rattle.logic.specs.Formula.{relation_of};
 ghost use Rattle.table_format.specs.Bytes.{test_of, node_of};

@@ -1,5 +1,6 @@
 // Reads a whole text: declaration and formula. Paper 01, section Plan text; ground 3.
 #![tactic(auto)]
+
 ghost use Rattle.std.specs.Prelude.{◌≡◌, false};
 ghost use Rattle.text_grammar.specs.inner.Contract.{Lent, Parsed};
 

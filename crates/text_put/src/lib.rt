@@ -1,5 +1,6 @@
 // Bytes put one behind another into a lent table. What a table has no place for is counted and not put.
 #![tactic(auto)]
+
 ghost use Rattle.std.specs.Prelude.{◌≡◌, [], ◌∷◌, ◌+◌, ◌%◌, ◌≤◌, ◌<◌, length};
 ghost use Rattle.text_tokens.specs.Tokens.{digits_of};
 ghost use Rattle.text_put.specs.inner.Puts.{Puts, most_places};

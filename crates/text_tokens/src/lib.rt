@@ -1,5 +1,6 @@
 // The tokens of a plan's text, and the reading position. Paper 01, section Plan text; ground 2.
 #![tactic(auto)]
+
 ghost use Rattle.std.specs.Prelude.{◌≡◌, true, ◌+◌, ◌-◌, ◌*◌, ◌≤◌, ◌<◌, min, length, get_or};
 ghost use Rattle.text_tokens.specs.Tokens.{between, is_digit, after_blanks, single_kind, one_or_two, sign_of, run_at, run_token, here_at, token_at, among, known_byte, known_bytes};
 

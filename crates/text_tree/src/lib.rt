@@ -1,5 +1,6 @@
 // The tree of a plan's text as records in a table of 16-bit numbers: pushed, and read back. Paper 01, section Plan text.
 #![tactic(auto)]
+
 ghost use Rattle.std.specs.Prelude.{◌≡◌, true, false, ◌||◌, not, ◌+◌, ◌-◌, ◌≤◌, length, set, get_or};
 ghost use Rattle.text_tree.specs.inner.Links.{JoinsRoom, WritesJoins};
 ghost use Rattle.text_tree.specs.inner.Stored.{literal_code, JoinAt, Joins};

@@ -1,5 +1,6 @@
 // Forms the text of a plan in a lent table, by recursion over the plan's records. Paper 02, request 2026-02.
 #![tactic(auto)]
+
 ghost use Rattle.std.specs.Prelude.{◌≡◌, ◌||◌, ◌≤◌};
 ghost use Rattle.text_tree.specs.Tree.{letters_of};
 ghost use Rattle.text_form.specs.Form.{set_byte, sets_from};

@@ -1,3 +1,2 @@
 -- Laws.
 pub mod Handing
-pub mod Plans

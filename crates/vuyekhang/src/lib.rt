@@ -3,6 +3,7 @@
 // call that it hands on to, and every table that it may write. The calls themselves see of a journal its length, its record count and
 // its newest record; the records are read and written here.
 #![tactic(auto)]
+
 ghost use Rattle.std.specs.Prelude.{true, false, length};
 ghost use Rattle.table_format.specs.Decode.{decode};
 ghost use Rattle.contracts.specs.Read.{reads};

@@ -406,13 +406,13 @@ trees_after-returns t c =
 pub trees_after-loop-j-smaller : goal.trees_after-loop-j-smaller
 trees_after-loop-j-smaller t c =
     let n = onward-next _ _ _ _ _ _ _ _ _ _ _ _ _ _ _ _ _ _ _ _ _ c.loop-j.invariant c.loop-j-test.true c.end_at-j.ensures (elim c.if-touched_at.branch [
-      trees_after-then-touched_at w ↦ record { found = w.tree_after-r.result; gives = w.tree_after-r.ensures; joined = subst (λ (x : Sum). Joined _ _ w.tree_after-r.result x) (sym w.sum-is) w.join-sum.ensures }
+      | trees_after-then-touched_at w ↦ record { found = w.tree_after-r.result; gives = w.tree_after-r.ensures; joined = subst (λ (x : Sum). Joined _ _ w.tree_after-r.result x) (sym w.sum-is) w.join-sum.ensures }
       | trees_after-else-touched_at w ↦ record { found = w.kept.result; gives = gives-untouched _ _ _ _ _ _ _ _ _ _ _ _ _ _ _ _ w.kept.ensures.0 refl _ (sym c.touched_at.ensures ∙ w.if-touched_at.false) refl w.kept.ensures.1 w.kept.ensures.2; joined = subst (λ (x : Sum). Joined _ _ w.kept.result x) (sym w.sum-is) w.join-sum-else-touched_at.ensures }
     ]) in omega (arith, n.0, c.loop-j-test.true)
 
 pub trees_after-loop-j-preserved : goal.trees_after-loop-j-preserved
 trees_after-loop-j-preserved t c =
     (onward-next _ _ _ _ _ _ _ _ _ _ _ _ _ _ _ _ _ _ _ _ _ c.loop-j.invariant c.loop-j-test.true c.end_at-j.ensures (elim c.if-touched_at.branch [
-      trees_after-then-touched_at w ↦ record { found = w.tree_after-r.result; gives = w.tree_after-r.ensures; joined = subst (λ (x : Sum). Joined _ _ w.tree_after-r.result x) (sym w.sum-is) w.join-sum.ensures }
+      | trees_after-then-touched_at w ↦ record { found = w.tree_after-r.result; gives = w.tree_after-r.ensures; joined = subst (λ (x : Sum). Joined _ _ w.tree_after-r.result x) (sym w.sum-is) w.join-sum.ensures }
       | trees_after-else-touched_at w ↦ record { found = w.kept.result; gives = gives-untouched _ _ _ _ _ _ _ _ _ _ _ _ _ _ _ _ w.kept.ensures.0 refl _ (sym c.touched_at.ensures ∙ w.if-touched_at.false) refl w.kept.ensures.1 w.kept.ensures.2; joined = subst (λ (x : Sum). Joined _ _ w.kept.result x) (sym w.sum-is) w.join-sum-else-touched_at.ensures }
     ])).1

@@ -529,13 +529,13 @@ trees_written-returns t c =
 pub trees_written-loop-j-smaller : goal.trees_written-loop-j-smaller
 trees_written-loop-j-smaller t c =
     let n = ahead-next _ _ _ _ _ _ _ _ _ _ _ _ _ _ _ _ _ _ _ _ _ _ _ c.loop-j.invariant c.loop-j-test.true c.end_at-j.ensures (elim c.if-touched_at.branch [
-      trees_written-then-touched_at w ↦ moved_as _ _ _ _ _ _ _ _ _ _ _ _ _ _ _ _ _ _ _ _ w.cells-is w.sum-is record { found = w.tree_written-r.result; gives = w.tree_written-r.ensures.0; joined = w.join-sum.ensures; writes = w.tree_written-r.ensures.1; fit = all_fit _ (λ j. (w.slice_known-then-touched_at-1.given j).fits); long = w.tree_written-r.auto.cells }
+      | trees_written-then-touched_at w ↦ moved_as _ _ _ _ _ _ _ _ _ _ _ _ _ _ _ _ _ _ _ _ w.cells-is w.sum-is record { found = w.tree_written-r.result; gives = w.tree_written-r.ensures.0; joined = w.join-sum.ensures; writes = w.tree_written-r.ensures.1; fit = all_fit _ (λ j. (w.slice_known-then-touched_at-1.given j).fits); long = w.tree_written-r.auto.cells }
       | trees_written-else-touched_at w ↦ moved_as _ _ _ _ _ _ _ _ _ _ _ _ _ _ _ _ _ _ _ _ w.cells-is w.sum-is (let g = untouched-moved _ _ _ _ _ _ _ _ _ _ _ _ _ _ _ refl (sym c.touched_at.ensures ∙ w.if-touched_at.false) _ (gives-untouched _ _ _ _ _ _ _ _ _ _ _ _ _ _ _ _ w.kept.ensures.0 refl _ (sym c.touched_at.ensures ∙ w.if-touched_at.false) refl w.kept.ensures.1 w.kept.ensures.2) in record { found = w.kept.result; gives = g.0; joined = w.join-sum-else-touched_at.ensures; writes = g.1; fit = c.loop-j.invariant.ready.0.ready.cells_fit; long = refl })
     ]) in omega (arith, n.0, c.loop-j-test.true)
 
 pub trees_written-loop-j-preserved : goal.trees_written-loop-j-preserved
 trees_written-loop-j-preserved t c =
     (ahead-next _ _ _ _ _ _ _ _ _ _ _ _ _ _ _ _ _ _ _ _ _ _ _ c.loop-j.invariant c.loop-j-test.true c.end_at-j.ensures (elim c.if-touched_at.branch [
-      trees_written-then-touched_at w ↦ moved_as _ _ _ _ _ _ _ _ _ _ _ _ _ _ _ _ _ _ _ _ w.cells-is w.sum-is record { found = w.tree_written-r.result; gives = w.tree_written-r.ensures.0; joined = w.join-sum.ensures; writes = w.tree_written-r.ensures.1; fit = all_fit _ (λ j. (w.slice_known-then-touched_at-1.given j).fits); long = w.tree_written-r.auto.cells }
+      | trees_written-then-touched_at w ↦ moved_as _ _ _ _ _ _ _ _ _ _ _ _ _ _ _ _ _ _ _ _ w.cells-is w.sum-is record { found = w.tree_written-r.result; gives = w.tree_written-r.ensures.0; joined = w.join-sum.ensures; writes = w.tree_written-r.ensures.1; fit = all_fit _ (λ j. (w.slice_known-then-touched_at-1.given j).fits); long = w.tree_written-r.auto.cells }
       | trees_written-else-touched_at w ↦ moved_as _ _ _ _ _ _ _ _ _ _ _ _ _ _ _ _ _ _ _ _ w.cells-is w.sum-is (let g = untouched-moved _ _ _ _ _ _ _ _ _ _ _ _ _ _ _ refl (sym c.touched_at.ensures ∙ w.if-touched_at.false) _ (gives-untouched _ _ _ _ _ _ _ _ _ _ _ _ _ _ _ _ w.kept.ensures.0 refl _ (sym c.touched_at.ensures ∙ w.if-touched_at.false) refl w.kept.ensures.1 w.kept.ensures.2) in record { found = w.kept.result; gives = g.0; joined = w.join-sum-else-touched_at.ensures; writes = g.1; fit = c.loop-j.invariant.ready.0.ready.cells_fit; long = refl })
     ])).1

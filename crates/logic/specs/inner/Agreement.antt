@@ -1,6 +1,6 @@
 -- Configurations that agree off a change.
 use Rattle.std.specs.Prelude.{◌≡◌, Bool, false, ◌&&◌, List, ℕ, ◌<◌, eqb}
-use Rattle.logic.specs.Formula.{Test, size, Forest}
+use Rattle.logic.specs.Formula.{Test, Forest}
 use Rattle.logic.specs.Configuration.{Configuration}
 use Rattle.logic.specs.Truth.{Tuple}
 use Rattle.logic.specs.Penalty.{test_penalty}

@@ -1,2 +1,0 @@
--- What callers' plans cite of each function over the journal.
-pub mod work

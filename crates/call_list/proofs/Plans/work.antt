@@ -1,3 +1,0 @@
--- What callers' plans cite of work.
-pub mod Kinds
-pub mod Reads

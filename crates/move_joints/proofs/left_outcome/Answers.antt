@@ -1,0 +1,15 @@
+use mathlib.Core.Path.{sym, ap}
+use mathlib.Core.Bool.{Bool, cond}
+use native.Mathlib.Omega.{arith}
+use Rattle.move_joints.specs.inner.Joints.{left}
+use Rattle.move_joints.proofs.left_outcome.Goals as goal
+
+pub returns-then-tested : goal.returns-then-tested
+unfolding left
+returns-then-tested c =
+    (sym (ap (λ (o : Bool). cond o 1 0) c.if-tested.true), omega arith)
+
+pub returns : goal.returns
+unfolding left
+returns c =
+    (sym (ap (λ (o : Bool). cond o 1 0) c.if-tested.false), omega arith)
