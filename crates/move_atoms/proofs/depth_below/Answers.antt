@@ -1,0 +1,9 @@
+use mathlib.Core.Path.{refl}
+use borrow.Author.Tests.{eq-eqb, ne_eqb}
+use Rattle.move_atoms.proofs.depth_below.Goals as goal
+
+pub returns-then-kind-eq1 : goal.returns-then-kind-eq1
+returns-then-kind-eq1 c = rw (eq-eqb _ _ c.if-kind-eq1.true) refl
+
+pub returns : goal.returns
+returns c = rw (ne_eqb _ _ c.if-kind-eq1.false) refl
