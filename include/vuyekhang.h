@@ -1,7 +1,7 @@
 /* Vuyekhang: a planning engine for the ports of a cabinet, proved in Rattle. Version 0.6: read, write, load, a node's cells, move,
  * trial, improve, undo, the list of best moves, and a port's test begun and ended.
  *
- * Link target/staticlib/libvuyekhang.a, which `rt staticlib vuyekhang` writes (x86-64, Linux). Each function is proved to meet its
+ * Link target/staticlib/libvuyekhang.a, which `.ci/archive` writes (x86-64, Linux). Each function is proved to meet its
  * contract in crates/vuyekhang/src/lib.rt for every value of its arguments; none keeps anything between two calls. A caller
  * owes what C asks of pointers: each points to so many elements as its length says (also where that is 0: not null), and a
  * table that is written is no part of another argument's table.

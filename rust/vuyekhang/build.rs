@@ -1,4 +1,4 @@
-// Links the proved archive, which `rt staticlib vuyekhang` writes below the repository's root.
+// Links the proved archive, which `.ci/archive` writes below the repository's root.
 use std::path::Path;
 
 fn main() {
@@ -7,7 +7,7 @@ fn main() {
     let archive = folder.join("libvuyekhang.a");
     if !archive.exists() {
         // No error: `cargo check` needs no archive.
-        println!("cargo:warning=no archive to link: run `rt staticlib vuyekhang` at the repository's root");
+        println!("cargo:warning=no archive to link: run `.ci/archive` at the repository's root");
     }
     println!("cargo:rustc-link-search=native={}", folder.display());
     println!("cargo:rustc-link-lib=static=vuyekhang");

@@ -40,7 +40,7 @@
 //! Any value of any argument is answered, by numbers or by a [`Refusal`]. What the C functions ask of their caller, that lengths
 //! are true and that a table which is written is lent once, Rust's references give. No call takes more than [`MOST_STACK`] of stack.
 //!
-//! To link, the archive `target/staticlib/libvuyekhang.a` must be there: `rt staticlib vuyekhang` proves and writes it.
+//! To link, the archive `target/staticlib/libvuyekhang.a` must be there: `.ci/archive` proves and writes it.
 #![deny(missing_docs)]
 
 mod answers;
