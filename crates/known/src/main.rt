@@ -8,23 +8,25 @@ mod print;
 mod texts;
 
 use print::heading;
+use std::alloc::{AllocError, Global};
+use std::io;
 
-// Room for the largest plans.
-fn room() -> [u32; 800000] {
-    [0; 800000]
+// Room for the largest plans, on the heap: it is too large for the stack.
+fn room(alloc: Global) -> Result<Vec<u32>, AllocError> {
+    vec![in alloc; 0; 800000]
 }
 
-// One room for cells serves the texts and the plans: two would not fit on the stack.
-fn main() {
-    let mut cells = room();
-    heading(b"texts");
-    texts::all();
-    texts::large_plans(&mut cells);
-    heading(b"inputs");
-    inputs::all();
-    heading(b"plans");
-    plans::all();
-    plans::large_plans(&mut cells);
-    heading(b"moves");
-    moves::all();
+// One room for cells serves the texts and the plans.
+fn main(rt: HostRuntime) -> io::Result<()> {
+    let mut cells = room(rt.alloc())?;
+    heading(&rt, b"texts")?;
+    texts::all(&rt)?;
+    texts::large_plans(&rt, &mut cells)?;
+    heading(&rt, b"inputs")?;
+    inputs::all(&rt)?;
+    heading(&rt, b"plans")?;
+    plans::all(&rt)?;
+    plans::large_plans(&rt, &mut cells)?;
+    heading(&rt, b"moves")?;
+    moves::all(&rt)
 }

@@ -2,105 +2,118 @@
 use crate::print::{say_loaded, show};
 use call_load::load;
 use call_node::node_cells;
+use std::io;
 
 // Prints the cells of a node.
-fn show_node(table: &[u8], cells: &[u32], node: usize) {
+fn show_node(rt: &impl Print, table: &[u8], cells: &[u32], node: usize) -> io::Result<()> {
     let part = node_cells(table, cells, node);
-    show(part);
+    show(rt, part)
 }
 
 // Loads a plan and prints its answer: `penalty P cells C` or `refused N`.
-fn say(table: &[u8], masks: &[u64], cells: &mut [u32]) {
-    say_loaded(load(table, masks, cells));
+fn say(rt: &impl Print, table: &[u8], masks: &[u64], cells: &mut [u32]) -> io::Result<()> {
+    say_loaded(rt, load(table, masks, cells))
 }
 
 // Loads the first n bytes of a table.
-fn say_short(table: &[u8], n: usize, masks: &[u64], cells: &mut [u32]) {
+fn say_short(
+    rt: &impl Print,
+    table: &[u8],
+    n: usize,
+    masks: &[u64],
+    cells: &mut [u32],
+) -> io::Result<()> {
     if table.len() < n {
-        return;
+        return Ok(());
     }
-    say(&table[0..n], masks, cells);
+    say(rt, &table[0..n], masks, cells)
 }
 
 // Plan A: its 34 cells and two past them, then the cells of some nodes.
-fn plan_a(table: &[u8]) {
+fn plan_a(rt: &impl Print, table: &[u8]) -> io::Result<()> {
     let masks = [3u64, 7, 1, 0];
     let mut cells = [9u32; 36];
-    say(table, &masks, &mut cells);
-    show(&cells);
-    show_node(table, &cells, 0);
-    show_node(table, &cells, 3);
-    show_node(table, &cells, 13);
-    show_node(table, &cells, 14);
+    say(rt, table, &masks, &mut cells)?;
+    show(rt, &cells)?;
+    show_node(rt, table, &cells, 0)?;
+    show_node(rt, table, &cells, 3)?;
+    show_node(rt, table, &cells, 13)?;
+    show_node(rt, table, &cells, 14)
 }
 
 // Each way to be refused: a cell too few, a mask too few, a port too many, a table one byte short.
-fn refusals(table: &[u8]) {
+fn refusals(rt: &impl Print, table: &[u8]) -> io::Result<()> {
     let masks = [3u64, 7, 1, 0];
     let mut few = [9u32; 33];
-    say(table, &masks, &mut few);
+    say(rt, table, &masks, &mut few)?;
     let mut cells = [9u32; 36];
     let three = [3u64, 7, 1];
-    say(table, &three, &mut cells);
+    say(rt, table, &three, &mut cells)?;
     let stray = [3u64, 15, 1, 0];
-    say(table, &stray, &mut cells);
-    say_short(table, 120, &stray, &mut few);
-    show(&few);
+    say(rt, table, &stray, &mut cells)?;
+    say_short(rt, table, 120, &stray, &mut few)?;
+    show(rt, &few)
 }
 
 // Three variables, the outermost counting most; then every kind of literal.
-fn small_plans() {
+fn small_plans(rt: &impl Print) -> io::Result<()> {
     let mut cells = [0u32; 40];
     let one = [1u64, 0];
     say(
+        rt,
         b"\x50\x4c\x4e\x01\x00\x02\x01\x08\x00\x00\x00\x00\x00\xff\xff\x08\x00\x01\x00\x00\x00\x00\x00\x08\x00\x01\x00\x00\x00\x01\x00\x08\x00\x01\x00\x00\x00\x02\x00\x08\x00\x03\x00\x00\x00\x03\x00\x08\x00\x05\x00\x00\x00\x04\x00\x06\x00\x05\x00\x01\x00\x04\x00\x07\x00\x05\x00\x02\x00\x04\x00\x08\x00",
         &one,
         &mut cells,
-    );
-    show(&cells);
+    )?;
+    show(rt, &cells)?;
     let mut all = [0u32; 68];
     let masks = [5u64, 3, 0];
     say(
+        rt,
         b"\x50\x4c\x4e\x01\x00\x03\x02\x0a\x00\x00\x00\x00\x00\xff\xff\x0a\x00\x01\x00\x00\x00\x00\x00\x0a\x00\x02\x00\x00\x00\x01\x00\x0a\x00\x04\x00\x00\x00\x02\x00\x0a\x00\x07\x00\x00\x01\x03\x00\x05\x00\x07\x03\x01\x00\x03\x00\x06\x00\x08\x04\x01\x02\x03\x00\x07\x00\x03\x00\x00\x00\x03\x00\x0a\x00\x05\x00\x01\x00\x07\x00\x09\x00\x06\x00\x00\x01\x07\x00\x0a\x00",
         &masks,
         &mut all,
-    );
-    show(&all);
+    )?;
+    show(rt, &all)
 }
 
 // Loads a plan of one set, the set empty.
-fn large(table: &[u8], cells: &mut [u32]) {
+fn large(rt: &impl Print, table: &[u8], cells: &mut [u32]) -> io::Result<()> {
     let masks = [0u64, 0];
-    say(table, &masks, cells);
+    say(rt, table, &masks, cells)
 }
 
 // 65,536 conjuncts are false: 16 bits would have stored 0. Then 790,594 cells,
 // and one conjunct more: over the limit.
-pub fn large_plans(cells: &mut [u32]) {
+pub fn large_plans(rt: &impl Print, cells: &mut [u32]) -> io::Result<()> {
     large(
+        rt,
         b"\x50\x4c\x4e\x01\x00\x40\x01\x14\x00\x00\x00\x00\x00\xff\xff\x14\x00\x01\x00\x00\x00\x00\x00\x14\x00\x01\x00\x00\x00\x01\x00\x14\x00\x03\x00\x00\x00\x02\x00\x14\x00\x05\x00\x00\x00\x03\x00\x05\x00\x05\x00\x00\x00\x03\x00\x06\x00\x05\x00\x00\x00\x03\x00\x07\x00\x05\x00\x00\x00\x03\x00\x08\x00\x05\x00\x00\x00\x03\x00\x09\x00\x05\x00\x00\x00\x03\x00\x0a\x00\x05\x00\x00\x00\x03\x00\x0b\x00\x05\x00\x00\x00\x03\x00\x0c\x00\x05\x00\x00\x00\x03\x00\x0d\x00\x05\x00\x00\x00\x03\x00\x0e\x00\x05\x00\x00\x00\x03\x00\x0f\x00\x05\x00\x00\x00\x03\x00\x10\x00\x05\x00\x00\x00\x03\x00\x11\x00\x05\x00\x00\x00\x03\x00\x12\x00\x05\x00\x00\x00\x03\x00\x13\x00\x05\x00\x00\x00\x03\x00\x14\x00",
         cells,
-    );
+    )?;
     large(
+        rt,
         b"\x50\x4c\x4e\x01\x00\x40\x01\x07\x00\x00\x00\x00\x00\xff\xff\x07\x00\x01\x00\x00\x00\x00\x00\x07\x00\x01\x00\x00\x00\x01\x00\x07\x00\x01\x00\x00\x00\x02\x00\x07\x00\x03\x00\x00\x00\x03\x00\x07\x00\x05\x00\x00\x00\x04\x00\x06\x00\x05\x00\x01\x00\x04\x00\x07\x00",
         cells,
-    );
+    )?;
     large(
+        rt,
         b"\x50\x4c\x4e\x01\x00\x40\x01\x08\x00\x00\x00\x00\x00\xff\xff\x08\x00\x01\x00\x00\x00\x00\x00\x08\x00\x01\x00\x00\x00\x01\x00\x08\x00\x01\x00\x00\x00\x02\x00\x08\x00\x03\x00\x00\x00\x03\x00\x08\x00\x05\x00\x00\x00\x04\x00\x06\x00\x05\x00\x01\x00\x04\x00\x07\x00\x05\x00\x02\x00\x04\x00\x08\x00",
         cells,
-    );
+    )
 }
 
 // Plan A's table, accepted and refused.
-fn known_a(table: &[u8]) {
-    plan_a(table);
-    refusals(table);
+fn known_a(rt: &impl Print, table: &[u8]) -> io::Result<()> {
+    plan_a(rt, table)?;
+    refusals(rt, table)
 }
 
 // The small tables.
-pub fn all() {
+pub fn all(rt: &impl Print) -> io::Result<()> {
     known_a(
+        rt,
         b"\x50\x4c\x4e\x01\x00\x03\x03\x0e\x00\x00\x00\x00\x00\xff\xff\x0e\x00\x03\x00\x00\x00\x00\x00\x0e\x00\x01\x00\x00\x00\x01\x00\x0d\x00\x03\x00\x00\x00\x02\x00\x0d\x00\x04\x00\x00\x00\x03\x00\x09\x00\x06\x00\x00\x02\x04\x00\x06\x00\x03\x00\x00\x00\x04\x00\x09\x00\x05\x00\x00\x00\x06\x00\x08\x00\x05\x00\x00\x01\x06\x00\x09\x00\x04\x00\x00\x00\x03\x00\x0d\x00\x05\x00\x00\x02\x09\x00\x0b\x00\x06\x00\x00\x00\x09\x00\x0c\x00\x06\x00\x00\x01\x09\x00\x0d\x00\x08\x01\x02\x01\x01\x00\x0e\x00",
-    );
-    small_plans();
+    )?;
+    small_plans(rt)
 }

@@ -1,97 +1,93 @@
 // The lines that known prints.
 use contracts::{Answer, Loaded, Moved};
+use std::io;
 
 // A number, a space before it.
-fn number(n: u32) {
-    io::write_all(1, b" ");
-    io::print_decimal(1, n as u64);
+fn number(rt: &impl Print, n: u32) -> io::Result<()> {
+    print!(rt; " {n}")
 }
 
 // A byte as a number.
-fn byte(b: u8) {
-    number(b as u32);
+fn byte(rt: &impl Print, b: u8) -> io::Result<()> {
+    number(rt, b as u32)
 }
 
 // Ends a line.
-fn end() {
-    io::write_all(1, b"\n");
+fn end(rt: &impl Print) -> io::Result<()> {
+    rt.write_all(b"\n")
 }
 
 // The heading of a part.
-pub fn heading(words: &[u8]) {
-    io::write_all(1, words);
-    end();
+pub fn heading(rt: &impl Print, words: &[u8]) -> io::Result<()> {
+    rt.write_all(words)?;
+    end(rt)
 }
 
 // A word and its number, then the cells.
-fn counted(word: &[u8], n: u32, cells: u32) {
-    io::write_all(1, word);
-    number(n);
-    io::write_all(1, b" cells");
-    number(cells);
-    end();
+fn counted(rt: &impl Print, word: &[u8], n: u32, cells: u32) -> io::Result<()> {
+    rt.write_all(word)?;
+    number(rt, n)?;
+    rt.write_all(b" cells")?;
+    number(rt, cells)?;
+    end(rt)
 }
 
 // A refusal by its ground.
-fn refused(ground: u8) {
-    io::write_all(1, b"refused");
-    byte(ground);
-    end();
+fn refused(rt: &impl Print, ground: u8) -> io::Result<()> {
+    rt.write_all(b"refused")?;
+    byte(rt, ground)?;
+    end(rt)
 }
 
 // Root before, root after, changed cells.
-fn changed(before: u32, after: u32, cells: u32) {
-    io::write_all(1, b"moved");
-    number(before);
-    number(after);
-    number(cells);
-    end();
+fn changed(rt: &impl Print, before: u32, after: u32, cells: u32) -> io::Result<()> {
+    rt.write_all(b"moved")?;
+    number(rt, before)?;
+    number(rt, after)?;
+    number(rt, cells)?;
+    end(rt)
 }
 
 // What read answers.
-pub fn say_read(answer: Answer) {
+pub fn say_read(rt: &impl Print, answer: Answer) -> io::Result<()> {
     match answer {
-        Answer::Accepted { nodes, cells } => counted(b"nodes", nodes, cells),
-        Answer::Refused(n) => refused(n),
+        Answer::Accepted { nodes, cells } => counted(rt, b"nodes", nodes, cells),
+        Answer::Refused(n) => refused(rt, n),
     }
 }
 
 // What load answers.
-pub fn say_loaded(answer: Loaded) {
+pub fn say_loaded(rt: &impl Print, answer: Loaded) -> io::Result<()> {
     match answer {
-        Loaded::Accepted { root, cells } => counted(b"penalty", root, cells),
-        Loaded::Refused(n) => refused(n),
+        Loaded::Accepted { root, cells } => counted(rt, b"penalty", root, cells),
+        Loaded::Refused(n) => refused(rt, n),
     }
 }
 
 // What a move or a trial answers.
-pub fn say_moved(answer: Moved) {
+pub fn say_moved(rt: &impl Print, answer: Moved) -> io::Result<()> {
     match answer {
         Moved::Accepted {
             before,
             after,
             changed: cells,
-        } => changed(before, after, cells),
-        Moved::Refused(n) => refused(n),
+        } => changed(rt, before, after, cells),
+        Moved::Refused(n) => refused(rt, n),
     }
 }
 
 // Cells on a line.
-pub fn show(cells: &[u32]) {
-    let mut i = 0;
-    while i < cells.len() {
-        number(cells[i]);
-        i += 1;
+pub fn show(rt: &impl Print, cells: &[u32]) -> io::Result<()> {
+    for n in cells {
+        number(rt, *n)?;
     }
-    end();
+    end(rt)
 }
 
 // Bytes of a table on a line.
-pub fn show_bytes(bytes: &[u8]) {
-    let mut i = 0;
-    while i < bytes.len() {
-        byte(bytes[i]);
-        i += 1;
+pub fn show_bytes(rt: &impl Print, bytes: &[u8]) -> io::Result<()> {
+    for b in bytes {
+        byte(rt, *b)?;
     }
-    end();
+    end(rt)
 }

@@ -4,6 +4,7 @@ ghost use Rattle.std.specs.Prelude.{◌≤◌, ◌<◌};
 use crate::print::{say_loaded, say_read, show_bytes};
 use call_load::load;
 use call_read::read;
+use std::io;
 
 // j, or 0 behind the last of n places.
 fn wrapped(j: usize, n: usize) -> usize
@@ -48,209 +49,228 @@ fn spaces() -> [u8; 8192] {
 }
 
 // Reads a text and prints the answer.
-fn say(u: u64, text: &[u8]) {
+fn say(rt: &impl Print, u: u64, text: &[u8]) -> io::Result<()> {
     let mut table = blank_table();
-    say_read(read(u, text, &mut table));
+    say_read(rt, read(u, text, &mut table))
 }
 
 // Reads a text, loads its table and prints load's answer: `penalty P cells C` or `refused N`.
-fn run(u: u64, text: &[u8], masks: &[u64], cells: &mut [u32]) {
+fn run(rt: &impl Print, u: u64, text: &[u8], masks: &[u64], cells: &mut [u32]) -> io::Result<()> {
     let mut table = blank_table();
-    say_read(read(u, text, &mut table));
-    say_loaded(load(&table, masks, cells));
+    say_read(rt, read(u, text, &mut table))?;
+    say_loaded(rt, load(&table, masks, cells))
 }
 
 // A text of four parts, the second and the fourth of so many bytes, laid from pieces; read over one port.
-fn say_long(first: &[u8], piece: &[u8], length: usize, middle: &[u8], last: &[u8], more: usize) {
+fn say_long(
+    rt: &impl Print,
+    first: &[u8],
+    piece: &[u8],
+    length: usize,
+    middle: &[u8],
+    last: &[u8],
+    more: usize,
+) -> io::Result<()> {
     let mut text = spaces();
     let a = lay(&mut text, 0, first.len(), first);
     let b = lay(&mut text, a, length, piece);
     let c = lay(&mut text, b, middle.len(), middle);
     let d = lay(&mut text, c, more, last);
-    say_part(&text, d);
+    say_part(rt, &text, d)
 }
 
 // Reads the first bytes of a text.
-fn say_part(text: &[u8], length: usize) {
+fn say_part(rt: &impl Print, text: &[u8], length: usize) -> io::Result<()> {
     if text.len() < length {
-        return;
+        return Ok(());
     }
-    say(1, &text[0..length]);
+    say(rt, 1, &text[0..length])
 }
 
 // Reads and loads a small plan.
-fn small(u: u64, text: &[u8], masks: &[u64]) {
+fn small(rt: &impl Print, u: u64, text: &[u8], masks: &[u64]) -> io::Result<()> {
     let mut cells = [0u32; 128];
-    run(u, text, masks, &mut cells);
+    run(rt, u, text, masks, &mut cells)
 }
 
 // A plan of one set.
-fn one_set(u: u64, text: &[u8], mask: u64) {
+fn one_set(rt: &impl Print, u: u64, text: &[u8], mask: u64) -> io::Result<()> {
     let masks = [mask, 0];
-    small(u, text, &masks);
+    small(rt, u, text, &masks)
 }
 
 // Plan A.
-fn plan_a() {
+fn plan_a(rt: &impl Print) -> io::Result<()> {
     let masks = [3u64, 7, 1, 0];
-    small(3, b"[STI] @x (x:I <-> x:S & x:T) & #I <= 1", &masks);
+    small(rt, 3, b"[STI] @x (x:I <-> x:S & x:T) & #I <= 1", &masks)
 }
 
 // A plan of two sets.
-fn two_sets(u: u64, text: &[u8]) {
+fn two_sets(rt: &impl Print, u: u64, text: &[u8]) -> io::Result<()> {
     let masks = [1u64, 1, 0];
-    small(u, text, &masks);
+    small(rt, u, text, &masks)
 }
 
 // The starred plans, in the paper's order.
-fn starred() {
-    plan_a();
-    two_sets(2, b"[ST] @x (x/S | x:T) & ?x (x:T & x/S)");
-    one_set(1, b"[S] ?x x:S", 0);
-    one_set(1, b"[S] ?x x:S", 1);
-    one_set(64, b"[S] #S < 0", 0);
-    one_set(64, b"[S] #S > 64", 18446744073709551615);
-    one_set(64, b"[S] #S = 2", 0);
-    one_set(64, b"[S] #S = 2", 15);
-    one_set(64, b"[S] #S != 2", 3);
+fn starred(rt: &impl Print) -> io::Result<()> {
+    plan_a(rt)?;
+    two_sets(rt, 2, b"[ST] @x (x/S | x:T) & ?x (x:T & x/S)")?;
+    one_set(rt, 1, b"[S] ?x x:S", 0)?;
+    one_set(rt, 1, b"[S] ?x x:S", 1)?;
+    one_set(rt, 64, b"[S] #S < 0", 0)?;
+    one_set(rt, 64, b"[S] #S > 64", 18446744073709551615)?;
+    one_set(rt, 64, b"[S] #S = 2", 0)?;
+    one_set(rt, 64, b"[S] #S = 2", 15)?;
+    one_set(rt, 64, b"[S] #S != 2", 3)
 }
 
 // u at its boundaries.
-fn ports() {
-    say(0, b"[S] ?x x:S");
-    say(1, b"[S] ?x x:S");
-    say(64, b"[S] ?x x:S");
-    say(65, b"[S] ?x x:S");
-    say(257, b"[S] ?x x:S");
-    say(4294967299, b"[S] ?x x:S");
+fn ports(rt: &impl Print) -> io::Result<()> {
+    say(rt, 0, b"[S] ?x x:S")?;
+    say(rt, 1, b"[S] ?x x:S")?;
+    say(rt, 64, b"[S] ?x x:S")?;
+    say(rt, 65, b"[S] ?x x:S")?;
+    say(rt, 257, b"[S] ?x x:S")?;
+    say(rt, 4294967299, b"[S] ?x x:S")
 }
 
 // Bytes of no token, and texts outside the grammar.
-fn bytes_and_grammar() {
-    say(1, b"[S]#S<1 - $");
-    say(1, b"[S]#S<1 - ");
-    say(1, b"[S]\t#S<1");
-    say(1, b"");
-    say(1, b"[]#S<1");
-    say(1, b"[S]");
-    say(1, b"[S]\n#S\n<1\n");
-    say(1, b"[S] #S < = 1");
+fn bytes_and_grammar(rt: &impl Print) -> io::Result<()> {
+    say(rt, 1, b"[S]#S<1 - $")?;
+    say(rt, 1, b"[S]#S<1 - ")?;
+    say(rt, 1, b"[S]\t#S<1")?;
+    say(rt, 1, b"")?;
+    say(rt, 1, b"[]#S<1")?;
+    say(rt, 1, b"[S]")?;
+    say(rt, 1, b"[S]\n#S\n<1\n")?;
+    say(rt, 1, b"[S] #S < = 1")
 }
 
 // Constants, and two arrows.
-fn constants() {
-    say(1, b"[S] #S <= 64");
-    say(1, b"[S] #S <= 65");
-    say(1, b"[S] #S <= 064");
-    say(1, b"[S] #S <= 99999999999999999999999999999999999999999");
-    say(1, b"[S] #S<1->#S<2->#S<3");
+fn constants(rt: &impl Print) -> io::Result<()> {
+    say(rt, 1, b"[S] #S <= 64")?;
+    say(rt, 1, b"[S] #S <= 65")?;
+    say(rt, 1, b"[S] #S <= 064")?;
+    say(
+        rt,
+        1,
+        b"[S] #S <= 99999999999999999999999999999999999999999",
+    )?;
+    say(rt, 1, b"[S] #S<1->#S<2->#S<3")
 }
 
 // Names of variables and sets.
-fn names() {
-    say(1, b"[S] @x @x x:S");
-    say(1, b"[S] @x x:S & x:S");
-    say(1, b"[S] @x x:S & @x x:S");
-    say(1, b"[S] @x x:T");
-    say(1, b"[SS] #S<1");
-    say(1, b"[ABCDEFGHIJKLMNOP] #A<1");
-    say(1, b"[ABCDEFGHIJKLMNOPQ] #A<1");
+fn names(rt: &impl Print) -> io::Result<()> {
+    say(rt, 1, b"[S] @x @x x:S")?;
+    say(rt, 1, b"[S] @x x:S & x:S")?;
+    say(rt, 1, b"[S] @x x:S & @x x:S")?;
+    say(rt, 1, b"[S] @x x:T")?;
+    say(rt, 1, b"[SS] #S<1")?;
+    say(rt, 1, b"[ABCDEFGHIJKLMNOP] #A<1")?;
+    say(rt, 1, b"[ABCDEFGHIJKLMNOPQ] #A<1")
 }
 
 // The fourth quantifier, and too many cells.
-fn quantifiers() {
-    say(1, b"[S] @x@y@zx<z");
-    say(1, b"[S] @x@y@z?wx<w");
-    say(64, b"[S] @x @y @z (x:S & y:S)");
-    say(64, b"[S] @x @y @z (x:S & y:S & z:S)");
+fn quantifiers(rt: &impl Print) -> io::Result<()> {
+    say(rt, 1, b"[S] @x@y@zx<z")?;
+    say(rt, 1, b"[S] @x@y@z?wx<w")?;
+    say(rt, 64, b"[S] @x @y @z (x:S & y:S)")?;
+    say(rt, 64, b"[S] @x @y @z (x:S & y:S & z:S)")
 }
 
 // A literal and a piece again and again.
-fn say_tail(piece: &[u8], length: usize) {
-    say_long(b"[S] #S<1", piece, length, b"", b"", 0);
+fn say_tail(rt: &impl Print, piece: &[u8], length: usize) -> io::Result<()> {
+    say_long(rt, b"[S] #S<1", piece, length, b"", b"", 0)
 }
 
 // A literal inside pieces.
-fn say_nested(piece: &[u8], length: usize, last: &[u8], more: usize) {
-    say_long(b"[S] ", piece, length, b"#S<1", last, more);
+fn say_nested(
+    rt: &impl Print,
+    piece: &[u8],
+    length: usize,
+    last: &[u8],
+    more: usize,
+) -> io::Result<()> {
+    say_long(rt, b"[S] ", piece, length, b"#S<1", last, more)
 }
 
 // So many `(` and `)`, with no space, so that more of them fit.
-fn say_brackets(length: usize, more: usize) {
-    say_long(b"[S]", b"(", length, b"#S<1", b")", more);
+fn say_brackets(rt: &impl Print, length: usize, more: usize) -> io::Result<()> {
+    say_long(rt, b"[S]", b"(", length, b"#S<1", b")", more)
 }
 
 // Texts of 4,096 and 4,097 bytes.
-fn lengths() {
-    say_tail(b" ", 4088);
-    say_tail(b" ", 4089);
+fn lengths(rt: &impl Print) -> io::Result<()> {
+    say_tail(rt, b" ", 4088)?;
+    say_tail(rt, b" ", 4089)
 }
 
 // 64 and 65 of `~` and `(`, and thousands.
-fn nestings() {
-    say_nested(b"~", 64, b"", 0);
-    say_nested(b"~", 65, b"", 0);
-    say_nested(b"(", 64, b")", 64);
-    say_nested(b"(", 65, b")", 65);
-    say_brackets(2044, 2044);
-    say_brackets(4088, 0);
+fn nestings(rt: &impl Print) -> io::Result<()> {
+    say_nested(rt, b"~", 64, b"", 0)?;
+    say_nested(rt, b"~", 65, b"", 0)?;
+    say_nested(rt, b"(", 64, b")", 64)?;
+    say_nested(rt, b"(", 65, b")", 65)?;
+    say_brackets(rt, 2044, 2044)?;
+    say_brackets(rt, 4088, 0)
 }
 
 // 512 and 513 nodes, and `<->` nested 64 deep.
-fn many_nodes() {
-    say_tail(b"&#S<1", 2545);
-    say_tail(b"&#S<1", 2550);
-    say_nested(b"(", 64, b"<->#S<1)", 512);
-    say_nested(b"(", 64, b"<->#S<1)", 513);
+fn many_nodes(rt: &impl Print) -> io::Result<()> {
+    say_tail(rt, b"&#S<1", 2545)?;
+    say_tail(rt, b"&#S<1", 2550)?;
+    say_nested(rt, b"(", 64, b"<->#S<1)", 512)?;
+    say_nested(rt, b"(", 64, b"<->#S<1)", 513)
 }
 
 // Reads a text into the first bytes of a table.
-fn say_short(text: &[u8], table: &mut [u8], length: usize) {
+fn say_short(rt: &impl Print, text: &[u8], table: &mut [u8], length: usize) -> io::Result<()> {
     if table.len() < length {
-        return;
+        return Ok(());
     }
-    say_read(read(1, text, &mut table[0..length]));
+    say_read(rt, read(1, text, &mut table[0..length]))
 }
 
 // Reads into a table of this length, and shows what is there.
-fn table_of(length: usize) {
+fn table_of(rt: &impl Print, length: usize) -> io::Result<()> {
     let mut table = [7u8; 36];
-    say_short(b"[S] ?x x:S", &mut table, length);
-    show_bytes(&table);
+    say_short(rt, b"[S] ?x x:S", &mut table, length)?;
+    show_bytes(rt, &table)
 }
 
 // One byte less than the plan's length: the old bytes stay. Then just its length.
-fn tables() {
-    table_of(32);
-    table_of(33);
+fn tables(rt: &impl Print) -> io::Result<()> {
+    table_of(rt, 32)?;
+    table_of(rt, 33)
 }
 
 // A plan over 64 ports, the set empty.
-fn large(text: &[u8], cells: &mut [u32]) {
+fn large(rt: &impl Print, text: &[u8], cells: &mut [u32]) -> io::Result<()> {
     let none = [0u64, 0];
-    run(64, text, &none, cells);
+    run(rt, 64, text, &none, cells)
 }
 
 // 65,536 conjuncts are false: 16 bits would have stored 0. Then 790,594 cells, and one conjunct more.
-pub fn large_plans(cells: &mut [u32]) {
+pub fn large_plans(rt: &impl Print, cells: &mut [u32]) -> io::Result<()> {
     large(
+        rt,
         b"[S] @x @y (x:S&x:S&x:S&x:S&x:S&x:S&x:S&x:S&x:S&x:S&x:S&x:S&x:S&x:S&x:S&x:S)",
         cells,
-    );
-    large(b"[S] @x @y @z (x:S & y:S)", cells);
-    large(b"[S] @x @y @z (x:S & y:S & z:S)", cells);
+    )?;
+    large(rt, b"[S] @x @y @z (x:S & y:S)", cells)?;
+    large(rt, b"[S] @x @y @z (x:S & y:S & z:S)", cells)
 }
 
 // The small texts, ground by ground.
-pub fn all() {
-    starred();
-    ports();
-    bytes_and_grammar();
-    constants();
-    names();
-    quantifiers();
-    lengths();
-    nestings();
-    many_nodes();
-    tables();
+pub fn all(rt: &impl Print) -> io::Result<()> {
+    starred(rt)?;
+    ports(rt)?;
+    bytes_and_grammar(rt)?;
+    constants(rt)?;
+    names(rt)?;
+    quantifiers(rt)?;
+    lengths(rt)?;
+    nestings(rt)?;
+    many_nodes(rt)?;
+    tables(rt)
 }

@@ -3,23 +3,22 @@
 
 use plantable_bytes::answer;
 use program_io::{Input, gather, give};
+use std::io;
 
 // Writes the plan table of an input, by one write if the system takes it whole. 4,105 bytes have room for every plan.
-fn say(input: &[u8]) {
+fn say(rt: &HostRuntime, input: &[u8]) -> io::Result<()> {
     let mut table = [0u8; 4105];
     let given = answer(input, &mut table);
-    if !give(given, &table) {
-        os::fail(b"plantable: standard output");
-    }
+    give(rt, given, &table)
 }
 
 // 20 digits, the line end and one byte more than the longest text decide, so more need not be kept. Where a read fails, nothing is
-// written but a line on standard error: half an input is no input.
-fn main() {
+// written and main ends with an error: half an input is no input.
+fn main(rt: HostRuntime) -> io::Result<()> {
     let mut kept = [0u8; 4118];
-    let input = gather(&mut kept);
+    let input = gather(&mut rt.stdin(), &mut kept);
     match input {
-        Input::Kept(n) => say(&kept[..n]),
-        Input::Failed => os::fail(b"plantable: standard input"),
+        Input::Kept(n) => say(&rt, &kept[..n]),
+        Input::Failed => Err(io::Error::other("plantable: standard input")),
     }
 }

@@ -3,23 +3,22 @@
 
 use plantext_bytes::answer;
 use program_io::{Input, gather, give};
+use std::io;
 
 // Prints the text of an input, by one write if the system takes it whole. 4,097 bytes have room for every text and the line end.
-fn say(input: &[u8]) {
+fn say(rt: &HostRuntime, input: &[u8]) -> io::Result<()> {
     let mut text = [0u8; 4097];
     let given = answer(input, &mut text);
-    if !give(given, &text) {
-        os::fail(b"plantext: standard output");
-    }
+    give(rt, given, &text)
 }
 
-// No plan table has more than 4,105 bytes, so more need not be kept. Where a read fails, nothing is written but a line on standard
-// error: half an input is no input.
-fn main() {
+// No plan table has more than 4,105 bytes, so more need not be kept. Where a read fails, nothing is written and main ends with
+// an error: half an input is no input.
+fn main(rt: HostRuntime) -> io::Result<()> {
     let mut kept = [0u8; 4105];
-    let input = gather(&mut kept);
+    let input = gather(&mut rt.stdin(), &mut kept);
     match input {
-        Input::Kept(n) => say(&kept[..n]),
-        Input::Failed => os::fail(b"plantext: standard input"),
+        Input::Kept(n) => say(&rt, &kept[..n]),
+        Input::Failed => Err(io::Error::other("plantext: standard input")),
     }
 }

@@ -7,6 +7,8 @@ ghost use Rattle.program_io.specs.inner.Known.{most_kept, KnownInput};
 
 use planroot_print::{Line, put_line};
 use program_bytes::Given;
+use std::io;
+use std::io::Read;
 use text_put::put_bytes;
 
 // How many bytes of standard input are kept; or a read failed.
@@ -16,20 +18,19 @@ pub enum Input {
     Failed,
 }
 
-// Keeps the bytes of standard input at the front of a lent table, to the input's end or as many as there are places for. Each piece
-// has a byte at least, so the places run out if the input does not.
-pub fn gather(kept: &mut [u8]) -> Input
+// Keeps the bytes of a reader at the front of a lent table, to its end or as many as there are places for. Each piece has a byte at
+// least, so the places run out if the reader does not.
+pub fn gather<R: Read>(reader: &mut R, kept: &mut [u8]) -> Input
     requires { length kept.old ≤ most_kept }
     ensures { KnownInput result kept.new }
 {
     let mut at = 0;
-    let mut piece = io::buffer();
+    let mut piece = [0u8; 4096];
     while at < kept.len() {
-        let got = libc::read(libc::STDIN_FILENO, &mut piece);
-        if got < 0 {
-            return Input::Failed;
-        }
-        let n = io::count(got, &piece);
+        let n = match reader.read(&mut piece) {
+            Ok(n) => n,
+            Err(_) => return Input::Failed,
+        };
         if n == 0 {
             return Input::Kept(at);
         }
@@ -38,23 +39,19 @@ pub fn gather(kept: &mut [u8]) -> Input
     Input::Kept(kept.len())
 }
 
-// "`refused N` on standard error and nothing on standard output". A program of Rattle has no exit status of its own: it ends with 0,
-// as planroot does on a refusal.
-fn refuse(number: u8) {
+// "`refused N` on standard error and nothing on standard output". The exit status is 0 then, as planroot's is on a refusal.
+fn refuse(rt: &HostRuntime, number: u8) -> io::Result<()> {
     let mut out = [0u8; 36];
     let n = put_line(&mut out, Line::Refusal(number));
-    io::write_all(libc::STDERR_FILENO, &out[..n]);
+    Print::write_all(&rt.stderr(), &out[..n])
 }
 
-// Writes what is given: whether standard output took it.
-pub fn give(given: Given, table: &[u8]) -> bool
+// Writes what is given: an error where standard output, or standard error for a refusal, does not take it.
+pub fn give(rt: &HostRuntime, given: Given, table: &[u8]) -> io::Result<()>
     requires { named_bytes given ≤ length table.now }
 {
     match given {
-        Given::Bytes(n) => io::write_all(libc::STDOUT_FILENO, &table[..n]),
-        Given::Refusal(n) => {
-            refuse(n);
-            true
-        }
+        Given::Bytes(n) => rt.write_all(&table[..n]),
+        Given::Refusal(n) => refuse(rt, n),
     }
 }
