@@ -27,3 +27,18 @@ pub returns : goal.returns
 unfolding tag
 returns c =
     none_over _ _ _ _ _ _ _ _ _ _ record { no_move = c.if-tag-eq1.false; no-trial = c.if-tag-eq2.false; no-improve = c.if-tag-eq3.false; no-best = c.if-tag-eq4.false; no-undo = c.if-tag-eq5.false; no_test = no-test-tag _ (sym c.is_test.ensures ∙ c.if-is_test.false) }
+
+pub returns-then-tag-eq2 : goal.returns-then-tag-eq2
+unfolding tag cells_lent
+returns-then-tag-eq2 c =
+    one-trial _ _ _ _ _ _ _ _ _ _ _ (c.lesser-lent.result - 0) (part-lent c.args.scratch.now _ c.wide.result c.lesser-lent.result c.wide.ensures.0 c.lesser-lent.ensures) _ _ _ _ c.worked-then-tag-eq2.ensures c.if-tag-eq2.true c.move_of-m.ensures c.trial.ensures.answer c.trial.ensures.lent c.tell_moved-then-tag-eq2.ensures
+
+pub returns-then-tag-eq3 : goal.returns-then-tag-eq3
+unfolding tag cells_lent kinds_of move_of
+returns-then-tag-eq3 c =
+    one-improve _ _ _ _ _ _ _ _ _ _ _ (c.lesser-lent.result - 0) (part-lent c.args.scratch.now _ c.wide.result c.lesser-lent.result c.wide.ensures.0 c.lesser-lent.ensures) _ _ (ap (λ (m : Move). m.kind) c.move_of-m.ensures) _ _ _ _ c.chosen_of-chosen.ensures c.worked-then-tag-eq3.ensures c.if-tag-eq3.true c.improve-a.ensures.answer c.improve-a.ensures.lent c.tell_improved.ensures
+
+pub returns-then-tag-eq4 : goal.returns-then-tag-eq4
+unfolding tag cells_lent records_lent kinds_of move_of
+returns-then-tag-eq4 c =
+    one-best _ _ _ _ _ _ _ _ _ _ _ (c.lesser-lent.result - 0) (part-lent c.args.scratch.now _ c.wide.result c.lesser-lent.result c.wide.ensures.0 c.lesser-lent.ensures) _ _ (ap (λ (m : Move). m.kind) c.move_of-m.ensures) _ (c.lesser-listed.result - 0) (part-lent c.args.list.now _ c.wide-then-tag-eq4.result c.lesser-listed.result (c.wide-then-tag-eq4.ensures.0 ∙ ap (λ (m : Move). m.s) c.move_of-m.ensures) c.lesser-listed.ensures) (omega (arith, c.lesser-listed.ensures)) _ c.best_moves.auto.list _ c.worked-then-tag-eq4.ensures c.if-tag-eq4.true c.best_moves.ensures.answer c.best_moves.ensures.lent c.tell_counted.ensures
