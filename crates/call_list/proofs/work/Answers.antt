@@ -89,10 +89,6 @@ pub shape_of-answers-then-not-one : goal.shape_of-answers-then-not-one
 shape_of-answers-then-not-one c =
     answers-there _ _ _ _ _ c.loop-from.invariant _ (fits-true _ _ _ _ c.loop-from-test.true c.next_fits.ensures) (none-at _ _ _ _ _ _ _ _ _ _ _ _ _ _ _ _ _ c.work_one-one.ensures refl c.record_at-newest.ensures c.newest_place.ensures (not-true _ c.if-not-one.true))
 
-pub returns-then-not-one : goal.returns-then-not-one
-returns-then-not-one c =
-    (worked-there _ _ _ _ _ c.loop-from.invariant _ (fits-true _ _ _ _ c.loop-from-test.true c.next_fits.ensures) (none-at _ _ _ _ _ _ _ _ _ _ _ _ _ _ _ _ _ c.work_one-one.ensures refl c.record_at-newest.ensures c.newest_place.ensures (not-true _ c.if-not-one.true)), unknown-there _ _ _ _ _ c.loop-from.invariant _ (fits-true _ _ _ _ c.loop-from-test.true c.next_fits.ensures) (none-at _ _ _ _ _ _ _ _ _ _ _ _ _ _ _ _ _ c.work_one-one.ensures refl c.record_at-newest.ensures c.newest_place.ensures (not-true _ c.if-not-one.true)))
-
 pub record_place-requires : goal.record_place-requires
 record_place-requires c =
     tt
@@ -137,6 +133,10 @@ pub shape_of-answers : goal.shape_of-answers
 shape_of-answers c =
     same-answers _ _ _ _ _ c.loop-from.invariant
 
+pub returns-then-not-one : goal.returns-then-not-one
+returns-then-not-one c =
+    record { run = worked-there _ _ _ _ _ c.loop-from.invariant _ (fits-true _ _ _ _ c.loop-from-test.true c.next_fits.ensures) (none-at _ _ _ _ _ _ _ _ _ _ _ _ _ _ _ _ _ c.work_one-one.ensures refl c.record_at-newest.ensures c.newest_place.ensures (not-true _ c.if-not-one.true)); stopped = unknown-there _ _ _ _ _ c.loop-from.invariant _ (fits-true _ _ _ _ c.loop-from-test.true c.next_fits.ensures) (none-at _ _ _ _ _ _ _ _ _ _ _ _ _ _ _ _ _ c.work_one-one.ensures refl c.record_at-newest.ensures c.newest_place.ensures (not-true _ c.if-not-one.true)) }
+
 pub returns : goal.returns
 returns c =
-    (c.loop-from.invariant.so_far, ends_there _ _ _ _ _ c.loop-from.invariant _ c.loop-from-test.false c.next_fits.ensures)
+    record { run = c.loop-from.invariant.so_far; stopped = ends_there _ _ _ _ _ c.loop-from.invariant _ c.loop-from-test.false c.next_fits.ensures }
