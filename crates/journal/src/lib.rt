@@ -1,5 +1,4 @@
-// The lent journal of move records: a slice of structs. Paper 02, request 2026-03. The borrow checker plans no function over a slice
-// of structs: these two are proved by walks of their MIR by hand, and what calls them over a plan that tools/plan.py writes.
+// The lent journal of move records: a slice of structs. Paper 02, request 2026-03. These two alone name a record of it.
 #![tactic(auto)]
 
 ghost use Rattle.std.specs.Prelude.{◌≡◌, set, get_or};

@@ -11,7 +11,7 @@ use print::heading;
 use std::alloc::{AllocError, Global};
 use std::io;
 
-// Room for the largest plans, on the heap: it is too large for the stack.
+// Room for the largest plans, on the heap: handed back as an array it would stand on the stack more than once.
 fn room(alloc: Global) -> Result<Vec<u32>, AllocError> {
     vec![in alloc; 0; 800000]
 }

@@ -1,11 +1,11 @@
 -- Pieces of an input, gathered; bytes given. Assumes nothing.
 use mathlib.Core.Path.{◌≡◌, subst}
-use mathlib.Core.List.{List, ◌++◌}
+use mathlib.Core.List.{List, [], ◌++◌}
 use Prim.Native.Nat.{ℕ, ◌≤◌, min}
 use native.Mathlib.Omega.{arith}
 use lib.ListN.{length}
 use Rattle.text_put.specs.inner.Puts.{Puts}
-use Rattle.text_put.proofs.Putting.{puts-more}
+use Rattle.text_put.proofs.Putting.{puts_none, puts-more, puts-length}
 use Rattle.program_bytes.specs.declared.Given.{Given}
 use Rattle.program_bytes.specs.declared.Given.TheVariants.{Bytes}
 use Rattle.program_bytes.specs.Outcome.{named_bytes, Kept}
@@ -15,9 +15,15 @@ use Rattle.program_io.specs.declared.Input.TheVariants as input
 use Rattle.program_io.specs.inner.Known.{Gathered, KnownKept, KnownInput}
 
 module _ (before : List ℕ) where
+  pub gathered_none : Gathered before 0 before
+  gathered_none = record { input = []; put = puts_none 0 before }
+
   module _ (at : ℕ) (table : List ℕ) (G : Gathered before at table) where
     pub gathered-more : (piece : List ℕ) (end : ℕ) (table' : List ℕ) → Puts at piece table end table' → Gathered before end table'
     gathered-more piece end table' P = record { input = G.input ++ piece; put = puts-more 0 before G.input piece at end table table' G.put P }
+
+    pub gathered-length : length table ≡ length before
+    gathered-length = puts-length 0 before G.input at table G.put
 
     gathered-kept : (n : ℕ) → min (length table) at ≡ n → KnownInput (input.Kept n) table
     unfolding KnownInput
