@@ -2,7 +2,6 @@
 #![tactic(auto)]
 
 ghost use Rattle.std.specs.Prelude.{◌≡◌};
-ghost use Rattle.contracts.specs.declared.Moved.TheVariants.{Accepted};
 ghost use Rattle.contracts.specs.declared.Improved.TheVariants.{Made};
 ghost use Rattle.contracts.specs.Load.{load_values};
 ghost use Rattle.contracts.specs.MoveCall.{move_values};
@@ -13,14 +12,14 @@ ghost use Rattle.answers.specs.Boundary.{ReadFields, LoadFields, CountFields};
 ghost use Rattle.answers.specs.Moving.{MoveFields, ImproveFields};
 
 use cells_sum::After;
-use contracts::{Answer, Counted, Improved, Loaded, Moved};
-use logic::{Move, no_move};
+use contracts::{Improved, Loaded, Moved, Read};
+use logic::{Move, Refusal, no_move};
 
 // Root before, root after, and how many cells differ.
 pub fn accepted(r: After) -> Moved
-    ensures { result ≡ Accepted r.old r.value r.changed }
+    ensures { result ≡ record { before = r.old; after = r.value; changed = r.changed } }
 {
-    Moved::Accepted {
+    Moved {
         before: r.old,
         after: r.value,
         changed: r.changed,
@@ -58,17 +57,17 @@ pub struct LoadAnswer {
 }
 
 // Reading's answer as its C struct.
-pub fn read_fields(a: Answer) -> ReadAnswer
+pub fn read_fields(a: Result<Read, Refusal>) -> ReadAnswer
     ensures { ReadFields (read_values a) result }
 {
     match a {
-        Answer::Accepted { nodes, cells } => ReadAnswer {
+        Ok(Read { nodes, cells }) => ReadAnswer {
             number: 0,
             nodes,
             cells,
         },
-        Answer::Refused(number) => ReadAnswer {
-            number: number as u32,
+        Err(ground) => ReadAnswer {
+            number: u32::from(ground.number()),
             nodes: 0,
             cells: 0,
         },
@@ -76,17 +75,17 @@ pub fn read_fields(a: Answer) -> ReadAnswer
 }
 
 // Load's answer as its C struct.
-pub fn load_fields(a: Loaded) -> LoadAnswer
+pub fn load_fields(a: Result<Loaded, Refusal>) -> LoadAnswer
     ensures { LoadFields (load_values a) result }
 {
     match a {
-        Loaded::Accepted { root, cells } => LoadAnswer {
+        Ok(Loaded { root, cells }) => LoadAnswer {
             number: 0,
             root,
             cells,
         },
-        Loaded::Refused(number) => LoadAnswer {
-            number: number as u32,
+        Err(ground) => LoadAnswer {
+            number: u32::from(ground.number()),
             root: 0,
             cells: 0,
         },
@@ -116,22 +115,24 @@ pub struct ImproveAnswer {
 }
 
 // A move's or trial's answer as its C struct.
-pub fn move_fields(a: Moved) -> MoveAnswer
+pub fn move_fields(a: Result<Moved, Refusal>) -> MoveAnswer
     ensures { MoveFields (move_values a) result }
 {
     match a {
-        Moved::Accepted {
-            before,
-            after,
-            changed,
-        } => MoveAnswer {
+        Ok(
+            Moved {
+                before,
+                after,
+                changed,
+            },
+        ) => MoveAnswer {
             number: 0,
             before,
             after,
             changed,
         },
-        Moved::Refused(number) => MoveAnswer {
-            number: number as u32,
+        Err(ground) => MoveAnswer {
+            number: u32::from(ground.number()),
             before: 0,
             after: 0,
             changed: 0,
@@ -140,16 +141,18 @@ pub fn move_fields(a: Moved) -> MoveAnswer
 }
 
 // Improve's answer as its C struct; the move is all 0 where none was made.
-pub fn improve_fields(a: Improved) -> ImproveAnswer
+pub fn improve_fields(a: Result<Improved, Refusal>) -> ImproveAnswer
     ensures { ImproveFields (improve_values a) result }
 {
     match a {
-        Improved::Made {
-            chosen,
-            before,
-            after,
-            changed,
-        } => ImproveAnswer {
+        Ok(
+            Improved::Made {
+                chosen,
+                before,
+                after,
+                changed,
+            },
+        ) => ImproveAnswer {
             number: 0,
             found: 1,
             chosen,
@@ -157,7 +160,7 @@ pub fn improve_fields(a: Improved) -> ImproveAnswer
             after,
             changed,
         },
-        Improved::NoBetter { root } => ImproveAnswer {
+        Ok(Improved::NoBetter { root }) => ImproveAnswer {
             number: 0,
             found: 0,
             chosen: no_move(),
@@ -165,8 +168,8 @@ pub fn improve_fields(a: Improved) -> ImproveAnswer
             after: root,
             changed: 0,
         },
-        Improved::Refused(number) => ImproveAnswer {
-            number: number as u32,
+        Err(ground) => ImproveAnswer {
+            number: u32::from(ground.number()),
             found: 0,
             chosen: no_move(),
             before: 0,
@@ -185,13 +188,13 @@ pub struct CountAnswer {
 }
 
 // The answer of a call that counts as its C struct.
-pub fn count_fields(a: Counted) -> CountAnswer
+pub fn count_fields(a: Result<u32, Refusal>) -> CountAnswer
     ensures { CountFields (count_values a) result }
 {
     match a {
-        Counted::Accepted(count) => CountAnswer { number: 0, count },
-        Counted::Refused(number) => CountAnswer {
-            number: number as u32,
+        Ok(count) => CountAnswer { number: 0, count },
+        Err(ground) => CountAnswer {
+            number: u32::from(ground.number()),
             count: 0,
         },
     }

@@ -9,11 +9,13 @@ ghost use Rattle.contracts.specs.Counting.{count_values};
 ghost use Rattle.contracts.specs.BestCall.{lists, ListPromise};
 
 use call_open::open_tables;
-use contracts::Counted;
-use logic::{lesser, own_masks, wide};
+use cells_walk::Plan;
+use logic::{Refusal, own_masks, wide};
 use move_best::{choose, list_best};
 use move_fill::fill_tables;
 use move_order::kinds_known;
+use move_tables::FlipTables;
+use table_format::Index;
 
 // Lists the legal moves of the kinds that leave the least root, in their order: tries 11 to 14, counts the best of the candidates, then
 // tries 16, and only then goes over the candidates again and writes the list.
@@ -24,20 +26,15 @@ pub fn best_moves(
     scratch: &mut [u32],
     kinds: u32,
     list: &mut [[u32; 5]],
-) -> Counted
+) -> Result<u32, Refusal>
     ensures answer { ListPromise (lists (decode table.now) kinds (tables masks.now cells.now) (length scratch.old) (length list.old)) result list.old list.new }
     ensures lent { ScratchAfter (decode table.now) (count_values result).number scratch.old scratch.new }
 {
-    let mut firsts = [0u32; 512];
-    let mut ends = [0u16; 512];
-    let mut uses = [0u64; 512];
-    let shortest = lesser(cells.len(), scratch.len());
-    let o = open_tables(table, masks, shortest, &mut firsts, &mut ends, &mut uses);
-    if o.number != 0 {
-        return Counted::Refused(o.number);
-    }
+    let mut index = Index::new();
+    let shortest = cells.len().min(scratch.len());
+    let o = open_tables(table, masks, shortest, &mut index)?;
     if !kinds_known(kinds) {
-        return Counted::Refused(14);
+        return Err(Refusal::Unknown);
     }
     let mut one = [0u32; 4096];
     let mut still = [0u32; 64];
@@ -45,58 +42,42 @@ pub fn best_moves(
     let mut lists = [0u16; 1024];
     let own = own_masks(o.sets);
     let own_cells = o.cells;
-    let left = fill_tables(
+    let plan = Plan {
         table,
-        &firsts,
-        &ends,
-        &uses,
+        index: &index,
+        ports: o.ports,
+        sets: o.sets,
+    };
+    let left = fill_tables(
+        &plan,
         &masks[0..own],
         &cells[0..own_cells],
-        o.ports,
-        o.sets,
         kinds,
         &mut one,
         &mut still,
         &mut joint,
         &mut lists,
     );
-    let c = choose(
-        table,
-        &firsts,
-        &ends,
-        &uses,
-        &masks[0..own],
-        &cells[0..own_cells],
-        o.ports,
-        o.sets,
-        kinds,
-        &one,
-        &still,
-        &joint,
-        &lists,
+    let tables = FlipTables {
+        one: &one,
+        still: &still,
+        joint: &joint,
+        lists: &lists,
         left,
-    );
+    };
+    let c = choose(&plan, &masks[0..own], &cells[0..own_cells], kinds, &tables);
     let count = wide(c.count);
     if list.len() < count {
-        return Counted::Refused(16);
+        return Err(Refusal::ListTooShort);
     }
     list_best(
-        table,
-        &firsts,
-        &ends,
-        &uses,
+        &plan,
         &masks[0..own],
         &cells[0..own_cells],
-        o.ports,
-        o.sets,
         kinds,
-        &one,
-        &still,
-        &joint,
-        &lists,
-        left,
+        &tables,
         c,
         list,
     );
-    Counted::Accepted(c.count)
+    Ok(c.count)
 }

@@ -6,6 +6,11 @@ use Prim.Native.Nat.{ℕ, zero, suc, min}
 use native.Mathlib.Omega.{arith}
 use lib.ListN.{length, get_or}
 use lib.Seq.{get_or-take}
+use Rattle.std.specs.Prelude.{Result, Ok, Err}
+use Rattle.logic.specs.declared.refusal.Refusal.{Refusal}
+use Rattle.logic.specs.Refusal.{refusal_number}
+use Rattle.logic.specs.declared.refusal.Refusal.TheVariants.{Unknown, JournalFull}
+use Rattle.logic.proofs.Refusals.{all-told}
 use Rattle.logic.specs.Formula.{Plan}
 use Rattle.logic.specs.Cells.{own_cells}
 use Rattle.logic.specs.Moves.{refusal, kinds_known}
@@ -13,13 +18,13 @@ use Rattle.table_format.specs.Decode.{Decoded, sound, decode}
 use Rattle.contracts.specs.State.{State, tables, own_tables, with_rest}
 use Rattle.contracts.specs.Journal.{count_past, full, count_after}
 use Rattle.contracts.specs.declared.Improved.{Improved}
-use Rattle.contracts.specs.declared.Improved.TheVariants.{Made, NoBetter, Refused}
+use Rattle.contracts.specs.declared.Improved.TheVariants.{Made, NoBetter}
 use Rattle.contracts.specs.MoveCall.{tables_after, moves_own}
-use Rattle.contracts.specs.ImproveCall.{ImproveValues, improve_refused, improve_made, no_better, improve_values, ImproveTold, would_make, chosen_grounds, improve_grounds, root_now, best_moves, improves_own, improves, improve_makes, ImprovePromise}
-use Rattle.contracts.proofs.Calls.{call-refused, call-accepted, own-whole}
+use Rattle.contracts.specs.ImproveCall.{ImproveValues, improve_refused, improve_made, no_better, improve_values, would_make, chosen_grounds, improve_grounds, root_now, best_moves, improves_own, improves, improve_makes, ImprovePromise}
+use Rattle.contracts.proofs.Calls.{call-refuses, call-accepted, own-whole}
 use Rattle.cells_sum.specs.declared.After.{After}
 use Rattle.call_open.specs.inner.Opening.{open_number}
-use Rattle.call_open.proofs.Opening.{two-tables, Tries, tries-journal, root-cell}
+use Rattle.call_open.proofs.Opening.{two-tables, Tries, shut, tries-journal, root-cell}
 use Rattle.call_open.proofs.OfKinds.{kinds-unknown, kinds-pass}
 use Rattle.move_try.proofs.OpenMove.{answer-is}
 use Rattle.move_make.specs.inner.Carrying.{Carried}
@@ -45,35 +50,34 @@ module _ (bytes : List ℕ) (kinds : ℕ) (masks cells : List ℕ) (scratch room
   tried = tries-journal bytes before (min (length cells) scratch) (scratch ∷ []) _ room count (two-tables (length cells) scratch)
 
   -- what the answer and the tables are, and the count by them
-  gives : (r : Improved) (s' : State) (count' : ℕ) → improve_values r ≡ given.0 → ImproveTold r → s' ≡ given.1
+  gives : (r : Result Improved Refusal) (s' : State) (count' : ℕ) → improve_values r ≡ given.0 → s' ≡ given.1
       → count' ≡ count_after (improve_makes (improve_values r)) count → ImprovePromise given count r s' count'
-  gives r s' count' v t e c = record {
+  gives r s' count' v e c = record {
     values-are = v;
-    told = t;
+    told = all-told r;
     tables-are = e;
     count-is = c ∙ ap (λ (x : ImproveValues). count_after (improve_makes x) count) v;
   }
 
   -- a ground applies
-  refused : (n : ℕ) → (n ≡ 0 → ⊥) → refusal (improve_grounds d before (scratch ∷ []) room count kinds) ≡ n → ImprovePromise given count (Refused n) before count
-  refused zero h e = absurd (h refl)
-  refused (suc g) h e = unfold improves improve_values improve_refused improve_makes count_after ImproveTold in
-      let q = call-refused improve_refused (improves_own kinds) (improve_grounds d before (scratch ∷ []) room count kinds) d before g e in
-      gives (Refused (suc g)) before count (sym (ap (λ (x : ImproveValues × State). x.0) q)) h (sym (ap (λ (x : ImproveValues × State). x.1) q)) refl
+  refused : (g : Refusal) → refusal (improve_grounds d before (scratch ∷ []) room count kinds) ≡ refusal_number g → ImprovePromise given count (Err g) before count
+  unfolding improves improve_values improve_refused improve_makes count_after
+  refused g e =
+      let q = call-refuses improve_refused (improves_own kinds) (improve_grounds d before (scratch ∷ []) room count kinds) d before g e in
+      gives (Err g) before count (sym (ap (λ (x : ImproveValues × State). x.0) q)) (sym (ap (λ (x : ImproveValues × State). x.1) q)) refl
 
   -- 11 to 13
-  pub improve-shut : (n : ℕ) → (n ≡ 0 → ⊥) → n ≡ open_number d masks shortest → ImprovePromise given count (Refused n) before count
-  improve-shut zero h q = absurd (h refl)
-  improve-shut (suc g) h q = refused (suc g) h (tried.shut g q)
+  pub improve-shut : (g : Refusal) → refusal_number g ≡ open_number d masks shortest → ImprovePromise given count (Err g) before count
+  improve-shut g q = refused g (shut tried g q)
 
   module _ (P : Plan) (e : d ≡ sound P) (opens : open_number d masks shortest ≡ 0) where
     abbrev own : State
     own = own_tables P before
 
     -- 14
-    pub improve-unknown : kinds_known kinds ≡ false → ImprovePromise given count (Refused 14) before count
-    unfolding chosen_grounds
-    improve-unknown h = refused 14 (λ z. omega arith) (kinds-unknown kinds tried P e opens h)
+    pub improve-unknown : kinds_known kinds ≡ false → ImprovePromise given count (Err Unknown) before count
+    unfolding chosen_grounds refusal_number
+    improve-unknown h = refused Unknown (kinds-unknown kinds tried P e opens h)
 
     module _ (known-kinds : kinds_known kinds ≡ true) (c : Choice) (chooses : BestIs (best_moves P kinds own) P own c) (root : ℕ) (root_is : root ≡ root_now own.cells) where
       -- 18
@@ -83,8 +87,9 @@ module _ (bytes : List ℕ) (kinds : ℕ) (masks cells : List ℕ) (scratch room
           kinds-pass kinds tried P e opens known-kinds
           ∙ (λ i. cond ((would-make P own c root root_is kinds chooses ∙ f) i && g i) 18 0)
 
-      pub improve-full : lowers_by c root ≡ true → full room count ≡ true → ImprovePromise given count (Refused 18) before count
-      improve-full f g = refused 18 (λ z. omega arith) (number true true f g)
+      pub improve-full : lowers_by c root ≡ true → full room count ≡ true → ImprovePromise given count (Err JournalFull) before count
+      unfolding refusal_number
+      improve-full f g = refused JournalFull (number true true f g)
 
       -- no ground applies
       accepted : refusal (improve_grounds d before (scratch ∷ []) room count kinds) ≡ 0 → given ≡ ((improves_own kinds P own).0, with_rest P (improves_own kinds P own).1 before)
@@ -94,25 +99,25 @@ module _ (bytes : List ℕ) (kinds : ℕ) (masks cells : List ℕ) (scratch room
           ∙ call-accepted improve_refused (improves_own kinds) (improve_grounds (sound P) before (scratch ∷ []) room count kinds) P before
           (ap (λ (x : Decoded). refusal (improve_grounds x before (scratch ∷ []) room count kinds)) (sym e) ∙ h)
 
-      pub improve-none : lowers_by c root ≡ false → ImprovePromise given count (NoBetter root) before count
-      unfolding improve_values no_better improve_makes count_after ImproveTold improves_own
+      pub improve-none : lowers_by c root ≡ false → ImprovePromise given count (Ok (NoBetter root)) before count
+      unfolding improve_values no_better improve_makes count_after improves_own
       improve-none f =
           let q = improve-stays P own c root root_is (best_moves P kinds own) chooses f in
           let a = accepted (number false (full room count) f refl) in
-          gives (NoBetter root) before count
-          (sym (ap (λ (x : ImproveValues × State). x.0) a ∙ ap (λ (x : ImproveValues × State). x.0) q)) tt
+          gives (Ok (NoBetter root)) before count
+          (sym (ap (λ (x : ImproveValues × State). x.0) a ∙ ap (λ (x : ImproveValues × State). x.0) q))
           (own-whole P before ∙ sym (ap (λ (x : ImproveValues × State). x.1) a ∙ ap (λ (x : ImproveValues × State). with_rest P x.1 before) q)) refl
 
       pub improve-made : lowers_by c root ≡ true → full room count ≡ false → (r : After) (masks' cells' : List ℕ) (count' : ℕ)
           → Carried P c.m masks cells r masks' cells' → count' ≡ suc count
-          → ImprovePromise given count (Made c.m r.old r.value r.changed) (tables masks' cells') count'
-      unfolding improve_values improve_made improve_makes count_after ImproveTold improves_own moves_own tables_after with_rest own_tables
+          → ImprovePromise given count (Ok (Made c.m r.old r.value r.changed)) (tables masks' cells') count'
+      unfolding improve_values improve_made improve_makes count_after improves_own moves_own tables_after with_rest own_tables
       improve-made f g r masks' cells' count' carried raised =
           let q = improve-makes P own c root root_is (best_moves P kinds own) chooses f in
           let a = accepted (number true false f g) in
-          gives (Made c.m r.old r.value r.changed) (tables masks' cells') count'
+          gives (Ok (Made c.m r.old r.value r.changed)) (tables masks' cells') count'
           (ap (improve_made c.m) (answer-is P own.masks own.cells c.m r carried.numbers)
-          ∙ sym (ap (λ (x : ImproveValues × State). x.0) a ∙ ap (λ (x : ImproveValues × State). x.0) q)) tt
+          ∙ sym (ap (λ (x : ImproveValues × State). x.0) a ∙ ap (λ (x : ImproveValues × State). x.0) q))
           ((λ i. tables (carried.masks-are i) (carried.cells_are i))
           ∙ sym (ap (λ (x : ImproveValues × State). x.1) a ∙ ap (λ (x : ImproveValues × State). with_rest P x.1 before) q)) raised
 

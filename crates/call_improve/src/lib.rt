@@ -11,13 +11,15 @@ ghost use Rattle.move_best.specs.inner.Choosing.{lowers_by};
 
 use answers::made;
 use call_open::open_tables;
+use cells_walk::Plan;
 use contracts::Improved;
 use journal_rules::{cells_lent, is_full};
-use logic::lesser;
+use logic::Refusal;
 use move_best::best_move;
 use move_make::carry;
 use move_order::kinds_known;
 use move_rank::Choice;
+use table_format::Index;
 
 // Whether the first of the best, if there is one, leaves a smaller root than now.
 fn lowers(c: Choice, root: u32) -> bool
@@ -39,53 +41,36 @@ pub fn improve(
     room: usize,
     count: &mut usize,
     kinds: u32,
-) -> Improved
+) -> Result<Improved, Refusal>
     ensures answer { ImprovePromise (improves (decode table.now) kinds (tables masks.old cells.old) (length scratch.old) room count.old) count.old result (tables masks.new cells.new) count.new }
     ensures lent { ScratchAfter (decode table.now) (improve_values result).number scratch.old scratch.new }
 {
-    let mut firsts = [0u32; 512];
-    let mut ends = [0u16; 512];
-    let mut uses = [0u64; 512];
+    let mut index = Index::new();
     let at = *count;
-    let shortest = lesser(cells.len(), scratch.len());
+    let shortest = cells.len().min(scratch.len());
     let o = open_tables(
         table,
         &masks[..],
         cells_lent(room, at, shortest),
-        &mut firsts,
-        &mut ends,
-        &mut uses,
-    );
-    if o.number != 0 {
-        return Improved::Refused(o.number);
-    }
+        &mut index,
+    )?;
     if !kinds_known(kinds) {
-        return Improved::Refused(14);
+        return Err(Refusal::Unknown);
     }
-    let c = best_move(
+    let plan = Plan {
         table,
-        &firsts,
-        &ends,
-        &uses,
-        &masks[..],
-        &cells[..],
-        o.ports,
-        o.sets,
-        o.cells,
-        kinds,
-    );
+        index: &index,
+        ports: o.ports,
+        sets: o.sets,
+    };
+    let c = best_move(&plan, &masks[..], &cells[..], o.cells, kinds);
     let root = cells[0];
     if !lowers(c, root) {
-        return Improved::NoBetter { root: root };
+        return Ok(Improved::NoBetter { root });
     }
     if is_full(room, at) {
-        return Improved::Refused(18);
+        return Err(Refusal::JournalFull);
     }
     *count = at + 1;
-    made(
-        c.m,
-        carry(
-            table, &firsts, &ends, &uses, masks, cells, o.ports, o.sets, c.m,
-        ),
-    )
+    Ok(made(c.m, carry(&plan, masks, cells, c.m)))
 }

@@ -8,6 +8,7 @@ use native.Mathlib.Decide.{dec_le}
 use native.Mathlib.Omega.{arith}
 use lib.ListN.{length, get_or, set, drop, length-append, length-drop}
 use lib.Seq.{take_all, drop-drop}
+use Rattle.std.specs.Prelude.{Option, Some, None}
 use Rattle.logic.specs.declared.Move.{Move}
 use Rattle.logic.specs.Moves.{no_move}
 use Rattle.logic.proofs.Lent.{lent, back, lent_is, back_is}
@@ -17,10 +18,9 @@ use Rattle.contracts.specs.Journal.{Journaled}
 use Rattle.contracts.specs.Lists.{Asked, Exchange, move_call, trial_call, improve_call, best_call, undo_call, test_call, step, run}
 use Rattle.journal_rules.specs.inner.Counting.{place_of}
 use Rattle.call_numbers.specs.Encoding.{Encodes, Unknown, SayAll, ten_numbers, moved_numbers, improved_numbers, counted_numbers, answer_numbers, all_numbers, list_one, list_after}
-use Rattle.call_one.specs.declared.One.{One}
 use Rattle.call_one.specs.Scratch.{ScratchRun, kept}
 use Rattle.call_one.specs.Lending.{Lent, lends}
-use Rattle.call_one.specs.inner.Steps.{OneWorked, NoneWorked, OneAfter, OneOver}
+use Rattle.call_one.specs.inner.Steps.{OneWorked, NoneWorked, JournalIs, OneOver}
 use Rattle.journal_rules.proofs.Promised.{held}
 use Rattle.call_list.specs.Working.{Worked, Stopped, at_end, not_whole, unknown_tag}
 use Rattle.call_list.specs.inner.Next.{NextFits}
@@ -189,9 +189,8 @@ module _ (bytes calls : List ℕ) (b : Lent) (count : ℕ) (a : Lent) (w : Worke
       stopped-there whole room = unknown_tag whole room (subst Unknown (lent-all (7 * count) calls) o.unknown)
 
 -- one call over the journal that is lent, of which it saw the length and the newest record
-module _ (bytes call : List ℕ) (r : One) (room : ℕ) (newest : Move) (n : ℕ) (s : State) (scratch : List ℕ) (list : List (List ℕ)) (answer : List ℕ)
+module _ (bytes call : List ℕ) (room : ℕ) (newest : Move) (n : ℕ) (s : State) (scratch : List ℕ) (list : List (List ℕ)) (answer : List ℕ)
     (n' : ℕ) (s' : State) (scratch' : List ℕ) (list' : List (List ℕ)) (answer' : List ℕ) (records : List Move) (place : ℕ)
-    (o : OneOver r bytes call room newest n (λ xs. lends (held s xs n) scratch list answer) n' (λ xs. lends (held s' xs n') scratch' list' answer'))
     (room-is : length records ≡ room) (newest-is : newest ≡ get_or records place no_move) (place_is : place ≡ n - 1) where
   abbrev before : Lent
   before = lends (held s records n) scratch list answer
@@ -199,25 +198,23 @@ module _ (bytes call : List ℕ) (r : One) (room : ℕ) (newest : Move) (n : ℕ
   abbrev after : List Move → Lent
   after xs = lends (held s' xs n') scratch' list' answer'
 
-  there : OneAfter r.known bytes call before (after (set records (place_of n n' room) r.recorded))
-  unfolding OneOver
-  there = o records record { room-is = room-is; newest-is = sym (newest-is ∙ ap (λ (k : ℕ). get_or records k no_move) place_is) }
+  abbrev Over : Option Move → Type 0
+  Over r = OneOver r bytes call room newest n (λ xs. lends (held s xs n) scratch list answer) n' (λ xs. lends (held s' xs n') scratch' list' answer')
+
+  lent-so : JournalIs records room n newest
+  lent-so = record { room-is = room-is; newest-is = sym (newest-is ∙ ap (λ (k : ℕ). get_or records k no_move) place_is) }
 
   -- its record was put where it belongs
-  pub worked-at : (to : ℕ) (records' : List Move) → r.known ≡ true → to ≡ place_of n n' room → records' ≡ set records to r.recorded
+  pub worked-at : (m : Move) → Over (Some m) → (to : ℕ) (records' : List Move) → to ≡ place_of n n' room → records' ≡ set records to m
       → OneWorked bytes call before (after records')
-  unfolding OneAfter
-  worked-at to records' e t q =
-      subst (λ (xs : List Move). OneWorked bytes call before (after xs)) (sym (q ∙ ap (λ (k : ℕ). set records k r.recorded) t))
-      (subst (λ (b : Bool). OneAfter b bytes call before (after (set records (place_of n n' room) r.recorded))) e there)
+  unfolding OneOver
+  worked-at m o to records' t q =
+      subst (λ (xs : List Move). OneWorked bytes call before (after xs)) (sym (q ∙ ap (λ (k : ℕ). set records k m) t)) (o records lent-so)
 
   -- its tag was unknown, and no record is put
-  pub none-at : r.known ≡ false → NoneWorked call before (after records)
-  unfolding OneAfter
-  none-at e =
-      let h : NoneWorked call before (after (set records (place_of n n' room) r.recorded)) =
-      subst (λ (b : Bool). OneAfter b bytes call before (after (set records (place_of n n' room) r.recorded))) e there in
-      record { unknown = h.unknown; kept = ap after (sym (ap (λ (l : Lent). l.tables.journal.records) h.kept)) ∙ h.kept }
+  pub none-at : Over None → NoneWorked call before (after records)
+  unfolding OneOver
+  none-at o = o records lent-so
 
 pub fits-true : (r : Bool) (calls answers : List ℕ) (count : ℕ) → r ≡ true → NextFits r calls answers count
     → (7 * count + 7 ≤ length calls) × (10 * count + 10 ≤ length answers)

@@ -53,7 +53,7 @@ pub fn work(
         let to = ANSWER * worked;
         let at = *count;
         let newest = record_at(&journal[..], newest_place(at));
-        let one = work_one(
+        let Some(recorded) = work_one(
             table,
             masks,
             cells,
@@ -64,15 +64,10 @@ pub fn work(
             list,
             &calls[from..],
             &mut answers[to..],
-        );
-        if !one.known {
+        ) else {
             return worked;
-        }
-        put_record(
-            journal,
-            record_place(at, *count, journal.len()),
-            one.recorded,
-        );
+        };
+        put_record(journal, record_place(at, *count, journal.len()), recorded);
         worked += 1;
     }
     worked

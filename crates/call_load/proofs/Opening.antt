@@ -1,29 +1,30 @@
 -- Load's answer by what the opening of its tables gives. Assumes nothing.
-use mathlib.Core.Path.{◌≡◌, refl, ap₂}
+use mathlib.Core.Path.{◌≡◌, ap₂}
 use mathlib.Core.List.{List, [], ◌++◌}
-use Prim.Native.Nat.{ℕ, zero, suc, ◌-◌}
+use Prim.Native.Nat.{ℕ, ◌-◌}
 use native.Mathlib.Omega.{arith}
 use lib.ListN.{length, drop}
+use Rattle.std.specs.Prelude.{Err}
+use Rattle.logic.specs.declared.refusal.Refusal.{Refusal}
+use Rattle.logic.specs.Refusal.{refusal_number}
 use Rattle.logic.specs.Formula.{node_count}
 use Rattle.logic.specs.Configuration.{own_masks}
 use Rattle.logic.specs.Cells.{own_cells}
 use Rattle.table_format.specs.Decode.{Decoded}
 use Rattle.contracts.specs.State.{tables}
-use Rattle.contracts.specs.declared.Loaded.TheVariants.{Refused}
 use Rattle.contracts.specs.Load.{load_grounds, loads, LoadPromise}
 use Rattle.contracts.proofs.LoadAnswers.{load-refuses}
 use Rattle.call_open.specs.inner.Opening.{open_number, OpenPlan}
-use Rattle.call_open.proofs.Opening.{one_table, shut-first}
+use Rattle.call_open.proofs.Opening.{one_table, tries-tables, shut}
 use Rattle.cells_fill.specs.inner.Fill.{FillReady}
 use Rattle.logic.proofs.Lent.{lent_to, back_to, lent_length}
 
 -- one of 11 to 13 applies
-pub load-shut : (d : Decoded) (masks xs : List ℕ) (n : ℕ) → (n ≡ 0 → ⊥) → n ≡ open_number d masks (length xs)
-    → LoadPromise (loads d (tables masks xs)) (Refused n) (tables masks xs)
+pub load-shut : (d : Decoded) (masks xs : List ℕ) (g : Refusal) → refusal_number g ≡ open_number d masks (length xs)
+    → LoadPromise (loads d (tables masks xs)) (Err g) (tables masks xs)
 unfolding load_grounds
-load-shut d masks xs zero h q = absurd (h refl)
-load-shut d masks xs (suc g) h q =
-    load-refuses d (tables masks xs) (suc g) h (shut-first (tables masks xs) (length xs) [] (λ P k. []) (one_table (length xs)) d g q)
+load-shut d masks xs g q =
+    load-refuses d (tables masks xs) g (shut (tries-tables d (tables masks xs) (length xs) [] (λ P k. []) (one_table (length xs))) g q)
 
 -- the plan's own cells, lent from the whole cell table, can be filled
 pub fill-ready : (ports sets nodes total : ℕ) (bytes masks xs x y z : List ℕ) (o : OpenPlan ports sets bytes masks (length xs) x y z) → nodes ≡ node_count o.plan.formula

@@ -8,6 +8,10 @@ use lib.Dec.{ltb}
 use lib.ListN.{length, take}
 use borrow.Author.Tests.{eqb-true}
 use Rattle.logic.specs.declared.Move.{Move}
+use Rattle.std.specs.Prelude.{Result, Ok, Err}
+use Rattle.logic.specs.declared.refusal.Refusal.{Refusal}
+use Rattle.logic.specs.Refusal.{refusal_number}
+use Rattle.logic.proofs.Refusals.{all-told}
 use Rattle.logic.specs.Formula.{Plan}
 use Rattle.logic.specs.Configuration.{Sets, in_masks, own_masks, all_within}
 use Rattle.logic.specs.Cells.{own_cells}
@@ -19,9 +23,8 @@ use Rattle.contracts.specs.State.{State, tables, own_tables, with_rest}
 use Rattle.contracts.specs.Journal.{count_past, full, count_after}
 use Rattle.contracts.specs.Call.{plan_grounds, table_grounds, tables_then, journal_grounds, call_or, call}
 use Rattle.contracts.specs.declared.Moved.{Moved}
-use Rattle.contracts.specs.declared.Moved.TheVariants.{Accepted, Refused}
-use Rattle.contracts.specs.MoveCall.{MoveValues, move_refused, move_values, MoveTold, MovedAs, made_grounds, move_call_grounds, tables_after, moves_own, moves, move_made, MovePromise, MadeAs}
-use Rattle.contracts.proofs.Calls.{call-refused, call-accepted}
+use Rattle.contracts.specs.MoveCall.{MoveValues, move_refused, move_values, MovedAs, made_grounds, move_call_grounds, tables_after, moves_own, moves, move_made, MovePromise, MadeAs}
+use Rattle.contracts.proofs.Calls.{call-refuses, call-accepted}
 use Rattle.contracts.proofs.Grounds.{refusal-first, passes}
 use Rattle.call_open.proofs.Opening.{one_table, Tries, tries-journal}
 use Rattle.move_try.proofs.OpenMove.{answer-is}
@@ -52,22 +55,21 @@ module _ (P : Plan) (k : Sets) (m : Move) where
       rw (h, w.0, (passes (not (legal P k m)) 14 _ w.1).0)
 
 -- a ground applies
-pub move-refused : (d : Decoded) (m : Move) (s : State) (room count : ℕ) (empty none : Bool) (n : ℕ) → (n ≡ 0 → ⊥)
-    → refusal (try_grounds d s room count empty none m) ≡ n → MadeAs (made d m s room count empty none) (Refused n) s
-unfolding made move_values MoveTold
-move-refused d m s room count empty none zero h e = absurd (h refl)
-move-refused d m s room count empty none (suc g) h e =
-    let given = call-refused move_refused (moves_own m) (try_grounds d s room count empty none m) d s g e in
+pub move-refused : (d : Decoded) (m : Move) (s : State) (room count : ℕ) (empty none : Bool) (g : Refusal)
+    → refusal (try_grounds d s room count empty none m) ≡ refusal_number g → MadeAs (made d m s room count empty none) (Err g) s
+unfolding made move_values
+move-refused d m s room count empty none g e =
+    let given = call-refuses move_refused (moves_own m) (try_grounds d s room count empty none m) d s g e in
     record {
-      answers = record { values-are = sym (ap (λ (x : MoveValues × State). x.0) given); told = h };
+      answers = record { values-are = sym (ap (λ (x : MoveValues × State). x.0) given); told = all-told (Err g) };
       tables-are = sym (ap (λ (x : MoveValues × State). x.1) given);
     }
 
 -- no ground applies
 pub move-made : (bytes masks cells : List ℕ) (P : Plan) → decode bytes ≡ sound P → (m : Move) (room count : ℕ) (empty none : Bool) (r : After) (masks' cells' : List ℕ)
     → refusal (try_grounds (decode bytes) (tables masks cells) room count empty none m) ≡ 0 → Carries bytes masks cells m r masks' cells'
-    → MadeAs (made (decode bytes) m (tables masks cells) room count empty none) (Accepted r.old r.value r.changed) (tables masks' cells')
-unfolding made moves_own move_values MoveTold tables_after own_tables with_rest Carries
+    → MadeAs (made (decode bytes) m (tables masks cells) room count empty none) (Ok (record { before = r.old; after = r.value; changed = r.changed })) (tables masks' cells')
+unfolding made moves_own move_values tables_after own_tables with_rest Carries
 move-made bytes masks cells P d m room count empty none r masks' cells' free carries =
     let s = tables masks cells in
     let c = carries P d in
@@ -76,7 +78,7 @@ move-made bytes masks cells P d m room count empty none r masks' cells' free car
     ∙ call-accepted move_refused (moves_own m) (try_grounds (sound P) s room count empty none m) P s
     (ap (λ (x : Decoded). refusal (try_grounds x s room count empty none m)) (sym d) ∙ free) in
     record {
-      answers = record { values-are = a ∙ sym (ap (λ (x : MoveValues × State). x.0) given); told = tt };
+      answers = record { values-are = a ∙ sym (ap (λ (x : MoveValues × State). x.0) given); told = all-told (Ok _) };
       tables-are = (λ i. tables (c.masks-are i) (c.cells_are i)) ∙ sym (ap (λ (x : MoveValues × State). x.1) given);
     }
 
@@ -108,7 +110,7 @@ moves-made broken m s room count = refl
 moves-made (sound P) m s room count = refl
 
 -- What was made is what is promised, where the two are the same.
-pub promised : (counts : Bool → ℕ → ℕ) (Made-as given : MoveValues × State) (count : ℕ) (r : Moved) (s' : State) (count' : ℕ) → Made-as ≡ given
+pub promised : (counts : Bool → ℕ → ℕ) (Made-as given : MoveValues × State) (count : ℕ) (r : Result Moved Refusal) (s' : State) (count' : ℕ) → Made-as ≡ given
     → MadeAs Made-as r s' → count' ≡ counts (move_made (move_values r)) count → MovePromise counts given count r s' count'
 promised counts Made-as given count r s' count' same w c = record {
   answers = subst (λ (x : MoveValues × State). MovedAs x.0 r) same w.answers;
@@ -116,7 +118,7 @@ promised counts Made-as given count r s' count' same w c = record {
   count-is = c ∙ ap (λ (v : MoveValues). counts (move_made v) count) (w.answers.values-are ∙ ap (λ (x : MoveValues × State). x.0) same);
 }
 
-pub move-promise : (d : Decoded) (m : Move) (s : State) (room count : ℕ) (b : Bool) (r : Moved) (s' : State) (count' : ℕ) → b ≡ full room count
+pub move-promise : (d : Decoded) (m : Move) (s : State) (room count : ℕ) (b : Bool) (r : Result Moved Refusal) (s' : State) (count' : ℕ) → b ≡ full room count
     → MadeAs (made d m s room count false b) r s' → count' ≡ count_after (move_made (move_values r)) count
     → MovePromise count_after (moves d m s room count) count r s' count'
 move-promise d m s room count b r s' count' e =

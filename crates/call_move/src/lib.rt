@@ -9,11 +9,13 @@ ghost use Rattle.call_move.specs.inner.Making.{made};
 
 use answers::accepted;
 use call_open::open_tables;
+use cells_walk::Plan;
 use contracts::Moved;
 use journal_rules::{cells_lent, count_made, is_full};
-use logic::Move;
-use move_legal::move_number;
+use logic::{Move, Refusal};
+use move_legal::legal;
 use move_make::carry;
+use table_format::Index;
 
 // A move that a call makes over a journal of some length and record count: tries 11 to 13, 19 where the call needs a record and there
 // is none, 14 and 15, and 18 where it needs room and there is none; writes the move's masks and the touched cells in place.
@@ -26,36 +28,30 @@ pub fn move_with(
     empty: bool,
     full: bool,
     m: Move,
-) -> Moved
+) -> Result<Moved, Refusal>
     ensures { MadeAs (made (decode table.now) m (tables masks.old cells.old) room count empty full) result (tables masks.new cells.new) }
 {
-    let mut firsts = [0u32; 512];
-    let mut ends = [0u16; 512];
-    let mut uses = [0u64; 512];
+    let mut index = Index::new();
     let o = open_tables(
         table,
         &masks[..],
         cells_lent(room, count, cells.len()),
-        &mut firsts,
-        &mut ends,
-        &mut uses,
-    );
-    if o.number != 0 {
-        return Moved::Refused(o.number);
-    }
+        &mut index,
+    )?;
     if empty {
-        return Moved::Refused(19);
+        return Err(Refusal::JournalEmpty);
     }
-    let ground = move_number(m, o.ports, o.sets, &masks[..]);
-    if ground != 0 {
-        return Moved::Refused(ground);
-    }
+    legal(m, o.ports, o.sets, &masks[..])?;
     if full {
-        return Moved::Refused(18);
+        return Err(Refusal::JournalFull);
     }
-    accepted(carry(
-        table, &firsts, &ends, &uses, masks, cells, o.ports, o.sets, m,
-    ))
+    let plan = Plan {
+        table,
+        index: &index,
+        ports: o.ports,
+        sets: o.sets,
+    };
+    Ok(accepted(carry(&plan, masks, cells, m)))
 }
 
 // A move, over a journal of some length: tries 11 to 15 and 18, and raises the record count. The record is the caller's to write, at the
@@ -67,7 +63,7 @@ pub fn make_move(
     room: usize,
     count: &mut usize,
     m: Move,
-) -> Moved
+) -> Result<Moved, Refusal>
     ensures { MovePromise count_after (moves (decode table.now) m (tables masks.old cells.old) room count.old) count.old result (tables masks.new cells.new) count.new }
 {
     let at = *count;

@@ -9,16 +9,18 @@ ghost use Rattle.table_format.specs.Decode.{decode};
 use call_open::open_cells;
 use contracts::Part;
 use logic::wide;
+use table_format::Index;
 
 // Where the cells of node i begin; where the last node's end, if there is no node i.
-pub fn bound_of(firsts: &[u32; 512], i: usize, nodes: usize, total: usize) -> usize
+pub fn bound_of(index: &Index, i: usize, nodes: usize, total: usize) -> usize
     requires { nodes ≤ 512 }
-    ensures { result ≡ bound_at firsts.now i nodes total }
+    ensures { result ≡ bound_at index.now.firsts i nodes total }
 {
     if i < nodes {
-        return wide(firsts[i]);
+        wide(index.firsts[i])
+    } else {
+        total
     }
-    total
 }
 
 // Where a node's cells stand in a cell table of so many cells, and how many they are; {0, 0} where 11, 12 or a node past the count
@@ -26,20 +28,17 @@ pub fn bound_of(firsts: &[u32; 512], i: usize, nodes: usize, total: usize) -> us
 pub fn node_bounds(table: &[u8], cells: usize, node: usize) -> Part
     ensures { PartGives (decode table.now) cells node result }
 {
-    let mut firsts = [0u32; 512];
-    let mut ends = [0u16; 512];
-    let mut uses = [0u64; 512];
-    let o = open_cells(table, cells, &mut firsts, &mut ends, &mut uses);
-    if o.number != 0 {
+    let mut index = Index::new();
+    let Ok(o) = open_cells(table, cells, &mut index) else {
         return Part { first: 0, count: 0 };
-    }
+    };
     let nodes = o.nodes;
     let total = o.cells;
     if nodes <= node {
         return Part { first: 0, count: 0 };
     }
-    let from = bound_of(&firsts, node, nodes, total);
-    let to = bound_of(&firsts, node + 1, nodes, total);
+    let from = bound_of(&index, node, nodes, total);
+    let to = bound_of(&index, node + 1, nodes, total);
     Part {
         first: from,
         count: to - from,

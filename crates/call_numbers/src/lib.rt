@@ -2,13 +2,15 @@
 #![tactic(auto)]
 
 ghost use Rattle.std.specs.Prelude.{◌≡◌, ◌||◌, ◌++◌, ◌≤◌, eqb, length, drop};
+ghost use Rattle.logic.specs.Moves.{no_move};
+ghost use Rattle.logic.specs.Refusal.{refusal_number};
 ghost use Rattle.contracts.specs.MoveCall.{move_values};
 ghost use Rattle.contracts.specs.ImproveCall.{improve_values};
 ghost use Rattle.contracts.specs.Counting.{count_values};
 ghost use Rattle.call_numbers.specs.Encoding.{move_of, ten_numbers, moved_numbers, improved_numbers, counted_numbers};
 
-use contracts::{Counted, Improved, Moved};
-use logic::{Move, no_move};
+use contracts::{Improved, Moved};
+use logic::{Move, Refusal, no_move};
 
 // An answer's ten numbers.
 fn tell(number: u32, found: u32, m: Move, before: u32, after: u32, changed: u32, answer: &mut [u32])
@@ -27,46 +29,58 @@ fn tell(number: u32, found: u32, m: Move, before: u32, after: u32, changed: u32,
     answer[9] = changed;
 }
 
+// The answer of a refused call: the ground's number, with all other fields 0.
+fn tell_refused(ground: Refusal, answer: &mut [u32])
+    requires { 10 ≤ length answer.old }
+    ensures { answer.new ≡ ten_numbers (refusal_number ground) 0 no_move 0 0 0 ++ drop 10 answer.old }
+{
+    tell(u32::from(ground.number()), 0, no_move(), 0, 0, 0, answer)
+}
+
 // The answer to a move, a trial, an undo or a port in test: no move is told.
-pub fn tell_moved(r: Moved, answer: &mut [u32])
+pub fn tell_moved(r: Result<Moved, Refusal>, answer: &mut [u32])
     requires { 10 ≤ length answer.old }
     ensures { answer.new ≡ moved_numbers (move_values r) ++ drop 10 answer.old }
 {
     match r {
-        Moved::Accepted {
-            before,
-            after,
-            changed,
-        } => tell(0, 0, no_move(), before, after, changed, answer),
-        Moved::Refused(number) => tell(number as u32, 0, no_move(), 0, 0, 0, answer),
+        Ok(
+            Moved {
+                before,
+                after,
+                changed,
+            },
+        ) => tell(0, 0, no_move(), before, after, changed, answer),
+        Err(ground) => tell_refused(ground, answer),
     }
 }
 
 // The answer to improve: the chosen move is told.
-pub fn tell_improved(r: Improved, answer: &mut [u32])
+pub fn tell_improved(r: Result<Improved, Refusal>, answer: &mut [u32])
     requires { 10 ≤ length answer.old }
     ensures { answer.new ≡ improved_numbers (improve_values r) ++ drop 10 answer.old }
 {
     match r {
-        Improved::Made {
-            chosen,
-            before,
-            after,
-            changed,
-        } => tell(0, 1, chosen, before, after, changed, answer),
-        Improved::NoBetter { root } => tell(0, 0, no_move(), root, root, 0, answer),
-        Improved::Refused(number) => tell(number as u32, 0, no_move(), 0, 0, 0, answer),
+        Ok(
+            Improved::Made {
+                chosen,
+                before,
+                after,
+                changed,
+            },
+        ) => tell(0, 1, chosen, before, after, changed, answer),
+        Ok(Improved::NoBetter { root }) => tell(0, 0, no_move(), root, root, 0, answer),
+        Err(ground) => tell_refused(ground, answer),
     }
 }
 
 // The answer to a listing: how many were found is told.
-pub fn tell_counted(r: Counted, answer: &mut [u32])
+pub fn tell_counted(r: Result<u32, Refusal>, answer: &mut [u32])
     requires { 10 ≤ length answer.old }
     ensures { answer.new ≡ counted_numbers (count_values r) ++ drop 10 answer.old }
 {
     match r {
-        Counted::Accepted(count) => tell(0, count, no_move(), 0, 0, 0, answer),
-        Counted::Refused(number) => tell(number as u32, 0, no_move(), 0, 0, 0, answer),
+        Ok(count) => tell(0, count, no_move(), 0, 0, 0, answer),
+        Err(ground) => tell_refused(ground, answer),
     }
 }
 
@@ -74,10 +88,7 @@ pub fn tell_counted(r: Counted, answer: &mut [u32])
 pub fn is_test(tag: u32) -> bool
     ensures { result ≡ (eqb tag 6 || eqb tag 7) }
 {
-    if tag == 6 {
-        return true;
-    }
-    tag == 7
+    tag == 6 || tag == 7
 }
 
 // The five fields of a call as a move.

@@ -5,13 +5,14 @@ use mathlib.Core.List.{List, ◌++◌}
 use Prim.Native.Nat.{ℕ, ◌≤◌}
 use native.Mathlib.Omega.{arith}
 use lib.ListN.{length, take, drop, set}
+use Rattle.std.specs.Prelude.{Result, Option, Some, None}
 use Rattle.logic.specs.declared.Move.{Move}
+use Rattle.logic.specs.declared.refusal.Refusal.{Refusal}
 use Rattle.table_format.specs.Decode.{decode}
 use Rattle.contracts.specs.State.{State}
 use Rattle.contracts.specs.Journal.{newest as newestOf, count_after, count_taken}
 use Rattle.contracts.specs.declared.Moved.{Moved}
 use Rattle.contracts.specs.declared.Improved.{Improved}
-use Rattle.contracts.specs.declared.Counted.{Counted}
 use Rattle.contracts.specs.MoveCall.{MoveValues, move_values, move_made, MovedAs, MadeAs, moves, moves_journaled, MovePromise}
 use Rattle.contracts.specs.TrialCall.{trials, ScratchAfter}
 use Rattle.contracts.specs.ImproveCall.{ImproveValues, improve_values, improves, improves_journaled, ImprovePromise}
@@ -24,35 +25,30 @@ use Rattle.journal_rules.specs.inner.Counting.{place_of}
 use Rattle.journal_rules.proofs.Writing.{taken-fewer}
 use Rattle.journal_rules.proofs.Promised.{held, put-none, move-held, improve-held, undo-held}
 use Rattle.call_numbers.specs.Encoding.{Unknown, tag, move_of, kinds_of, cells_lent, records_lent, test_tag, Encodes, moved_numbers, improved_numbers, counted_numbers, answer_numbers, list_one}
-use Rattle.call_one.specs.declared.One.{One}
 use Rattle.call_one.specs.Scratch.{lent_to, answer_number}
 use Rattle.call_one.specs.Lending.{Lent, lends}
-use Rattle.call_one.specs.inner.Steps.{OneWorked, OneAfter, JournalIs, OneOver, with_record}
+use Rattle.call_one.specs.inner.Steps.{OneWorked, JournalIs, OneOver}
 use Rattle.call_one.proofs.Lending.{none_lent, front-lent, list_back}
 
 -- of an unknown tag nothing is written
-pub none_over : (bytes call : List ℕ) (room : ℕ) (newest : Move) (count : ℕ) (s : State) (scratch : List ℕ) (list : List (List ℕ)) (answer : List ℕ) (m : Move)
+pub none_over : (bytes call : List ℕ) (room : ℕ) (newest : Move) (count : ℕ) (s : State) (scratch : List ℕ) (list : List (List ℕ)) (answer : List ℕ)
     → Unknown call → (let held_by : List Move → Lent = λ records. lends (held s records count) scratch list answer in
-    OneOver record { known = false; recorded = m } bytes call room newest count held_by count held_by)
-unfolding OneOver OneAfter
-none_over bytes call room newest count s scratch list answer m u =
-    λ records j. record {
-      unknown = u;
-      kept = ap (λ (xs : List Move). lends (held s xs count) scratch list answer) (put-none (decode bytes) s s records room count count j.room-is m (omega arith));
-    }
+    OneOver None bytes call room newest count held_by count held_by)
+unfolding OneOver
+none_over bytes call room newest count s scratch list answer u = λ records j. record { unknown = u; kept = refl }
 
-module _ (bytes call : List ℕ) (room : ℕ) (newest : Move) (count : ℕ) (s : State) (scratch : List ℕ) (list : List (List ℕ)) (answer answer' : List ℕ) (r : One) where
+module _ (bytes call : List ℕ) (room : ℕ) (newest : Move) (count : ℕ) (s : State) (scratch : List ℕ) (list : List (List ℕ)) (answer answer' : List ℕ) (r : Option Move) where
   abbrev before : List Move → Lent
   before records = lends (held s records count) scratch list answer
 
   -- a call that was worked, over every journal
-  worked-over : (m : Move) (count' : ℕ) (after : List Move → Lent) → r ≡ with_record m
+  worked-over : (m : Move) (count' : ℕ) (after : List Move → Lent) → r ≡ Some m
       → ((records : List Move) → JournalIs records room count newest → OneWorked bytes call (before records) (after (set records (place_of count count' room) m)))
       → OneOver r bytes call room newest count before count' after
-  unfolding OneOver OneAfter with_record
-  worked-over m count' after e f = subst (λ (x : One). OneOver x bytes call room newest count before count' after) (sym e) f
+  unfolding OneOver
+  worked-over m count' after e f = subst (λ (x : Option Move). OneOver x bytes call room newest count before count' after) (sym e) f
 
-  pub one-move : (m : Move) (a : Moved) (s' : State) (count' : ℕ) → r ≡ with_record m → tag call ≡ 1 → m ≡ move_of call
+  pub one-move : (m : Move) (a : Result Moved Refusal) (s' : State) (count' : ℕ) → r ≡ Some m → tag call ≡ 1 → m ≡ move_of call
       → MovePromise count_after (moves (decode bytes) m s room count) count a s' count' → answer' ≡ moved_numbers (move_values a) ++ drop 10 answer
       → OneOver r bytes call room newest count before count' (λ records. lends (held s' records count') scratch list answer')
   unfolding Encodes step list_one answer_numbers lent_to
@@ -69,7 +65,7 @@ module _ (bytes call : List ℕ) (room : ℕ) (newest : Move) (count : ℕ) (s :
         answer-is = told ∙ ap (λ (v : MoveValues). moved_numbers v ++ drop 10 answer) q.0;
       })
 
-  pub one-undo : (m : Move) (a : Moved) (s' : State) (count' : ℕ) → r ≡ with_record m → tag call ≡ 5
+  pub one-undo : (m : Move) (a : Result Moved Refusal) (s' : State) (count' : ℕ) → r ≡ Some m → tag call ≡ 5
       → MovePromise count_taken (undoes (decode bytes) newest s room count) count a s' count' → answer' ≡ moved_numbers (move_values a) ++ drop 10 answer
       → OneOver r bytes call room newest count before count' (λ records. lends (held s' records count') scratch list answer')
   unfolding Encodes step list_one answer_numbers lent_to
@@ -87,7 +83,7 @@ module _ (bytes call : List ℕ) (room : ℕ) (newest : Move) (count : ℕ) (s :
         answer-is = told ∙ ap (λ (v : MoveValues). moved_numbers v ++ drop 10 answer) q.0;
       })
 
-  pub one-test : (m : Move) (into : Bool) (p : ℕ) (a : Moved) (s' : State) → r ≡ with_record m → tag call ≡ test_tag into → p ≡ (move_of call).p
+  pub one-test : (m : Move) (into : Bool) (p : ℕ) (a : Result Moved Refusal) (s' : State) → r ≡ Some m → tag call ≡ test_tag into → p ≡ (move_of call).p
       → MadeAs (tests (decode bytes) into p s) a s' → answer' ≡ moved_numbers (move_values a) ++ drop 10 answer
       → OneOver r bytes call room newest count before count (λ records. lends (held s' records count) scratch list answer')
   unfolding Encodes step list_one answer_numbers lent_to tests_journaled
@@ -105,7 +101,7 @@ module _ (bytes call : List ℕ) (room : ℕ) (newest : Move) (count : ℕ) (s :
 
   -- a call that is lent the first l cells of scratch, and gives them back
   module _ (l : ℕ) (lent-so : length (take l scratch) ≡ cells_lent call (length scratch)) (part : List ℕ) where
-    pub one-trial : (x m : Move) (a : Moved) → r ≡ with_record x → tag call ≡ 2 → m ≡ move_of call → MovedAs (trials (decode bytes) m s (length (take l scratch))) a
+    pub one-trial : (x m : Move) (a : Result Moved Refusal) → r ≡ Some x → tag call ≡ 2 → m ≡ move_of call → MovedAs (trials (decode bytes) m s (length (take l scratch))) a
         → ScratchAfter (decode bytes) (move_values a).number (take l scratch) part → answer' ≡ moved_numbers (move_values a) ++ drop 10 answer
         → OneOver r bytes call room newest count before count (λ records. lends (held s records count) (part ++ drop l scratch) list answer')
     unfolding Encodes step list_one answer_numbers lent_to answer_number
@@ -122,7 +118,7 @@ module _ (bytes call : List ℕ) (room : ℕ) (newest : Move) (count : ℕ) (s :
         })
 
     module _ (kinds : ℕ) (kinds-are : kinds ≡ kinds_of call) where
-      pub one-improve : (a : Improved) (s' : State) (count' : ℕ) (m : Move) → m ≡ (improve_values a).chosen → r ≡ with_record m → tag call ≡ 3
+      pub one-improve : (a : Result Improved Refusal) (s' : State) (count' : ℕ) (m : Move) → m ≡ (improve_values a).chosen → r ≡ Some m → tag call ≡ 3
           → ImprovePromise (improves (decode bytes) kinds s (length (take l scratch)) room count) count a s' count'
           → ScratchAfter (decode bytes) (improve_values a).number (take l scratch) part → answer' ≡ improved_numbers (improve_values a) ++ drop 10 answer
           → OneOver r bytes call room newest count before count' (λ records. lends (held s' records count') (part ++ drop l scratch) list answer')
@@ -144,7 +140,7 @@ module _ (bytes call : List ℕ) (room : ℕ) (newest : Move) (count : ℕ) (s :
 
       -- and the first records of the list
       pub one-best : (x : Move) (n : ℕ) → length (take n list) ≡ records_lent call (length list) → n ≤ length list → (listed : List (List ℕ)) → length listed ≡ length (take n list)
-          → (a : Counted) → r ≡ with_record x → tag call ≡ 4
+          → (a : Result ℕ Refusal) → r ≡ Some x → tag call ≡ 4
           → ListPromise (lists (decode bytes) kinds s (length (take l scratch)) (length (take n list))) a (take n list) listed
           → ScratchAfter (decode bytes) (count_values a).number (take l scratch) part → answer' ≡ counted_numbers (count_values a) ++ drop 10 answer
           → OneOver r bytes call room newest count before count (λ records. lends (held s records count) (part ++ drop l scratch) (listed ++ drop n list) answer')

@@ -4,7 +4,7 @@
 ghost use Rattle.std.specs.Prelude.{◌≡◌, ◌≤◌, length};
 ghost use Rattle.contracts.specs.Journal.{journaled};
 ghost use Rattle.call_one.specs.Lending.{lends};
-ghost use Rattle.call_one.specs.inner.Steps.{OneOver, with_record};
+ghost use Rattle.call_one.specs.inner.Steps.{OneOver};
 
 use call_best::best_moves;
 use call_improve::improve;
@@ -14,28 +14,11 @@ use call_test::port_test;
 use call_trial::trial;
 use call_undo::undo;
 use journal_rules::chosen_of;
-use logic::{Move, lesser, wide};
-
-// Whether a call was worked, and the record that goes into the journal if the record count was raised.
-#[derive(Clone, Copy)]
-pub struct One {
-    pub known: bool,
-    pub recorded: Move,
-}
-
-// A call that was worked.
-fn worked(m: Move) -> One
-    ensures { result ≡ with_record m }
-{
-    One {
-        known: true,
-        recorded: m,
-    }
-}
+use logic::{Move, wide};
 
 // One call by its tag: 1 a move, 2 a trial, 3 improve, 4 the best moves, 5 undo, 6 a port put in test, 7 one taken out. Any other tag is
-// unknown, and nothing is written for it. The journal is lent by value, its length and its newest record; the record is the caller's to
-// write, at the old count.
+// unknown: nothing is written for it, and it has no record. The journal is lent by value, its length and its newest record; the record
+// that goes into it if the record count was raised is the caller's to write, at the old count.
 pub fn work_one(
     table: &[u8],
     masks: &mut [u64],
@@ -47,23 +30,23 @@ pub fn work_one(
     list: &mut [[u32; 5]],
     call: &[u32],
     answer: &mut [u32],
-) -> One
+) -> Option<Move>
     requires { (7 ≤ length call.now) × (10 ≤ length answer.old) }
     ensures { OneOver result table.now call.now room newest count.old (λ records. lends (journaled masks.old cells.old records count.old) scratch.old list.old answer.old) count.new (λ records. lends (journaled masks.new cells.new records count.new) scratch.new list.new answer.new) }
 {
     let tag = call[0];
     let m = move_of(call);
-    let lent = lesser(wide(call[6]), scratch.len());
+    let lent = wide(call[6]).min(scratch.len());
     if tag == 1 {
         tell_moved(make_move(table, masks, cells, room, count, m), answer);
-        return worked(m);
+        return Some(m);
     }
     if tag == 2 {
         tell_moved(
             trial(table, &masks[..], &cells[..], &mut scratch[0..lent], m),
             answer,
         );
-        return worked(m);
+        return Some(m);
     }
     if tag == 3 {
         let a = improve(
@@ -77,10 +60,10 @@ pub fn work_one(
         );
         tell_improved(a, answer);
         let chosen = chosen_of(a);
-        return worked(chosen);
+        return Some(chosen);
     }
     if tag == 4 {
-        let listed = lesser(wide(m.s), list.len());
+        let listed = wide(m.s).min(list.len());
         tell_counted(
             best_moves(
                 table,
@@ -92,18 +75,15 @@ pub fn work_one(
             ),
             answer,
         );
-        return worked(m);
+        return Some(m);
     }
     if tag == 5 {
         tell_moved(undo(table, masks, cells, room, count, newest), answer);
-        return worked(m);
+        return Some(m);
     }
     if is_test(tag) {
         tell_moved(port_test(table, masks, cells, tag == 6, m.p), answer);
-        return worked(m);
+        return Some(m);
     }
-    One {
-        known: false,
-        recorded: m,
-    }
+    None
 }

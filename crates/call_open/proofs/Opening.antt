@@ -1,5 +1,5 @@
 -- Grounds 11 to 13 as the code tries them, and as the first of every call's. Assumes nothing.
-use mathlib.Core.Path.{◌≡◌, refl, sym, ap, ◌∙◌}
+use mathlib.Core.Path.{◌≡◌, refl, sym, ap, subst, ◌∙◌}
 use mathlib.Core.Bool.{Bool, true, false, cond, not, ◌||◌}
 use mathlib.Core.List.{List, [], ◌∷◌}
 use Prim.Native.Nat.{ℕ, zero, suc, min, ◌≤◌, ◌<◌}
@@ -8,6 +8,11 @@ use native.Mathlib.Omega.{arith}
 use lib.Dec.{ltb}
 use lib.ListN.{length, take}
 use borrow.Author.Tests.{lt-ltb, le-ltb}
+use Rattle.std.specs.Prelude.{Result, Ok, Err}
+use Rattle.logic.specs.declared.refusal.Refusal.{Refusal}
+use Rattle.logic.specs.declared.refusal.Refusal.TheVariants.{BrokenTable, TableTooShort, MaskPortTooHigh}
+use Rattle.logic.specs.Refusal.{refusal_number, answer_number}
+use Rattle.logic.proofs.Refusals.{number-some}
 use Rattle.logic.specs.Formula.{Plan, node_count}
 use Rattle.logic.specs.Configuration.{Sets, in_masks, own_masks, all_within}
 use Rattle.logic.specs.Cells.{own_cells}
@@ -21,31 +26,55 @@ use Rattle.contracts.specs.State.{State, tables}
 use Rattle.contracts.specs.Journal.{count_past}
 use Rattle.contracts.specs.Call.{plan_grounds, table_grounds, tables_then, call_grounds, journal_grounds}
 use Rattle.contracts.proofs.Calls.{LentEnough, count-past, count-within}
-use Rattle.call_open.specs.declared.Opened.{Opened}
-use Rattle.call_open.specs.inner.Opening.{cells_number, open_number, OpensCells, OpenPlan, Opens}
+use Rattle.table_check.specs.declared.Info.{Info}
+use Rattle.call_open.specs.inner.Opening.{cells_number, open_number, IndexedPlan, OpensCells, OpenPlan, Opens}
 
-module _ (bytes : List ℕ) (shortest : ℕ) (r : Opened) (x y z : List ℕ) where
-  -- a number other than 0 opens nothing
-  closes-cells : (g : ℕ) → r.number ≡ suc g → suc g ≡ cells_number (decode bytes) shortest → OpensCells bytes shortest r x y z
-  closes-cells g h q = record { number_is = h ∙ q; opens = λ e. absurd (omega (arith, h, e)) }
+-- an accepted call has one value
+value-or : {A : Type 0} → A → Result A Refusal → A
+value-or a (Ok x) = x
+value-or a (Err g) = a
 
-  pub cells-broken : r.number ≡ 11 → decode bytes ≡ broken → OpensCells bytes shortest r x y z
-  unfolding cells_number plan_grounds refusal
-  cells-broken h d = closes-cells 10 h (sym (ap (λ (w : Decoded). cells_number w shortest) d))
+pub ok-one : {A : Type 0} {a b : A} → ◌≡◌ {A = Result A Refusal} (Ok a) (Ok b) → a ≡ b
+unfolding value-or
+ok-one {A} {a} e = ap (value-or a) e
+
+-- what the two cases of an answer say of its number
+module _ {A : Type 0} {r : Result A Refusal} where
+  pub refused-number : {g : Refusal} → r ≡ Err g → answer_number r ≡ refusal_number g
+  unfolding answer_number
+  refused-number e = ap answer_number e
+
+  pub accepted-number : {x : A} → r ≡ Ok x → answer_number r ≡ 0
+  unfolding answer_number
+  accepted-number e = ap answer_number e
+
+  -- a refused call has no value
+  pub no-value : {g : Refusal} {x : A} → r ≡ Err g → r ≡ Ok x → ⊥
+  no-value {g} e h = number-some g (sym (refused-number e) ∙ accepted-number h)
+
+module _ (bytes : List ℕ) (shortest : ℕ) (x y z : List ℕ) where
+  -- a ground opens nothing
+  closes-cells : (g : Refusal) → refusal_number g ≡ cells_number (decode bytes) shortest → OpensCells bytes shortest (Err g) x y z
+  closes-cells g q = record { number_is = refused-number {r = Err g} refl ∙ q; opens = λ o e. absurd (no-value {g = g} refl e) }
+
+  pub cells-broken : decode bytes ≡ broken → OpensCells bytes shortest (Err BrokenTable) x y z
+  unfolding cells_number plan_grounds refusal refusal_number
+  cells-broken d = closes-cells BrokenTable (sym (ap (λ (w : Decoded). cells_number w shortest) d))
 
   module _ (P : Plan) (d : decode bytes ≡ sound P) where
     cells-number : (a : Bool) → ltb shortest (own_cells P) ≡ a → cells_number (decode bytes) shortest ≡ cond a 12 0
     unfolding cells_number plan_grounds refusal
     cells-number a h = ap (λ (w : Decoded). cells_number w shortest) d ∙ ap (λ (v : Bool). cond v 12 0) h
 
-    pub cells-few : r.number ≡ 12 → shortest < own_cells P → OpensCells bytes shortest r x y z
-    cells-few h l = closes-cells 11 h (sym (cells-number true (lt-ltb _ _ l)))
+    pub cells-few : shortest < own_cells P → OpensCells bytes shortest (Err TableTooShort) x y z
+    unfolding refusal_number
+    cells-few l = closes-cells TableTooShort (sym (cells-number true (lt-ltb _ _ l)))
 
-    pub cells_open : r.number ≡ 0 → r.ports ≡ P.ports → r.sets ≡ P.sets → r.nodes ≡ node_count P.formula → r.cells ≡ own_cells P → PlanIndex P x y z
-        → own_cells P ≤ shortest → OpensCells bytes shortest r x y z
-    cells_open h u n k c i l = record {
-      number_is = h ∙ sym (cells-number false (le-ltb _ _ l));
-      opens = λ _. record {
+    pub cells_open : (o : Info) → o.ports ≡ P.ports → o.sets ≡ P.sets → o.nodes ≡ node_count P.formula → o.cells ≡ own_cells P → PlanIndex P x y z
+        → own_cells P ≤ shortest → OpensCells bytes shortest (Ok o) x y z
+    cells_open o u n k c i l = record {
+      number_is = accepted-number {r = Ok o} refl ∙ sym (cells-number false (le-ltb _ _ l));
+      opens = λ o' e. subst (λ (w : Info). IndexedPlan w bytes shortest x y z) (ok-one e) (record {
         plan = P;
         decodes = d;
         ports-are = u;
@@ -54,7 +83,7 @@ module _ (bytes : List ℕ) (shortest : ℕ) (r : Opened) (x y z : List ℕ) whe
         cells_are = c;
         indexed = i;
         own-cells = l;
-      };
+      });
     }
 
 -- the number of 11 to 13, by what each of them looks at
@@ -65,19 +94,19 @@ number_of bytes masks shortest P d a b w h k l =
     ap (λ (v : Decoded). open_number v masks shortest) d
     ∙ (λ i. cond (h i || (k i || false)) 12 (cond (not (l i)) 13 0))
 
-module _ (bytes masks : List ℕ) (shortest : ℕ) (r : Opened) (x y z : List ℕ) where
-  closes : (g : ℕ) → r.number ≡ suc g → suc g ≡ open_number (decode bytes) masks shortest → Opens bytes masks shortest r x y z
-  closes g h q = record {
-    number_is = h ∙ q;
-    opens = λ e. absurd (omega (arith, h, e));
-    nodes-are = λ e. absurd (omega (arith, h, e));
-    cells_are = λ e. absurd (omega (arith, h, e));
+module _ (bytes masks : List ℕ) (shortest : ℕ) (x y z : List ℕ) where
+  closes : (g : Refusal) → refusal_number g ≡ open_number (decode bytes) masks shortest → Opens bytes masks shortest (Err g) x y z
+  closes g q = record {
+    number_is = refused-number {r = Err g} refl ∙ q;
+    opens = λ o e. absurd (no-value {g = g} refl e);
+    nodes-are = λ o e. absurd (no-value {g = g} refl e);
+    cells_are = λ o e. absurd (no-value {g = g} refl e);
   }
 
   -- 11 and 12 of the cell tables stand first
-  pub opens_not : (r.number ≡ 0 → ⊥) → r.number ≡ cells_number (decode bytes) shortest → Opens bytes masks shortest r x y z
+  pub opens_not : (g : Refusal) → refusal_number g ≡ cells_number (decode bytes) shortest → Opens bytes masks shortest (Err g) x y z
   unfolding cells_number open_number plan_grounds table_grounds refusal some_of
-  opens_not h e = go (decode bytes) r.number refl refl
+  opens_not g e = closes g (same (decode bytes) (refusal_number g) (number-some g) e)
     where
       few : (a b c : Bool) (n : ℕ) → (n ≡ 0 → ⊥) → n ≡ cond a 12 0 → n ≡ cond (b || (a || false)) 12 (cond c 13 0)
       few true true c n q w = w
@@ -88,23 +117,21 @@ module _ (bytes masks : List ℕ) (shortest : ℕ) (r : Opened) (x y z : List �
       same broken n q w = w
       same (sound P) n q w = few (ltb shortest (own_cells P)) (ltb (length masks) (own_masks P)) (not (all_within P.ports (take (own_masks P) masks))) n q w
 
-      go : (d : Decoded) (n : ℕ) → decode bytes ≡ d → r.number ≡ n → Opens bytes masks shortest r x y z
-      go d zero p q = absurd (h q)
-      go d (suc g) p q = closes g q (sym q ∙ same (decode bytes) r.number h e)
-
   module _ (P : Plan) (d : decode bytes ≡ sound P) where
-    pub opens-few-masks : r.number ≡ 12 → length masks < own_masks P → Opens bytes masks shortest r x y z
-    opens-few-masks h l = closes 11 h (sym (number_of bytes masks shortest P d true _ _ (lt-ltb _ _ l) refl refl))
+    pub opens-few-masks : length masks < own_masks P → Opens bytes masks shortest (Err TableTooShort) x y z
+    unfolding refusal_number
+    opens-few-masks l = closes TableTooShort (sym (number_of bytes masks shortest P d true _ _ (lt-ltb _ _ l) refl refl))
 
     module _ (m : own_masks P ≤ length masks) (l : own_cells P ≤ shortest) where
-      pub opens-not-within : r.number ≡ 13 → all_within P.ports (take (own_masks P) masks) ≡ false → Opens bytes masks shortest r x y z
-      opens-not-within h w = closes 12 h (sym (number_of bytes masks shortest P d false false false (le-ltb _ _ m) (le-ltb _ _ l) w))
+      pub opens-not-within : all_within P.ports (take (own_masks P) masks) ≡ false → Opens bytes masks shortest (Err MaskPortTooHigh) x y z
+      unfolding refusal_number
+      opens-not-within w = closes MaskPortTooHigh (sym (number_of bytes masks shortest P d false false false (le-ltb _ _ m) (le-ltb _ _ l) w))
 
-      pub opens-all : r.number ≡ 0 → r.ports ≡ P.ports → r.sets ≡ P.sets → r.nodes ≡ node_count P.formula → r.cells ≡ own_cells P → PlanIndex P x y z
-          → all_within P.ports (take (own_masks P) masks) ≡ true → Opens bytes masks shortest r x y z
-      opens-all h u n k c i w = record {
-        number_is = h ∙ sym (number_of bytes masks shortest P d false false true (le-ltb _ _ m) (le-ltb _ _ l) w);
-        opens = λ _. record {
+      pub opens-all : (o : Info) → o.ports ≡ P.ports → o.sets ≡ P.sets → o.nodes ≡ node_count P.formula → o.cells ≡ own_cells P → PlanIndex P x y z
+          → all_within P.ports (take (own_masks P) masks) ≡ true → Opens bytes masks shortest (Ok o) x y z
+      opens-all o u n k c i w = record {
+        number_is = accepted-number {r = Ok o} refl ∙ sym (number_of bytes masks shortest P d false false true (le-ltb _ _ m) (le-ltb _ _ l) w);
+        opens = λ o' e. subst (λ (v : Info). OpenPlan v.ports v.sets bytes masks shortest x y z) (ok-one e) (record {
           plan = P;
           decodes = d;
           ports-are = u;
@@ -113,9 +140,9 @@ module _ (bytes masks : List ℕ) (shortest : ℕ) (r : Opened) (x y z : List �
           own-masks = m;
           own-cells = l;
           within = w;
-        };
-        nodes-are = λ _ Q e. k ∙ ap (λ (X : Plan). node_count X.formula) (same Q e);
-        cells_are = λ _ Q e. c ∙ ap own_cells (same Q e);
+        });
+        nodes-are = λ o' e Q q. sym (ap (λ (v : Info). v.nodes) (ok-one e)) ∙ k ∙ ap (λ (X : Plan). node_count X.formula) (same Q q);
+        cells_are = λ o' e Q q. sym (ap (λ (v : Info). v.cells) (ok-one e)) ∙ c ∙ ap own_cells (same Q q);
       }
         where
           same : (Q : Plan) → decode bytes ≡ sound Q → P ≡ Q
@@ -212,9 +239,12 @@ pub record Tries (d : Decoded) (masks : List ℕ) (shortest : ℕ) (more : Plan 
 
 -- the first of 11 to 13 that applies
 pub shut : {d : Decoded} {masks : List ℕ} {shortest : ℕ} {more : Plan → Sets → List Ground} {gs : List Ground} → Tries d masks shortest more gs
-    → (n : ℕ) → (n ≡ 0 → ⊥) → n ≡ open_number d masks shortest → refusal gs ≡ n
-shut t zero h q = absurd (h refl)
-shut t (suc g) h q = t.shut g q
+    → (g : Refusal) → refusal_number g ≡ open_number d masks shortest → refusal gs ≡ refusal_number g
+shut {gs = gs} t g q = go (refusal_number g) refl
+  where
+    go : (n : ℕ) → refusal_number g ≡ n → refusal gs ≡ refusal_number g
+    go zero h = absurd (number-some g h)
+    go (suc j) h = t.shut j (sym h ∙ q) ∙ sym h
 
 -- over the tables alone
 pub tries-tables : (d : Decoded) (s : State) (shortest : ℕ) (lengths : List ℕ) (more : Plan → Sets → List Ground) → Shortest shortest (length s.cells ∷ lengths)

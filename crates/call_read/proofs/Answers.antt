@@ -2,10 +2,14 @@
 use mathlib.Core.Path.{◌≡◌, sym, ap, ◌∙◌, subst}
 use mathlib.Core.Bool.{Bool, true, false, cond, ◌&&◌}
 use mathlib.Core.List.{List, [], ◌∷◌, ◌++◌}
-use Prim.Native.Nat.{ℕ, suc, ◌≤◌, ◌<◌}
+use Prim.Native.Nat.{ℕ, ◌≤◌, ◌<◌}
 use lib.Dec.{leb, ltb}
 use lib.ListN.{length, take}
 use borrow.Author.Tests.{lt-ltb, le-ltb}
+use Rattle.std.specs.Prelude.{Result as Outcome, Ok, Err}
+use Rattle.logic.specs.declared.refusal.Refusal.{Refusal}
+use Rattle.logic.specs.Refusal.{refusal_number}
+use Rattle.logic.specs.declared.refusal.Refusal.TheVariants.{TextTooLong, UnknownByte, OutsideGrammar, TextTooDeep, PortsOutOfRange}
 use Rattle.logic.specs.Moves.{Ground, refusal}
 use Rattle.text_tree.specs.Tree.{Tree, Declared, letters_of, too_deep}
 use Rattle.text_tokens.specs.Tokens.{known_bytes}
@@ -14,8 +18,7 @@ use Rattle.text_grammar.specs.Parser.{Result, failed, read, parsed}
 use Rattle.text_grammar.specs.inner.Contract.{Whole}
 use Rattle.text_core.specs.Core.{plan_of}
 use Rattle.text_core.specs.Grounds.{core_grounds}
-use Rattle.contracts.specs.declared.Answer.{Answer}
-use Rattle.contracts.specs.declared.Answer.TheVariants.{Refused}
+use Rattle.contracts.specs.declared.Read.{Read}
 use Rattle.contracts.specs.Read.{ReadValues, table_length, syntax_grounds, text_grounds, read_grounds, read_or, reads, ReadPromise}
 use Rattle.call_read.specs.inner.Contract.{TextKept, SomeText, Finishes}
 use Rattle.text_core.proofs.Letters.{parsed-lettered}
@@ -26,23 +29,23 @@ module _ (u : ℕ) (s B : List ℕ) where
   abbrev grounds : List Ground
   grounds = read_grounds u s (length B)
 
-  refused-by : (g : ℕ) → refusal grounds ≡ suc g → ReadPromise (reads u s B) (Refused (suc g)) B
-  unfolding reads read_or
-  refused-by g e = refuses g B _ (ap (λ (x : ℕ). read_or x u (parsed s) B) e)
+  refused-by : (g : Refusal) → refusal grounds ≡ refusal_number g → ReadPromise (reads u s B) (Err g) B
+  unfolding reads
+  refused-by g e = refuses g u (parsed s) B _ (ap (λ (x : ℕ). read_or x u (parsed s) B) e)
 
-  pub read-10 : (leb 1 u && leb u 64) ≡ false → ReadPromise (reads u s B) (Refused 10) B
-  unfolding text_grounds read_grounds refusal
-  read-10 p = refused-by 9 (rw p)
+  pub read-10 : (leb 1 u && leb u 64) ≡ false → ReadPromise (reads u s B) (Err PortsOutOfRange) B
+  unfolding text_grounds read_grounds refusal refusal_number
+  read-10 p = refused-by PortsOutOfRange (rw p)
 
   module _ (ports : (leb 1 u && leb u 64) ≡ true) where
-    pub read-1 : 4096 < length s → ReadPromise (reads u s B) (Refused 1) B
-    unfolding text_grounds read_grounds refusal
-    read-1 h = refused-by 0 (rw (ports, lt-ltb 4096 (length s) h))
+    pub read-1 : 4096 < length s → ReadPromise (reads u s B) (Err TextTooLong) B
+    unfolding text_grounds read_grounds refusal refusal_number
+    read-1 h = refused-by TextTooLong (rw (ports, lt-ltb 4096 (length s) h))
 
     module _ (short : length s ≤ 4096) where
-      pub read-2 : known_bytes s ≡ false → ReadPromise (reads u s B) (Refused 2) B
-      unfolding text_grounds read_grounds refusal
-      read-2 k = refused-by 1 (rw (ports, le-ltb 4096 (length s) short, k))
+      pub read-2 : known_bytes s ≡ false → ReadPromise (reads u s B) (Err UnknownByte) B
+      unfolding text_grounds read_grounds refusal refusal_number
+      read-2 k = refused-by UnknownByte (rw (ports, le-ltb 4096 (length s) short, k))
 
       module _ (known : known_bytes s ≡ true) where
         -- grounds 10, 1 and 2 do not apply
@@ -50,9 +53,9 @@ module _ (u : ℕ) (s B : List ℕ) where
         unfolding text_grounds read_grounds refusal
         opened = rw (ports, le-ltb 4096 (length s) short, known)
 
-        pub read-3 : parsed s ≡ failed → ReadPromise (reads u s B) (Refused 3) B
-        unfolding syntax_grounds refusal
-        read-3 e = refused-by 2 (opened ∙ ap (λ (r : Result). refusal (syntax_grounds u (length B) r)) e)
+        pub read-3 : parsed s ≡ failed → ReadPromise (reads u s B) (Err OutsideGrammar) B
+        unfolding syntax_grounds refusal refusal_number
+        read-3 e = refused-by OutsideGrammar (opened ∙ ap (λ (r : Result). refusal (syntax_grounds u (length B) r)) e)
 
         module _ (sets : List Declared) (a : Tree) (e : parsed s ≡ read sets a) where
           in-grammar : refusal grounds
@@ -60,10 +63,11 @@ module _ (u : ℕ) (s B : List ℕ) where
           unfolding syntax_grounds refusal
           in-grammar = opened ∙ ap (λ (r : Result). refusal (syntax_grounds u (length B) r)) e
 
-          pub read-4 : too_deep 0 a ≡ true → ReadPromise (reads u s B) (Refused 4) B
+          pub read-4 : too_deep 0 a ≡ true → ReadPromise (reads u s B) (Err TextTooDeep) B
+          unfolding refusal_number
           read-4 d =
               let rest = refusal (core_grounds u sets a ++ ((12, ltb (length B) (table_length (plan_of u sets a))) ∷ [])) in
-              refused-by 3 (in-grammar ∙ ap (λ (b : Bool). cond b 4 rest) d)
+              refused-by TextTooDeep (in-grammar ∙ ap (λ (b : Bool). cond b 4 rest) d)
 
           pub read-rest : too_deep 0 a ≡ false
               → read_or (refusal (core_grounds u sets a ++ ((12, ltb (length B) (table_length (plan_of u sets a))) ∷ []))) u (read sets a) B ≡ reads u s B
@@ -85,7 +89,7 @@ module _ (s t letters : List ℕ) (r : Syntax) (W : Whole s t letters r) (room :
   pub some-text : (u : ℕ) → 1 ≤ u → u ≤ 64 → SomeText u t r.end letters r.sets
   some-text u h g = record { ports1 = h; ports64 = g; within = W.few; sets = W.sets; tree = W.tree; kept = kept-text }
 
-  pub read-last : (u : ℕ) (B O : List ℕ) (x : Answer) → 1 ≤ u → u ≤ 64 → length s ≤ 4096 → known_bytes s ≡ true
+  pub read-last : (u : ℕ) (B O : List ℕ) (x : Outcome Read Refusal) → 1 ≤ u → u ≤ 64 → length s ≤ 4096 → known_bytes s ≡ true
       → Finishes u t r.end letters r.sets B O x → ReadPromise (reads u s B) x O
   unfolding Finishes
   read-last u B O x h g short known E =

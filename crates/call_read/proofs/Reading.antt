@@ -10,6 +10,8 @@ use lib.ListN.{length, take, drop, length-append}
 use lib.Seq.{take_all, length-take-le}
 use borrow.Author.Tests.{lt-ltb}
 use Rattle.logic.specs.Formula.{Plan, node_count}
+use Rattle.std.specs.Prelude.{Result as Outcome, Ok}
+use Rattle.logic.specs.declared.refusal.Refusal.{Refusal}
 use Rattle.logic.specs.Moves.{refusal}
 use Rattle.text_grammar.specs.Parser.{Result, parsed}
 use Rattle.text_core.specs.Core.{plan_of}
@@ -17,8 +19,7 @@ use Rattle.table_format.specs.Bytes.{table_bytes, sets_field, records, header, e
 use Rattle.table_format.specs.Decode.{decode, own_bytes}
 use Rattle.table_format.proofs.Bytes.{sets-of-header}
 use Rattle.table_format.proofs.Own.{own_is}
-use Rattle.contracts.specs.declared.Answer.{Answer}
-use Rattle.contracts.specs.declared.Answer.TheVariants.{Accepted}
+use Rattle.contracts.specs.declared.Read.{Read}
 use Rattle.contracts.specs.Read.{ReadValues, read_refused, read_values, table_length, text_grounds, read_grounds, read_or, reads, ReadPromise}
 use Rattle.contracts.specs.Admitted.{admitted_plan}
 use Rattle.contracts.proofs.Grounds.{few-sets}
@@ -63,10 +64,10 @@ pub record LeftTable (nodes : ℕ) (B O : List ℕ) : Type 0 where
   pub few-nodes : nodes ≤ 512
   pub fits : table_length plan ≤ length B
 
-pub accepted-table : (u : ℕ) (s B O : List ℕ) (x : Answer) (nodes total : ℕ) → ReadPromise (reads u s B) x O → x ≡ Accepted nodes total → LeftTable nodes B O
+pub accepted-table : (u : ℕ) (s B O : List ℕ) (x : Outcome Read Refusal) (nodes total : ℕ) → ReadPromise (reads u s B) x O → x ≡ Ok (record { nodes = nodes; cells = total }) → LeftTable nodes B O
 unfolding read_values admitted_plan plan_of
 accepted-table u s B O x nodes total e y =
-    let v = ap (λ (a : Answer). read_values a) (sym y) ∙ e.values-are in
+    let v = ap (λ (a : Outcome Read Refusal). read_values a) (sym y) ∙ e.values-are in
     let A = accepted-admitted u s B (ap (λ (q : ReadValues). q.number) (sym v)) in
     let P = admitted_plan A in
     let past = drop (table_length P) B in

@@ -5,6 +5,10 @@ use mathlib.Core.List.{List, [], ◌++◌}
 use Prim.Native.Nat.{ℕ, zero, suc, ◌≤◌, ◌<◌}
 use native.Mathlib.Omega.{arith}
 use lib.ListN.{length, get_or, set, take, drop}
+use Rattle.std.specs.Prelude.{Ok, Err}
+use Rattle.logic.specs.declared.refusal.Refusal.{Refusal}
+use Rattle.logic.specs.Refusal.{refusal_number}
+use Rattle.logic.proofs.Refusals.{all-told}
 use Rattle.logic.specs.Formula.{Plan}
 use Rattle.logic.specs.Configuration.{in_masks, own_masks, spelled}
 use Rattle.logic.specs.Cells.{own_cells}
@@ -16,10 +20,9 @@ use Rattle.table_format.specs.Decode.{Decoded, sound, decode}
 use Rattle.cells_sum.specs.declared.After.{After}
 use Rattle.cells_walk.specs.inner.Visit.{CellsFit}
 use Rattle.contracts.specs.State.{State, tables, own_tables, with_rest}
-use Rattle.contracts.specs.declared.Moved.TheVariants.{Accepted, Refused}
-use Rattle.contracts.specs.MoveCall.{MoveValues, move_refused, move_accepted, move_values, MoveTold, MadeAs}
+use Rattle.contracts.specs.MoveCall.{MoveValues, move_refused, move_accepted, move_values, MadeAs}
 use Rattle.contracts.specs.TestCall.{test_call_grounds, tested_cells, tested_tables, tests_own, tests}
-use Rattle.contracts.proofs.Calls.{call-refused, call-accepted}
+use Rattle.contracts.proofs.Calls.{call-refuses, call-accepted}
 use Rattle.contracts.proofs.Steps.{test-free}
 use Rattle.call_open.specs.inner.Opening.{OpenPlan}
 use Rattle.call_open.proofs.Opening.{one_table, Tries, tries-tables}
@@ -53,14 +56,13 @@ port-ready o fit into p n number z =
     record { tables-open = record { opened = o; cells_fit = fit }; below = omega (arith, f.0, o.ports-are) }
 
 -- a ground applies
-pub test-refused : (d : Decoded) (into : Bool) (p : ℕ) (s : State) (n : ℕ) → (n ≡ 0 → ⊥) → refusal (test_call_grounds d s into p) ≡ n
-    → MadeAs (tests d into p s) (Refused n) s
-unfolding tests move_values MoveTold
-test-refused d into p s zero h e = absurd (h refl)
-test-refused d into p s (suc g) h e =
-    let given = call-refused move_refused (tests_own into p) (test_call_grounds d s into p) d s g e in
+pub test-refused : (d : Decoded) (into : Bool) (p : ℕ) (s : State) (g : Refusal) → refusal (test_call_grounds d s into p) ≡ refusal_number g
+    → MadeAs (tests d into p s) (Err g) s
+unfolding tests move_values
+test-refused d into p s g e =
+    let given = call-refuses move_refused (tests_own into p) (test_call_grounds d s into p) d s g e in
     record {
-      answers = record { values-are = sym (ap (λ (x : MoveValues × State). x.0) given); told = h };
+      answers = record { values-are = sym (ap (λ (x : MoveValues × State). x.0) given); told = all-told (Err g) };
       tables-are = sym (ap (λ (x : MoveValues × State). x.1) given);
     }
 
@@ -73,8 +75,8 @@ same-masks P into p own h = ap (set own P.sets) (sym (test-mask-flip into (get_o
 pub test-made : (bytes masks cells : List ℕ) (P : Plan) → decode bytes ≡ sound P → (into : Bool) (p : ℕ) (r : After) (masks' cells' : List ℕ)
     → refusal (test_call_grounds (decode bytes) (tables masks cells) into p) ≡ 0
     → refusal (test_grounds P (in_masks (take (own_masks P) masks)) into p) ≡ 0 → Puts bytes masks cells p r masks' cells'
-    → MadeAs (tests (decode bytes) into p (tables masks cells)) (Accepted r.old r.value r.changed) (tables masks' cells')
-unfolding tests tests_own tested_tables tested_cells move_values MoveTold own_tables with_rest Puts flipped_cells
+    → MadeAs (tests (decode bytes) into p (tables masks cells)) (Ok (record { before = r.old; after = r.value; changed = r.changed })) (tables masks' cells')
+unfolding tests tests_own tested_tables tested_cells move_values own_tables with_rest Puts flipped_cells
 test-made bytes masks cells P d into p r masks' cells' free fits puts =
     let s = tables masks cells in
     let c = puts P d in
@@ -90,7 +92,7 @@ test-made bytes masks cells P d into p r masks' cells' free fits puts =
         values-are = (λ i. move_accepted (c.before-is i) ((c.after_is ∙ ap (λ (ms : List ℕ). get_or (again ms) 0 0) e) i)
             ((c.changed-is ∙ ap (λ (ms : List ℕ). differing before (again ms)) e) i))
             ∙ sym (ap (λ (x : MoveValues × State). x.0) given);
-        told = tt;
+        told = all-told (Ok _);
       };
       tables-are = (λ i. tables ((c.masks-are ∙ ap (λ (ms : List ℕ). ms ++ drop (own_masks P) masks) e) i)
           ((c.cells_are ∙ ap (λ (ms : List ℕ). again ms ++ drop (own_cells P) cells) e) i))

@@ -6,6 +6,8 @@ use Prim.Native.Nat.{ℕ}
 use lib.Dec.{eqb, ltb}
 use lib.ListN.{length, take}
 use Rattle.logic.specs.declared.Move.{Move}
+use Rattle.std.specs.Prelude.{Result}
+use Rattle.logic.specs.declared.refusal.Refusal.{Refusal}
 use Rattle.logic.specs.Formula.{Plan}
 use Rattle.logic.specs.Configuration.{Sets, in_masks, own_masks, all_within}
 use Rattle.logic.specs.Cells.{own_cells}
@@ -37,7 +39,7 @@ undoes-made (sound P) m s room count =
     (cond (count_past room count) 12 (cond (ltb (length s.masks) (own_masks P) || some_of (λ l. ltb l (own_cells P)) (length s.cells ∷ [])) 12
     (cond (not (all_within P.ports own)) 13 n))) (sound P) (moves_own (opposite m)) s) (same-grounds P (in_masks own) count m)
 
-pub undo-promise : (d : Decoded) (m : Move) (s : State) (room count : ℕ) (x : Move) (b : Bool) (r : Moved) (s' : State) (count' : ℕ) → x ≡ opposite m
+pub undo-promise : (d : Decoded) (m : Move) (s : State) (room count : ℕ) (x : Move) (b : Bool) (r : Result Moved Refusal) (s' : State) (count' : ℕ) → x ≡ opposite m
     → b ≡ eqb count 0 → MadeAs (made d x s room count b false) r s' → count' ≡ count_taken (move_made (move_values r)) count
     → MovePromise count_taken (undoes d m s room count) count r s' count'
 undo-promise d m s room count x b r s' count' e z =

@@ -10,7 +10,7 @@ ghost use Rattle.contracts.specs.UndoCall.{undoes};
 use call_move::move_with;
 use contracts::Moved;
 use journal_rules::{count_taken, opposite_of};
-use logic::Move;
+use logic::{Move, Refusal};
 
 // Undo, over a journal of some length and newest record: tries 11 to 13, 19, 14 of the record and 15 of its opposite, which it makes,
 // and lowers the record count.
@@ -21,7 +21,7 @@ pub fn undo(
     room: usize,
     count: &mut usize,
     newest: Move,
-) -> Moved
+) -> Result<Moved, Refusal>
     ensures { MovePromise count_taken (undoes (decode table.now) newest (tables masks.old cells.old) room count.old) count.old result (tables masks.new cells.new) count.new }
 {
     let at = *count;

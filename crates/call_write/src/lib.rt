@@ -2,11 +2,13 @@
 #![tactic(auto)]
 
 ghost use Rattle.std.specs.Prelude.{◌≡◌, cond, ◌||◌, ltb};
+ghost use Rattle.logic.specs.Refusal.{answer_number};
 ghost use Rattle.table_format.specs.Decode.{decode};
 ghost use Rattle.contracts.specs.WriteCall.{writes, WritePromise};
 
-use contracts::Counted;
+use logic::Refusal;
 use table_check::check;
+use table_format::Index;
 use text_put::put_bytes;
 use text_write::{Extent, form_text};
 
@@ -17,43 +19,34 @@ const LONGEST: usize = 4096;
 fn unreadable(e: Extent) -> bool
     ensures { result ≡ (ltb 4096 e.end || e.deep) }
 {
-    if LONGEST < e.end {
-        return true;
-    }
-    e.deep
+    LONGEST < e.end || e.deep
 }
 
-// The first of 17 and 12 that applies to a text of n bytes, or 0.
-fn ground(long: bool, n: usize, room: usize) -> u8
-    ensures { result ≡ cond long 17 (cond (ltb room n) 12 0) }
+// Tries 17 and 12 of a text of n bytes.
+fn writable(long: bool, n: usize, room: usize) -> Result<(), Refusal>
+    ensures { answer_number result ≡ cond long 17 (cond (ltb room n) 12 0) }
 {
     if long {
-        return 17;
+        Err(Refusal::TextUnwritable)
+    } else if room < n {
+        Err(Refusal::TableTooShort)
+    } else {
+        Ok(())
     }
-    if room < n {
-        return 12;
-    }
-    0
 }
 
 // Writing: tries 11, forms the text in a table of its own, tries 17 and 12, and only then writes it to the lent text.
-pub fn write(table: &[u8], text: &mut [u8]) -> Counted
+pub fn write(table: &[u8], text: &mut [u8]) -> Result<u32, Refusal>
     ensures { WritePromise (writes (decode table.now) text.old) result text.new }
 {
-    let mut firsts = [0u32; 512];
-    let mut ends = [0u16; 512];
-    let mut uses = [0u64; 512];
-    let info = check(table, &mut firsts, &mut ends, &mut uses);
-    if !info.ok {
-        return Counted::Refused(11);
-    }
+    let mut index = Index::new();
+    let Some(info) = check(table, &mut index) else {
+        return Err(Refusal::BrokenTable);
+    };
     let mut formed = [0u8; LONGEST];
     let e = form_text(table, info.sets, info.nodes, &mut formed);
     let n = e.end;
-    let g = ground(unreadable(e), n, text.len());
-    if g != 0 {
-        return Counted::Refused(g);
-    }
+    writable(unreadable(e), n, text.len())?;
     put_bytes(text, 0, &formed[0..n]);
-    Counted::Accepted(n as u32)
+    Ok(n as u32)
 }

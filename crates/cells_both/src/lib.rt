@@ -3,16 +3,15 @@
 
 ghost use Rattle.std.specs.Prelude.{◌≡◌, ◌+◌, ◌*◌, ◌<◌, ◌≤◌, [], ◌∷◌};
 ghost use Rattle.logic.specs.Configuration.{indicator};
-ghost use Rattle.cells_flip.specs.inner.Flips.{FlipReady, FlipGives};
-ghost use Rattle.cells_both.specs.inner.Both.{BothReady, BothGives};
-ghost use Rattle.cells_both.specs.inner.Steps.{held_word, missing_of, tests, left_of, FromReady, FromGives, PortGives, PortsGive};
+ghost use Rattle.cells_both.specs.inner.Steps.{held_word, missing_of, tests, left_of};
+ghost use Rattle.cells_flip.specs.inner.OverPlan.{FlipReady, FlipGives};
+ghost use Rattle.cells_both.specs.inner.OverPlan.{BothReady, BothGives, FromReady, FromGives, PortGives, PortsGive};
 
 use cells_flip::flip_row;
 use cells_sum::with_difference;
 use cells_touch::{level_of, meet};
-use cells_walk::{uses_at, with_port};
+use cells_walk::{Plan, with_port};
 use cells_zero::zero_below;
-use std::num::wrapping_add_u32;
 
 // The word of the variables at port p, with one more variable, which stands at port x.
 fn held_word(word: u64, members: u64, level: usize, x: usize, p: usize) -> u64
@@ -56,9 +55,7 @@ fn tested_all(used: u64, members: u64, depth: usize) -> usize
     ensures { result ≡ left_of used members 0 depth }
 {
     let mut left = 0;
-    let mut level = depth;
-    while 0 < level {
-        level -= 1;
+    for level in (0..depth).rev() {
         left += tested(used, members, level);
     }
     left
@@ -74,10 +71,7 @@ fn next_place(place: usize, ports: usize, x: usize) -> usize
 
 // The new number of one cell. If it may be that a child of 0 decides it, that is asked first.
 fn one_cell(
-    table: &[u8],
-    firsts: &[u32; 512],
-    ends: &[u16; 512],
-    uses: &[u64; 512],
+    plan: &Plan,
     masks: &[u64],
     sizes: &[u32; 16],
     cells: &[u32],
@@ -87,33 +81,29 @@ fn one_cell(
     word: u64,
     decided: bool,
 ) -> u32
-    requires { FlipReady table.now firsts.now ends.now uses.now masks.now sizes.now cells.now i 1 3 place digits (0 ∷ []) }
-    ensures { FlipGives table.now firsts.now ends.now uses.now masks.now sizes.now cells.now i 1 3 place digits word (result ∷ []) }
+    requires { FlipReady plan.now masks.now sizes.now cells.now i 1 3 place digits (0 ∷ []) }
+    ensures { FlipGives plan.now masks.now sizes.now cells.now i 1 3 place digits word (result ∷ []) }
 {
     if decided {
-        if meet(uses_at(uses, i), word) {
-            if zero_below(table, firsts, ends, uses, cells, i, place, word) {
+        if meet(plan.uses_at(i), word) {
+            if zero_below(plan, cells, i, place, word) {
                 return 0;
             }
         }
     }
     let mut new = [0u32; 1];
     flip_row(
-        table, firsts, ends, uses, masks, sizes, cells, i, 1, 3, place, digits, word, &mut new,
+        plan, masks, sizes, cells, i, 1, 3, place, digits, word, &mut new,
     );
     new[0]
 }
 
 // At a whole tuple: the number with both flips less that with each alone, and the resizing alone.
 fn both_cell(
-    table: &[u8],
-    firsts: &[u32; 512],
-    ends: &[u16; 512],
-    uses: &[u64; 512],
+    plan: &Plan,
     masks: &[u64],
     sizes: &[u32; 16],
     cells: &[u32],
-    ports: usize,
     i: usize,
     depth: usize,
     members: u64,
@@ -125,20 +115,17 @@ fn both_cell(
     pword: u64,
     qword: u64,
 ) -> u32
-    requires { FromReady ports table.now firsts.now ends.now uses.now masks.now sizes.now cells.now i depth members resized p q depth place digits pword qword 0 }
-    ensures { FromGives ports table.now firsts.now ends.now uses.now masks.now sizes.now cells.now i depth members resized p q depth place digits pword qword result }
+    requires { FromReady plan.now masks.now sizes.now cells.now i depth members resized p q depth place digits pword qword 0 }
+    ensures { FromGives plan.now masks.now sizes.now cells.now i depth members resized p q depth place digits pword qword result }
 {
     // What both flips do not touch, neither touches alone.
     let changed = resized | (pword | qword);
-    let decided = zero_below(table, firsts, ends, uses, cells, i, place, changed);
+    let decided = zero_below(plan, cells, i, place, changed);
     let both = one_cell(
-        table, firsts, ends, uses, masks, sizes, cells, i, place, digits, changed, decided,
+        plan, masks, sizes, cells, i, place, digits, changed, decided,
     );
     let at_p = one_cell(
-        table,
-        firsts,
-        ends,
-        uses,
+        plan,
         masks,
         sizes,
         cells,
@@ -149,10 +136,7 @@ fn both_cell(
         decided,
     );
     let at_q = one_cell(
-        table,
-        firsts,
-        ends,
-        uses,
+        plan,
         masks,
         sizes,
         cells,
@@ -163,7 +147,7 @@ fn both_cell(
         decided,
     );
     let alone = one_cell(
-        table, firsts, ends, uses, masks, sizes, cells, i, place, digits, resized, decided,
+        plan, masks, sizes, cells, i, place, digits, resized, decided,
     );
     with_difference(with_difference(0, both, at_p), alone, at_q)
 }
@@ -171,14 +155,10 @@ fn both_cell(
 // The tuples that go on by port x.
 #[cycle(both)]
 fn port_from(
-    table: &[u8],
-    firsts: &[u32; 512],
-    ends: &[u16; 512],
-    uses: &[u64; 512],
+    plan: &Plan,
     masks: &[u64],
     sizes: &[u32; 16],
     cells: &[u32],
-    ports: usize,
     i: usize,
     depth: usize,
     members: u64,
@@ -193,18 +173,14 @@ fn port_from(
     left: usize,
     x: usize,
 ) -> u32
-    requires { FromReady ports table.now firsts.now ends.now uses.now masks.now sizes.now cells.now i depth members resized p q level place digits pword qword left × (level < depth) × (x < ports) }
-    ensures { PortGives ports table.now firsts.now ends.now uses.now masks.now sizes.now cells.now i depth members resized p q level place digits pword qword x result }
+    requires { FromReady plan.now masks.now sizes.now cells.now i depth members resized p q level place digits pword qword left × (level < depth) × (x < plan.now.ports) }
+    ensures { PortGives plan.now masks.now sizes.now cells.now i depth members resized p q level place digits pword qword x result }
 {
     both_from(
-        table,
-        firsts,
-        ends,
-        uses,
+        plan,
         masks,
         sizes,
         cells,
-        ports,
         i,
         depth,
         members,
@@ -212,25 +188,21 @@ fn port_from(
         p,
         q,
         level + 1,
-        next_place(place, ports, x),
+        next_place(place, plan.ports, x),
         with_port(digits, level, x),
         held_word(pword, members, level, x, p),
         held_word(qword, members, level, x, q),
-        left - tested(uses_at(uses, i), members, level),
+        left - tested(plan.uses_at(i), members, level),
     )
 }
 
 // The tuples that go on by any port.
 #[cycle(both)]
 fn ports_from(
-    table: &[u8],
-    firsts: &[u32; 512],
-    ends: &[u16; 512],
-    uses: &[u64; 512],
+    plan: &Plan,
     masks: &[u64],
     sizes: &[u32; 16],
     cells: &[u32],
-    ports: usize,
     i: usize,
     depth: usize,
     members: u64,
@@ -244,18 +216,16 @@ fn ports_from(
     qword: u64,
     left: usize,
 ) -> u32
-    requires { FromReady ports table.now firsts.now ends.now uses.now masks.now sizes.now cells.now i depth members resized p q level place digits pword qword left × (level < depth) }
-    ensures { PortsGive ports table.now firsts.now ends.now uses.now masks.now sizes.now cells.now i depth members resized p q level place digits pword qword ports result }
+    requires { FromReady plan.now masks.now sizes.now cells.now i depth members resized p q level place digits pword qword left × (level < depth) }
+    ensures { PortsGive plan.now masks.now sizes.now cells.now i depth members resized p q level place digits pword qword plan.now.ports result }
 {
-    let mut sum = 0;
-    let mut x = 0;
-    while x < ports {
+    let mut sum = 0u32;
+    for x in 0..plan.ports {
         let more = port_from(
-            table, firsts, ends, uses, masks, sizes, cells, ports, i, depth, members, resized, p,
-            q, level, place, digits, pword, qword, left, x,
+            plan, masks, sizes, cells, i, depth, members, resized, p, q, level, place, digits,
+            pword, qword, left, x,
         );
-        sum = wrapping_add_u32(sum, more);
-        x += 1;
+        sum = sum.wrapping_add(more);
     }
     sum
 }
@@ -264,14 +234,10 @@ fn ports_from(
 // no tuple holds both ports if fewer are left than ports are missing; if as many are left, each must stand at one of the two.
 #[cycle(both)]
 fn both_from(
-    table: &[u8],
-    firsts: &[u32; 512],
-    ends: &[u16; 512],
-    uses: &[u64; 512],
+    plan: &Plan,
     masks: &[u64],
     sizes: &[u32; 16],
     cells: &[u32],
-    ports: usize,
     i: usize,
     depth: usize,
     members: u64,
@@ -285,49 +251,45 @@ fn both_from(
     qword: u64,
     left: usize,
 ) -> u32
-    requires { FromReady ports table.now firsts.now ends.now uses.now masks.now sizes.now cells.now i depth members resized p q level place digits pword qword left }
-    ensures { FromGives ports table.now firsts.now ends.now uses.now masks.now sizes.now cells.now i depth members resized p q level place digits pword qword result }
+    requires { FromReady plan.now masks.now sizes.now cells.now i depth members resized p q level place digits pword qword left }
+    ensures { FromGives plan.now masks.now sizes.now cells.now i depth members resized p q level place digits pword qword result }
 {
-    let used = uses_at(uses, i);
+    let used = plan.uses_at(i);
     let lacking = missing(used, pword, qword);
     if left < lacking {
         return 0;
     }
     if level == depth {
         return both_cell(
-            table, firsts, ends, uses, masks, sizes, cells, ports, i, depth, members, resized, p,
-            q, place, digits, pword, qword,
+            plan, masks, sizes, cells, i, depth, members, resized, p, q, place, digits, pword,
+            qword,
         );
     }
     if left == lacking {
         if meet(used, members & level_of(level)) {
             let by_p = port_from(
-                table, firsts, ends, uses, masks, sizes, cells, ports, i, depth, members, resized,
-                p, q, level, place, digits, pword, qword, left, p,
+                plan, masks, sizes, cells, i, depth, members, resized, p, q, level, place, digits,
+                pword, qword, left, p,
             );
             let by_q = port_from(
-                table, firsts, ends, uses, masks, sizes, cells, ports, i, depth, members, resized,
-                p, q, level, place, digits, pword, qword, left, q,
+                plan, masks, sizes, cells, i, depth, members, resized, p, q, level, place, digits,
+                pword, qword, left, q,
             );
-            return wrapping_add_u32(by_p, by_q);
+            return by_p.wrapping_add(by_q);
         }
     }
     ports_from(
-        table, firsts, ends, uses, masks, sizes, cells, ports, i, depth, members, resized, p, q,
-        level, place, digits, pword, qword, left,
+        plan, masks, sizes, cells, i, depth, members, resized, p, q, level, place, digits, pword,
+        qword, left,
     )
 }
 
 // What the flips of some sets at two ports bring to a tree without quantifiers beyond the flip at each, over all its tuples.
 pub fn both_ports(
-    table: &[u8],
-    firsts: &[u32; 512],
-    ends: &[u16; 512],
-    uses: &[u64; 512],
+    plan: &Plan,
     masks: &[u64],
     sizes: &[u32; 16],
     cells: &[u32],
-    ports: usize,
     i: usize,
     depth: usize,
     members: u64,
@@ -335,18 +297,14 @@ pub fn both_ports(
     p: usize,
     q: usize,
 ) -> u32
-    requires { BothReady ports table.now firsts.now ends.now uses.now masks.now sizes.now cells.now i depth members resized p q }
-    ensures { BothGives ports table.now firsts.now ends.now uses.now masks.now sizes.now cells.now i depth members resized p q result }
+    requires { BothReady plan.now masks.now sizes.now cells.now i depth members resized p q }
+    ensures { BothGives plan.now masks.now sizes.now cells.now i depth members resized p q result }
 {
     both_from(
-        table,
-        firsts,
-        ends,
-        uses,
+        plan,
         masks,
         sizes,
         cells,
-        ports,
         i,
         depth,
         members,
@@ -358,6 +316,6 @@ pub fn both_ports(
         0,
         0,
         0,
-        tested_all(uses_at(uses, i), members, depth),
+        tested_all(plan.uses_at(i), members, depth),
     )
 }

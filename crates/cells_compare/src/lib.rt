@@ -31,6 +31,7 @@ fn put_nested(
         port: 0,
         left: rounds,
     };
+    // no `for`: a step is a whole round, with which the outer's port goes on
     let mut t = 0;
     while t < period {
         let low = (v.port as usize) * other;
@@ -60,11 +61,9 @@ pub fn put_comparison(
     let more = literal_penalty(7, relation, false, 1, 0);
     if other < block {
         put_nested(more, same, less, ports, block, other, width, cells);
-        return;
-    }
-    if block < other {
+    } else if block < other {
         put_nested(less, same, more, ports, other, block, width, cells);
-        return;
+    } else {
+        put_run(0, width, same, cells);
     }
-    put_run(0, width, same, cells);
 }

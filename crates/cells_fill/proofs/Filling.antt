@@ -23,7 +23,8 @@ use Rattle.table_format.proofs.Parts.{rest_all, some-record, one-fits}
 use Rattle.table_format.proofs.Opened.{one-forest, not_none, PartOpened, part-opened, part-span}
 use Rattle.table_format.proofs.Bytes.{record-pos}
 use Rattle.table_format.proofs.Encoding.{length-records}
-use Rattle.cells_join.specs.inner.Joined.{join_into, merged, settled, join_of, spread_of, begin_join, join_with, Low, HeldPlaced, HeldLow, ChildPlaced, Joins}
+use Rattle.cells_join.specs.declared.Join.{Join}
+use Rattle.cells_join.specs.inner.Joined.{join_into, merged, settled, join_of, spread_of, compared, begin_join, join_with, Low, HeldPlaced, HeldLow, ChildPlaced, Joins}
 use Rattle.cells_join.proofs.Prefix.{into-none, into-append}
 use Rattle.cells_join.proofs.Held.{settled-none, settled-behind, length-settled, settled-front, settled-alike, of-kind}
 use Rattle.cells_join.proofs.Limits.{begin-alike, with-alike, low-with, number-low}
@@ -107,7 +108,7 @@ module _ (ports sets depth at nn : ℕ) (masks xs xs₂ : List ℕ) (m : Node) (
       ∙ get_or-append row _ 0 t (rw length-tabulate h) ∙ get_d_tabulate (ports ^ depth) _ t h
 
 -- One tree, joined or held, and its later siblings.
-module _ (join above ports sets depth over at outer held held₂ nn r : ℕ) (masks xs xs₂ xs₃ xs₄ : List ℕ) (n m : Node) (c s : Forest) (u1 : 1 ≤ ports)
+module _ (join : Join) (above ports sets depth over at outer held held₂ nn r : ℕ) (masks xs xs₂ xs₃ xs₄ : List ℕ) (n m : Node) (c s : Forest) (u1 : 1 ≤ ports)
     (kn : kind_number n ≡ above) (dn : depth ≡ child_depth n outer) (on : over ≡ ports ^ outer) (after : over ≤ at) (room : at ≤ length xs) (waits : HeldPlaced over held at)
     (made : TreeFilled ports sets depth at m c masks xs xs₂ nn) (met : Joins join above ports over held at xs₂ xs₃ held₂)
     (rest : Filled above ports sets depth over (at + nn) outer n s masks (settled (join_of above) over held₂ xs₃) xs₄ r) where
@@ -230,21 +231,20 @@ spread-width (lit l) ports outer = rw (literal-spread l.test ports) (omega arith
 
 -- A part of which the trees before byte `place` are filled, and joined but for the row held: where the trees from there on stand,
 -- and that what filling them comes to, the whole part comes to.
-pub record Passed (l : List ℕ) (i above ports sets depth width over : ℕ) (masks xs : List ℕ) (place node at held join : ℕ) (cells : List ℕ) : Type 0 where
+pub record Passed (l : List ℕ) (i above ports sets depth width over : ℕ) (masks xs : List ℕ) (place node at held : ℕ) (join : Join) (cells : List ℕ) : Type 0 where
   pub within : place ≤ length l
   pub same_length : length cells ≡ length xs
   pub placed : FillPlaced (drop place l) node above ports sets depth width over at masks cells
   pub waits : HeldPlaced over held at
   pub held_one : 1 ≤ held → spread_of above ports ≡ 1
-  pub join2 : join ≤ 2
-  pub alike : min 1 join ≡ join_of above
+  pub alike : compared join ≡ join_of above
   pub held_low : 1 ≤ held → Low join cells held over
   pub own-low : spread_of above ports ≡ 1 → over < at → held ≢ over → Low join cells 0 over
   pub comes-to : (ys : List ℕ) (r : ℕ) → Fills (drop place l) node above ports sets depth over at masks (settled (join_of above) over held cells) ys r
       → Fills l i above ports sets depth over over masks xs ys r
 
 pub passed_none : (l : List ℕ) (i above ports sets depth width over : ℕ) (masks xs : List ℕ) → FillPlaced l i above ports sets depth width over over masks xs
-    → (join : ℕ) → join ≡ begin_join above → Passed l i above ports sets depth width over masks xs 0 i over 0 join xs
+    → (join : Join) → join ≡ begin_join above → Passed l i above ports sets depth width over masks xs 0 i over 0 join xs
 unfolding HeldPlaced
 passed_none l i above ports sets depth width over masks xs p join e = record {
   within = omega arith;
@@ -252,14 +252,13 @@ passed_none l i above ports sets depth width over masks xs p join e = record {
   placed = p;
   waits = λ h. absurd (omega arith);
   held_one = λ h. absurd (omega arith);
-  join2 = rw e (begin-alike above).0;
-  alike = rw e (begin-alike above).1;
+  alike = rw e (begin-alike above);
   held_low = λ h. absurd (omega arith);
   own-low = λ _ h. absurd (omega arith);
   comes-to = λ ys r f. subst (λ (x : List ℕ). Fills l i above ports sets depth over over masks x ys r) (settled-none (join_of above) over 0 xs refl) f;
 }
 
-module _ (l : List ℕ) (i above ports sets depth width over : ℕ) (masks xs : List ℕ) (place node at held join : ℕ) (cells : List ℕ)
+module _ (l : List ℕ) (i above ports sets depth width over : ℕ) (masks xs : List ℕ) (place node at held : ℕ) (join : Join) (cells : List ℕ)
     (p : Passed l i above ports sets depth width over masks xs place node at held join cells) where
   -- where all are passed
   pub passed-all : (ys : List ℕ) → length l ≤ place → ys ≡ settled join over held cells → Fills l i above ports sets depth over over masks xs ys at
@@ -333,7 +332,7 @@ module _ (l : List ℕ) (i above ports sets depth width over : ℕ) (masks xs : 
             omega (arith, sp.within, length-drop place l, p.within),
           )
 
-      module _ (kind join₂ : ℕ) (ki : kind ≡ kind_field (take (length l - place) L)) (jn : join₂ ≡ join_with join kind) (nn : ℕ) (xs₂ : List ℕ) (made : FillsTree (take (length l - place) L) node ports sets depth at masks cells xs₂ nn) (l₂ : length xs₂ ≡ length cells) where
+      module _ (kind : ℕ) (join₂ : Join) (ki : kind ≡ kind_field (take (length l - place) L)) (jn : join₂ ≡ join_with join kind) (nn : ℕ) (xs₂ : List ℕ) (made : FillsTree (take (length l - place) L) node ports sets depth at masks cells xs₂ nn) (l₂ : length xs₂ ≡ length cells) where
         abbrev m : Node
         m = first-tree.0
 
@@ -397,15 +396,14 @@ module _ (l : List ℕ) (i above ports sets depth width over : ℕ) (masks xs : 
         over-one : 1 ≤ over
         over-one = rw p.placed.over-is (one-le-pow p.placed.outer ports p.placed.trees.ports1)
 
-        next-join : (join₂ ≤ 2) × (min 1 join₂ ≡ join_of above)
-        next-join = let a = with-alike join kind in (omega (arith, a.0, jn, p.join2), ap (min 1) jn ∙ a.1 ∙ p.alike)
+        next-join : compared join₂ ≡ join_of above
+        next-join = ap compared jn ∙ with-alike join kind ∙ p.alike
 
         -- where its cells are joined
         pub join-placed : ChildPlaced join₂ above ports over held at xs₂
         unfolding HeldPlaced
         join-placed = record {
-          join2 = next-join.0;
-          alike = next-join.1;
+          alike = next-join;
           ports1 = p.placed.trees.ports1;
           over1 = over-one;
           after = p.placed.after;
@@ -460,8 +458,7 @@ module _ (l : List ℕ) (i above ports sets depth width over : ℕ) (masks xs : 
                     let w : over * spread_of above ports ≡ over = ap (λ (x : ℕ). over * x) k.1 ∙ mul-one over in
                     (omega (arith, k.0, q.after), omega (arith, k.0, w, width_of, t.count));
                 held_one = λ h. (met.held-is h).1;
-                join2 = next-join.0;
-                alike = next-join.1;
+                alike = next-join;
                 held_low = λ h.
                     let k = met.held-is h in
                     let w : over * spread_of above ports ≡ over = ap (λ (x : ℕ). over * x) k.1 ∙ mul-one over in

@@ -3,7 +3,7 @@ use mathlib.Core.Path.{◌≡◌, refl, sym, ap, ap₂, ◌∙◌}
 use mathlib.Core.Bool.{Bool, true, false, cond, ◌&&◌}
 use mathlib.Core.Logic.{◌⊎◌, inl, inr}
 use mathlib.Core.List.{List, [], ◌∷◌, ◌++◌, append-nil}
-use Prim.Native.Nat.{ℕ, zero, suc, ◌+◌, ◌-◌, ◌*◌, ◌^◌, ◌≤◌, ◌<◌, min}
+use Prim.Native.Nat.{ℕ, zero, suc, ◌+◌, ◌*◌, ◌^◌, ◌≤◌, ◌<◌, min}
 use native.Mathlib.Nat.{mod-eq_of_lt, pow-suc, mul-one, add-zero}
 use native.Mathlib.Omega.{arith}
 use lib.Dec.{eqb, leb}
@@ -20,28 +20,29 @@ use Rattle.logic.proofs.Lists.{and-false}
 use Rattle.logic.proofs.Relations.{test-kind-range}
 use Rattle.logic.proofs.Tables.{length-tabulate, get_d_tabulate}
 use Rattle.table_format.specs.Rules.{tree_count, arity_rule}
+use Rattle.cells_join.specs.declared.Join.TheVariants.{Add, Least}
 use Rattle.cells_join.specs.inner.Joined.{meet, join_all, join_into, join_of, spread_of}
 use Rattle.cells_fill.specs.inner.Fill.{treewise, table}
 
 -- a sum that stays below 2^32
-join-sum : (x : ℕ) (ys : List ℕ) → x + sum ys < 4294967296 → join_all 0 x ys ≡ x + sum ys
+join-sum : (x : ℕ) (ys : List ℕ) → x + sum ys < 4294967296 → join_all Add x ys ≡ x + sum ys
 unfolding join_all meet sum
 join-sum x [] h = omega arith
 join-sum x (y ∷ ys) h =
-    ap (λ (z : ℕ). join_all 0 z ys) (mod-eq_of_lt {n = x + y} (omega arith)) ∙ join-sum (x + y) ys (omega arith) ∙ omega arith
+    ap (λ (z : ℕ). join_all Add z ys) (mod-eq_of_lt {n = x + y} (omega arith)) ∙ join-sum (x + y) ys (omega arith) ∙ omega arith
 
-join-least : (x y : ℕ) (ys : List ℕ) → join_all 1 x (y ∷ ys) ≡ min x (least (y ∷ ys))
+join-least : (x y : ℕ) (ys : List ℕ) → join_all Least x (y ∷ ys) ≡ min x (least (y ∷ ys))
 unfolding join_all meet least
 join-least x y [] = refl
 join-least x y (z ∷ zs) = join-least (min x y) z zs ∙ omega arith
 
 -- the same begun at the first number, whatever stood there
-into-sum : (x : ℕ) (ys : List ℕ) → 1 ≤ length ys → sum ys < 4294967296 → join_into 0 true x ys ≡ sum ys
+into-sum : (x : ℕ) (ys : List ℕ) → 1 ≤ length ys → sum ys < 4294967296 → join_into Add true x ys ≡ sum ys
 unfolding join_into sum
 into-sum x [] h l = absurd (omega arith)
 into-sum x (y ∷ ys) h l = join-sum y ys l
 
-into-least : (x : ℕ) (ys : List ℕ) → 1 ≤ length ys → join_into 1 true x ys ≡ least ys
+into-least : (x : ℕ) (ys : List ℕ) → 1 ≤ length ys → join_into Least true x ys ≡ least ys
 unfolding join_into join_all least
 into-least x [] h = absurd (omega arith)
 into-least x (y ∷ []) h = refl

@@ -85,6 +85,7 @@ fn fill_children(
     let mut at = over;
     let mut held = 0;
     let mut join = begin_join(above);
+    // Not a `for`: each step passes over the records of a whole tree.
     while place < part.len() {
         let tree = &part[place..];
         let end = end_of(tree);

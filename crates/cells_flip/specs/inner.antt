@@ -1,3 +1,4 @@
 -- What only proofs and inner contracts use.
 pub mod Flips
 pub mod Steps
+pub mod OverPlan

@@ -6,8 +6,8 @@ ghost use Rattle.std.specs.Prelude.{◌≡◌, ◌≢◌, true, false, ◌-◌, 
 ghost use Rattle.logic.specs.Configuration.{in_mask};
 ghost use Rattle.cells_rule.specs.inner.Rule.{rule_penalty};
 ghost use Rattle.cells_row.specs.inner.Row.{row_of, ZeroRow};
-ghost use Rattle.cells_flip.specs.inner.Flips.{FlipReady, FlipGives};
-ghost use Rattle.cells_flip.specs.inner.Steps.{line_port, LiteralReady, LiteralGives, JoinReady, Joins, TreesReady, TreesGive};
+ghost use Rattle.cells_flip.specs.inner.Steps.{line_port, LiteralReady, LiteralGives};
+ghost use Rattle.cells_flip.specs.inner.OverPlan.{FlipReady, FlipGives, JoinReady, Joins, TreesReady, TreesGive};
 
 use cells_members::put_members;
 use cells_row::{begin_row, cells_from, copy_row, fill_row, is_zero, join_row, keep_row};
@@ -15,7 +15,7 @@ use cells_rule::literal_penalty;
 use cells_size::mask_at;
 use cells_sum::adds_of;
 use cells_touch::meet;
-use cells_walk::{end_at, kind_at, place_at, port_at, uses_at};
+use cells_walk::{Plan, port_at};
 use logic::has_port;
 use table_format::{a_of, b_of, kind_of, record_at, relation_of};
 
@@ -83,10 +83,7 @@ fn is_done(add: bool, row: &[u32], count: usize) -> bool
 // old ones. Membership in a hit literal is the other way round than in the masks, so that no masks after the change are asked for.
 #[cycle(flips)]
 pub fn flip_row(
-    table: &[u8],
-    firsts: &[u32; 512],
-    ends: &[u16; 512],
-    uses: &[u64; 512],
+    plan: &Plan,
     masks: &[u64],
     sizes: &[u32; 16],
     cells: &[u32],
@@ -98,31 +95,28 @@ pub fn flip_row(
     word: u64,
     out: &mut [u32],
 )
-    requires { FlipReady table.now firsts.now ends.now uses.now masks.now sizes.now cells.now i count own row digits out.old }
-    ensures { FlipGives table.now firsts.now ends.now uses.now masks.now sizes.now cells.now i count own row digits word out.new }
+    requires { FlipReady plan.now masks.now sizes.now cells.now i count own row digits out.old }
+    ensures { FlipGives plan.now masks.now sizes.now cells.now i count own row digits word out.new }
 {
-    let old = cells_from(cells, place_at(firsts, i, row));
-    if !meet(uses_at(uses, i), word) {
+    let old = cells_from(cells, plan.place_at(i, row));
+    if !meet(plan.uses_at(i), word) {
         copy_row(old, count, out);
         return;
     }
-    let kind = kind_at(table, i);
+    let kind = plan.kind_at(i);
     if 5 <= kind {
-        literal_row(table, masks, sizes, i, count, own, digits, out);
+        literal_row(plan.table, masks, sizes, i, count, own, digits, out);
         return;
     }
     let add = adds_of(kind);
     begin_row(add, old, count, out);
     flip_trees(
-        table,
-        firsts,
-        ends,
-        uses,
+        plan,
         masks,
         sizes,
         cells,
         i + 1,
-        end_at(ends, i),
+        plan.end_at(i),
         count,
         own,
         row,
@@ -136,10 +130,7 @@ pub fn flip_row(
 // The new numbers of a forest's trees, gone into sums or minima, until none changes them any more.
 #[cycle(flips)]
 fn flip_trees(
-    table: &[u8],
-    firsts: &[u32; 512],
-    ends: &[u16; 512],
-    uses: &[u64; 512],
+    plan: &Plan,
     masks: &[u64],
     sizes: &[u32; 16],
     cells: &[u32],
@@ -153,29 +144,26 @@ fn flip_trees(
     add: bool,
     out: &mut [u32],
 )
-    requires { TreesReady table.now firsts.now ends.now uses.now masks.now sizes.now cells.now i until count own row digits out.old }
-    ensures { TreesGive table.now firsts.now ends.now uses.now masks.now sizes.now cells.now i until count own row digits word add out.old out.new }
+    requires { TreesReady plan.now masks.now sizes.now cells.now i until count own row digits out.old }
+    ensures { TreesGive plan.now masks.now sizes.now cells.now i until count own row digits word add out.old out.new }
 {
     let mut j = i;
+    // Not a `for`: each step is to the end that the index has of a tree.
     while j < until {
         if is_done(add, &out[..], count) {
             return;
         }
         flip_tree(
-            table, firsts, ends, uses, masks, sizes, cells, j, count, own, row, digits, word, add,
-            out,
+            plan, masks, sizes, cells, j, count, own, row, digits, word, add, out,
         );
-        j = end_at(ends, j);
+        j = plan.end_at(j);
     }
 }
 
 // One tree's new numbers, gone into sums or minima; one that is not touched is not visited.
 #[cycle(flips)]
 fn flip_tree(
-    table: &[u8],
-    firsts: &[u32; 512],
-    ends: &[u16; 512],
-    uses: &[u64; 512],
+    plan: &Plan,
     masks: &[u64],
     sizes: &[u32; 16],
     cells: &[u32],
@@ -188,17 +176,17 @@ fn flip_tree(
     add: bool,
     out: &mut [u32],
 )
-    requires { JoinReady table.now firsts.now ends.now uses.now masks.now sizes.now cells.now i count own row digits out.old }
-    ensures { Joins table.now firsts.now ends.now uses.now masks.now sizes.now cells.now i count own row digits word add out.old out.new }
+    requires { JoinReady plan.now masks.now sizes.now cells.now i count own row digits out.old }
+    ensures { Joins plan.now masks.now sizes.now cells.now i count own row digits word add out.old out.new }
 {
-    let old = cells_from(cells, place_at(firsts, i, row));
-    if !meet(uses_at(uses, i), word) {
+    let old = cells_from(cells, plan.place_at(i, row));
+    if !meet(plan.uses_at(i), word) {
         keep_row(add, old, count, out);
         return;
     }
     let mut new = [0u32; 64];
     flip_row(
-        table, firsts, ends, uses, masks, sizes, cells, i, count, own, row, digits, word, &mut new,
+        plan, masks, sizes, cells, i, count, own, row, digits, word, &mut new,
     );
     join_row(add, &new, old, count, out);
 }

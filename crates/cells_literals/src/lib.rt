@@ -15,14 +15,13 @@ use cells_members::put_members;
 use cells_rule::literal_penalty;
 use cells_runs::{block_of, put_run};
 use cells_size::{mask_at, set_size};
-use table_format::wide;
 
 // The cells of kind 8: the same at every tuple.
 fn put_size(relation: u8, size: u32, constant: u8, width: usize, cells: &mut [u32])
     requires { (size ≤ 64) × (width ≤ length cells.old) }
     ensures { cells.new ≡ tabulate width (λ _. rule_penalty 8 relation false size constant) ++ drop width cells.old }
 {
-    let value = literal_penalty(8, relation, false, size, constant as u32);
+    let value = literal_penalty(8, relation, false, size, u32::from(constant));
     put_run(0, width, value, cells);
 }
 
@@ -43,20 +42,26 @@ pub fn put_literal(
     ensures { cells.new ≡ tabulate width (λ t. literal_penalty (configured ports sets (in_masks masks.now)) (literal_of (test_of kind relation a b)) (tuple_at ports depth t)) ++ drop width cells.old }
 {
     let count = ports as u32;
-    // (f) port comparison
-    if kind == 7 {
-        let block = block_of(ports, depth, wide(a));
-        let other = block_of(ports, depth, wide(b));
-        put_comparison(relation, count, block, other, width, cells);
-        return;
+    match kind {
+        // (f) port comparison
+        7 => {
+            let block = block_of(ports, depth, usize::from(a));
+            let other = block_of(ports, depth, usize::from(b));
+            put_comparison(relation, count, block, other, width, cells);
+        }
+        // (g) size
+        8 => put_size(
+            relation,
+            set_size(masks, sets, usize::from(a)),
+            b,
+            width,
+            cells,
+        ),
+        // (h) in, (i) not in
+        _ => {
+            let mask = mask_at(masks, usize::from(b));
+            let block = block_of(ports, depth, usize::from(a));
+            put_members(kind, mask, count, block, width, cells);
+        }
     }
-    // (g) size
-    if kind == 8 {
-        put_size(relation, set_size(masks, sets, wide(a)), b, width, cells);
-        return;
-    }
-    // (h) in, (i) not in
-    let mask = mask_at(masks, wide(b));
-    let block = block_of(ports, depth, wide(a));
-    put_members(kind, mask, count, block, width, cells);
 }

@@ -1,23 +1,40 @@
 -- The two halves of a mask hold its ports below 32 and from 32 on. Assumes nothing.
 use mathlib.Core.Path.{◌≡◌, sym, ap, ap₂, ◌∙◌}
 use mathlib.Core.Bool.{Bool, cond}
-use mathlib.Core.List.{List, ◌++◌, append_assoc}
+use mathlib.Core.List.{List, [], ◌++◌, append_assoc, append-nil}
 use Prim.Native.Nat.{ℕ, ◌+◌, ◌-◌, ◌*◌, ◌/◌, ◌%◌, ◌^◌, ◌≤◌, ◌<◌, min}
 use native.Mathlib.Nat.{mod-lt, one-le-pow}
 use native.Mathlib.Omega.{arith}
 use lib.Arith.{digits_div, mod-mul}
 use lib.Dec.{eqb}
-use lib.ListN.{take, drop}
+use lib.ListN.{length, take, drop, length-drop, drop_of_length-le}
 use lib.Pow.{pow-add, mod-mod-pow}
-use lib.Seq.{take_at}
+use lib.Seq.{take_at, length-take-le, drop-drop}
 use Rattle.logic.specs.Configuration.{in_mask}
 use Rattle.logic.specs.Cells.{tabulate}
 use Rattle.logic.proofs.Tables.{length-tabulate, tabulate-cong}
-use Rattle.logic.proofs.Written.{written, from_first, behind-first}
+use Rattle.logic.proofs.Written.{Written, written, from_first, behind-first, all_first}
 use Rattle.cells_runs.specs.inner.Ports.{digit_at}
 use Rattle.cells_runs.proofs.Rounds.{row-port}
 use Rattle.cells_runs.proofs.Runs.{tabulate-add}
 use Rattle.cells_members.proofs.Few.{in-shifted}
+
+pub part-length : (from len : ℕ) (cells : List ℕ) → from + len ≤ length cells → length (take (from + len - from) (drop from cells)) ≡ len
+part-length from len cells h =
+    let n : from + len - from ≡ len = omega arith in
+    ap (λ (m : ℕ). length (take m (drop from cells))) n ∙ length-take-le len (drop from cells) (rw (length-drop from cells) (omega arith))
+
+-- a part of the cells that is written whole
+pub part-written : (f : ℕ → ℕ) (from len t : ℕ) (cells part : List ℕ) → from + len ≤ length cells
+    → Written f 0 len (take (from + len - from) (drop from cells)) part t → len ≤ t
+    → take from cells ++ (part ++ drop (from + len - from) (drop from cells)) ≡ written f from len cells
+part-written f from len t cells part h w l =
+    let n : from + len - from ≡ len = omega arith in
+    let P = take (from + len - from) (drop from cells) in
+    let e : drop len P ≡ [] = drop_of_length-le P {i = len} (omega (arith, part-length from len cells h)) in
+    let r : part ≡ tabulate len f = all_first f len P part t w l ∙ ap (λ (k : List ℕ). tabulate len f ++ k) e ∙ append-nil (tabulate len f) in
+    let d : drop (from + len - from) (drop from cells) ≡ drop (from + len) cells = ap (λ (m : ℕ). drop m (drop from cells)) n ∙ drop-drop len from cells in
+    ap₂ (λ (x y : List ℕ). take from cells ++ (x ++ y)) r d
 
 low_half : (mask t : ℕ) → t < 32 → in_mask (mask % 4294967296) t ≡ in_mask mask t
 unfolding in_mask

@@ -9,7 +9,7 @@ ghost use Rattle.cells_runs.specs.inner.Ports.{digit_at, RunsPlaced, Round};
 
 use cells_rule::literal_penalty;
 use cells_runs::{put_run, repeat_first};
-use logic::{has_port, lesser};
+use logic::has_port;
 
 // What a mask is divided by into its two halves of 32 bits.
 const HALF: u64 = 4294967296;
@@ -22,21 +22,20 @@ fn member_penalty(inside: u32, outside: u32, mask: u64, p: u32) -> u32
     requires { p < 64 }
     ensures { result ≡ cond (in_mask mask p) inside outside }
 {
-    if has_port(mask, p) {
-        return inside;
-    }
-    outside
+    if has_port(mask, p) { inside } else { outside }
 }
 
 // The same by half a mask: a vector holds four numbers of 32 bits, and shifts them in fewer steps than two of 64.
+#[tactic(auto, unfolding(logic::specs::Configuration::in_mask))]
 fn bit_penalty(inside: u32, outside: u32, half: u32, p: u32) -> u32
     requires { p < 32 }
     ensures { result ≡ cond (in_mask half p) inside outside }
 {
     if (half >> p) % 2 == 1 {
-        return inside;
+        inside
+    } else {
+        outside
     }
-    outside
 }
 
 // The cells of `len` ports from place `from` on, by one half of a mask.
@@ -44,19 +43,14 @@ fn put_half(inside: u32, outside: u32, half: u32, from: usize, len: usize, cells
     requires { (len ≤ 32) × (from + len ≤ length cells.old) }
     ensures { cells.new ≡ take from cells.old ++ (tabulate len (λ t. cond (in_mask half t) inside outside) ++ drop (from + len) cells.old) }
 {
-    let mut t = 0;
-    while t < len {
-        cells[from + t] = bit_penalty(inside, outside, half, t as u32);
-        t += 1;
+    for (t, cell) in cells[from..from + len].iter_mut().enumerate() {
+        *cell = bit_penalty(inside, outside, half, t as u32);
     }
 }
 
 // Whether a row is long, and its set has few ports.
 fn is_sparse(mask: u64, row: usize) -> bool {
-    if row <= 32 {
-        return false;
-    }
-    u64::count_ones(mask) <= FEW
+    32 < row && mask.count_ones() <= FEW
 }
 
 // A row of a set of few ports: every cell as outside the set, and then each port's own.
@@ -67,8 +61,9 @@ fn put_few(inside: u32, outside: u32, mask: u64, row: usize, cells: &mut [u32])
     put_run(0, row, outside, cells);
     let mut p = 0;
     let mut rest = mask;
+    // Not a `for`: a step is to the next port of the set.
     while p < row {
-        let gap = u64::trailing_zeros(rest) as usize;
+        let gap = rest.trailing_zeros() as usize;
         let next = p + gap;
         if row <= next {
             return;
@@ -91,12 +86,12 @@ fn put_row(
     requires { RunsPlaced ports 1 width cells.old }
     ensures { Round ports 1 width result × (cells.new ≡ tabulate result (λ t. cond (in_mask mask (digit_at ports 1 t)) inside outside) ++ drop result cells.old) }
 {
-    let row = lesser(ports as usize, width);
+    let row = (ports as usize).min(width);
     if is_sparse(mask, row) {
         put_few(inside, outside, mask, row, cells);
         return row;
     }
-    let low = lesser(row, 32);
+    let low = row.min(32);
     put_half(inside, outside, (mask % HALF) as u32, 0, low, cells);
     put_half(inside, outside, (mask / HALF) as u32, low, row - low, cells);
     row
@@ -120,14 +115,12 @@ fn put_round(
         return put_row(inside, outside, mask, ports, width, cells);
     }
     let mut t = 0;
-    let mut port = 0;
-    while t < width {
-        if port == ports {
+    for port in 0..ports {
+        if t == width {
             return t;
         }
         put_run(t, block, member_penalty(inside, outside, mask, port), cells);
         t += block;
-        port += 1;
     }
     t
 }

@@ -2,13 +2,13 @@
 #![tactic(auto)]
 
 ghost use Rattle.std.specs.Prelude.{◌≡◌, ◌≤◌, ◌<◌, length, get_or};
-ghost use Rattle.cells_ports.specs.inner.Ports.{RowPortsReady, RowPortsGive};
-ghost use Rattle.cells_ports.specs.inner.Rows.{digit, level_if, port_levels, PortRowGives, OverReady, OwnGives, OuterGives, OverGives};
+ghost use Rattle.cells_ports.specs.inner.Rows.{digit, level_if, port_levels};
+ghost use Rattle.cells_ports.specs.inner.OverPlan.{RowPortsReady, RowPortsGive, PortRowGives, OverReady, OwnGives, OuterGives, OverGives};
 
 use cells_flip::flip_row;
 use cells_row::{cells_from, gather_row, join_row, put_port};
 use cells_touch::{level_of, meet};
-use cells_walk::{place_at, port_at, uses_at};
+use cells_walk::{Plan, port_at};
 use logic::wide;
 
 // The bit of a variable in every set, if it is bound outside the row and has port x.
@@ -35,14 +35,10 @@ fn port_levels(depth: usize, digits: u32, x: usize) -> u64
 // The row's new numbers where the sets flip at port x: at every cell by the variables outside the row that have x, at the cell of x by
 // the row's own variable too.
 fn port_row(
-    table: &[u8],
-    firsts: &[u32; 512],
-    ends: &[u16; 512],
-    uses: &[u64; 512],
+    plan: &Plan,
     masks: &[u64],
     sizes: &[u32; 16],
     cells: &[u32],
-    ports: usize,
     i: usize,
     depth: usize,
     row: usize,
@@ -52,39 +48,33 @@ fn port_row(
     x: usize,
     out: &mut [u32],
 )
-    requires { RowPortsReady ports table.now firsts.now ends.now uses.now masks.now sizes.now cells.now i depth row digits members resized out.old × (x < ports) }
-    ensures { PortRowGives ports table.now firsts.now ends.now uses.now masks.now sizes.now cells.now i depth row digits members resized x out.new }
+    requires { RowPortsReady plan.now masks.now sizes.now cells.now i depth row digits members resized out.old × (x < plan.now.ports) }
+    ensures { PortRowGives plan.now masks.now sizes.now cells.now i depth row digits members resized x out.new }
 {
     let outer = port_levels(depth, digits, x);
     let own = level_of(depth);
     flip_row(
-        table,
-        firsts,
-        ends,
-        uses,
+        plan,
         masks,
         sizes,
         cells,
         i,
-        ports,
+        plan.ports,
         depth as u8,
         row,
         digits,
         resized | (members & outer),
         out,
     );
-    if meet(uses_at(uses, i), members & own) {
+    if meet(plan.uses_at(i), members & own) {
         let mut both = [0u32; 64];
         flip_row(
-            table,
-            firsts,
-            ends,
-            uses,
+            plan,
             masks,
             sizes,
             cells,
             i,
-            ports,
+            plan.ports,
             depth as u8,
             row,
             digits,
@@ -98,14 +88,10 @@ fn port_row(
 // By the row's own variable: one row in which the sets flip at each cell's own port, so that each port takes the difference of its cell.
 // Right wherever no variable outside the row has the port.
 fn own_ports(
-    table: &[u8],
-    firsts: &[u32; 512],
-    ends: &[u16; 512],
-    uses: &[u64; 512],
+    plan: &Plan,
     masks: &[u64],
     sizes: &[u32; 16],
     cells: &[u32],
-    ports: usize,
     i: usize,
     depth: usize,
     row: usize,
@@ -115,43 +101,36 @@ fn own_ports(
     base: &[u32],
     out: &mut [u32],
 )
-    requires { OverReady ports table.now firsts.now ends.now uses.now masks.now sizes.now cells.now i depth row digits members resized base.now out.old }
-    ensures { OwnGives ports table.now firsts.now ends.now uses.now masks.now sizes.now cells.now i depth row digits members resized out.old out.new }
+    requires { OverReady plan.now masks.now sizes.now cells.now i depth row digits members resized base.now out.old }
+    ensures { OwnGives plan.now masks.now sizes.now cells.now i depth row digits members resized out.old out.new }
 {
     let own = level_of(depth);
-    if meet(uses_at(uses, i), members & own) {
+    if meet(plan.uses_at(i), members & own) {
         let mut new = [0u32; 64];
         flip_row(
-            table,
-            firsts,
-            ends,
-            uses,
+            plan,
             masks,
             sizes,
             cells,
             i,
-            ports,
+            plan.ports,
             depth as u8,
             row,
             digits,
             resized | (members & own),
             &mut new,
         );
-        join_row(true, &new, base, ports, out);
+        join_row(true, &new, base, plan.ports, out);
     }
 }
 
 // By a variable outside the row: its port takes the differences of the whole row. The port's number before the own variable's step is
 // given as `start`, so that this step is undone there and a port that two variables have comes to the same twice.
 fn outer_port(
-    table: &[u8],
-    firsts: &[u32; 512],
-    ends: &[u16; 512],
-    uses: &[u64; 512],
+    plan: &Plan,
     masks: &[u64],
     sizes: &[u32; 16],
     cells: &[u32],
-    ports: usize,
     i: usize,
     depth: usize,
     row: usize,
@@ -163,18 +142,17 @@ fn outer_port(
     base: &[u32],
     out: &mut [u32],
 )
-    requires { OverReady ports table.now firsts.now ends.now uses.now masks.now sizes.now cells.now i depth row digits members resized base.now out.old × (variable ≤ 1) }
-    ensures { OuterGives ports table.now firsts.now ends.now uses.now masks.now sizes.now cells.now i depth row digits members resized variable start out.old out.new }
+    requires { OverReady plan.now masks.now sizes.now cells.now i depth row digits members resized base.now out.old × (variable ≤ 1) }
+    ensures { OuterGives plan.now masks.now sizes.now cells.now i depth row digits members resized variable start out.old out.new }
 {
     if (variable as usize) < depth {
         let x = wide(port_at(digits, variable));
-        if meet(uses_at(uses, i), members & port_levels(depth, digits, x)) {
+        if meet(plan.uses_at(i), members & port_levels(depth, digits, x)) {
             let mut new = [0u32; 64];
             port_row(
-                table, firsts, ends, uses, masks, sizes, cells, ports, i, depth, row, digits,
-                members, resized, x, &mut new,
+                plan, masks, sizes, cells, i, depth, row, digits, members, resized, x, &mut new,
             );
-            put_port(x, gather_row(true, start, &new, base, ports), out);
+            put_port(x, gather_row(true, start, &new, base, plan.ports), out);
         }
     }
 }
@@ -193,14 +171,10 @@ fn start_at(depth: usize, digits: u32, variable: u8, out: &[u32]) -> u32
 
 // To each port what the flip there adds, over the row's numbers under the resizing alone.
 fn add_ports(
-    table: &[u8],
-    firsts: &[u32; 512],
-    ends: &[u16; 512],
-    uses: &[u64; 512],
+    plan: &Plan,
     masks: &[u64],
     sizes: &[u32; 16],
     cells: &[u32],
-    ports: usize,
     i: usize,
     depth: usize,
     row: usize,
@@ -210,36 +184,29 @@ fn add_ports(
     base: &[u32],
     out: &mut [u32],
 )
-    requires { OverReady ports table.now firsts.now ends.now uses.now masks.now sizes.now cells.now i depth row digits members resized base.now out.old }
-    ensures { OverGives ports table.now firsts.now ends.now uses.now masks.now sizes.now cells.now i depth row digits members resized out.old out.new }
+    requires { OverReady plan.now masks.now sizes.now cells.now i depth row digits members resized base.now out.old }
+    ensures { OverGives plan.now masks.now sizes.now cells.now i depth row digits members resized out.old out.new }
 {
     let first = start_at(depth, digits, 0, &out[..]);
     let second = start_at(depth, digits, 1, &out[..]);
     own_ports(
-        table, firsts, ends, uses, masks, sizes, cells, ports, i, depth, row, digits, members,
-        resized, base, out,
+        plan, masks, sizes, cells, i, depth, row, digits, members, resized, base, out,
     );
     outer_port(
-        table, firsts, ends, uses, masks, sizes, cells, ports, i, depth, row, digits, members,
-        resized, 0, first, base, out,
+        plan, masks, sizes, cells, i, depth, row, digits, members, resized, 0, first, base, out,
     );
     outer_port(
-        table, firsts, ends, uses, masks, sizes, cells, ports, i, depth, row, digits, members,
-        resized, 1, second, base, out,
+        plan, masks, sizes, cells, i, depth, row, digits, members, resized, 1, second, base, out,
     );
 }
 
 // The differences of a resizing over one row; and to `out`, port by port, what the flip of the sets at that port adds to it. Where the
 // tree uses no set that is resized, the old row is the one under the resizing, and is not copied.
 pub fn row_ports(
-    table: &[u8],
-    firsts: &[u32; 512],
-    ends: &[u16; 512],
-    uses: &[u64; 512],
+    plan: &Plan,
     masks: &[u64],
     sizes: &[u32; 16],
     cells: &[u32],
-    ports: usize,
     i: usize,
     depth: usize,
     row: usize,
@@ -248,28 +215,24 @@ pub fn row_ports(
     resized: u64,
     out: &mut [u32],
 ) -> u32
-    requires { RowPortsReady ports table.now firsts.now ends.now uses.now masks.now sizes.now cells.now i depth row digits members resized out.old }
-    ensures { RowPortsGive ports table.now firsts.now ends.now uses.now masks.now sizes.now cells.now i depth row digits members resized out.old out.new result }
+    requires { RowPortsReady plan.now masks.now sizes.now cells.now i depth row digits members resized out.old }
+    ensures { RowPortsGive plan.now masks.now sizes.now cells.now i depth row digits members resized out.old out.new result }
 {
-    let old = cells_from(cells, place_at(firsts, i, row));
-    if !meet(uses_at(uses, i), resized) {
+    let old = cells_from(cells, plan.place_at(i, row));
+    if !meet(plan.uses_at(i), resized) {
         add_ports(
-            table, firsts, ends, uses, masks, sizes, cells, ports, i, depth, row, digits, members,
-            resized, old, out,
+            plan, masks, sizes, cells, i, depth, row, digits, members, resized, old, out,
         );
         return 0;
     }
     let mut base = [0u32; 64];
     flip_row(
-        table,
-        firsts,
-        ends,
-        uses,
+        plan,
         masks,
         sizes,
         cells,
         i,
-        ports,
+        plan.ports,
         depth as u8,
         row,
         digits,
@@ -277,8 +240,7 @@ pub fn row_ports(
         &mut base,
     );
     add_ports(
-        table, firsts, ends, uses, masks, sizes, cells, ports, i, depth, row, digits, members,
-        resized, &base, out,
+        plan, masks, sizes, cells, i, depth, row, digits, members, resized, &base, out,
     );
-    gather_row(true, 0, &base, old, ports)
+    gather_row(true, 0, &base, old, plan.ports)
 }

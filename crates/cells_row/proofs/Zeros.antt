@@ -22,16 +22,12 @@ one_more row x H h y l = go (ℕ_discrete y x)
     go (yes e) = ap (λ (z : ℕ). get_or row z 0) e ∙ h
     go (no e) = H y (omega arith)
 
-pub zero-first : (row : List ℕ) → ZeroRow row 0
+pub zero_first : (row : List ℕ) → ZeroRow row 0
 unfolding ZeroRow
-zero-first row x l = absurd (omega arith)
+zero_first row x l = absurd (omega arith)
 
 pub zero_more : (row : List ℕ) (x seen next : ℕ) → (seen ≡ 0 → ZeroRow row x) → next ≡ bit_or seen (get_or row x 0) → next ≡ 0 → ZeroRow row (x + 1)
 zero_more row x seen next H e h = let z = or-zero seen (get_or row x 0) (sym e ∙ h) in one_more row x (H z.0) z.1
-
-pub zero-last : (row : List ℕ) (x u : ℕ) → ZeroRow row x → u ≤ x → ZeroRow row u
-unfolding ZeroRow
-zero-last row x u H h y l = H y (omega arith)
 
 -- a minimum that is 0
 pub gathered-zero : (rs : List Renewal) → gathered false 0 rs ≡ 0

@@ -3,7 +3,7 @@ use mathlib.Core.Path.{◌≡◌, refl, sym, ap, ◌∙◌}
 use mathlib.Core.Bool.{cond}
 use mathlib.Core.List.{List}
 use Prim.Native.Nat.{ℕ, zero, suc, ◌+◌, ◌-◌, ◌*◌, ◌^◌, ◌/◌, ◌%◌, ◌≤◌, ◌<◌}
-use native.Mathlib.Nat.{mod-lt, mod-eq_of_lt, mod_self, mod-add-mod, add-mod_right, add-div_right, mul-mod_left, div-one, div-div-eq-div-mul, div-add-mod', pow-zero, pow-succ', one-le-pow, pow-le-pow_left, pow-le-pow_right, mul-le-mul, mul-le-mul_right, suc-mul, zero-div, zero-mod}
+use native.Mathlib.Nat.{mod-lt, mod-add-mod, add-mod_right, add-div_right, mul-mod_left, div-one, div-div-eq-div-mul, div-add-mod', pow-zero, pow-succ', one-le-pow, pow-le-pow_left, pow-le-pow_right, mul-le-mul_right, suc-mul, zero-div, zero-mod}
 use native.Mathlib.Decide.{dec_lt}
 use native.Mathlib.Omega.{arith}
 use lib.Dec.{eqb}
@@ -47,13 +47,6 @@ digit_lt u block t h = mod-lt (t / block) h
 pub digit-first : (u block : ℕ) → 0 ≡ digit_at u block 0
 unfolding digit_at
 digit-first u block = sym (ap (λ (x : ℕ). x % u) (zero-div block) ∙ zero-mod u)
-
--- the next port by a test
-pub next-within : (p u : ℕ) → p + 1 < u → p + 1 ≡ (p + 1) % u
-next-within p u h = sym (mod-eq_of_lt h)
-
-pub next-round : (p u : ℕ) → p < u → u ≤ p + 1 → 0 ≡ (p + 1) % u
-next-round p u h l = let e : p + 1 ≡ u = omega arith in sym (ap (λ (x : ℕ). x % u) e ∙ mod_self u)
 
 pub digit-start : (u block : ℕ) (d : Digit) → d.port ≡ 0 → d.left ≡ block → DigitIs u block 0 d
 digit-start u block d p l = record { port-is = p ∙ digit-first u block; left_is = omega (arith, zero-mod block) }
@@ -130,11 +123,9 @@ run_fits {u} {block} {w} p t z h =
     go e f (no l) =
         let m : w / block ≤ t / block = omega arith in absurd (omega (arith, mul-le-mul_right block m))
 
--- ten powers of at most 64 fit in 64 bits
-pub power-low : (u i : ℕ) → u ≤ 64 → i < 10 → u ^ i * u ≤ 1152921504606846976
-power-low u i h l =
-    let e : u ^ i ≤ 64 ^ i = pow-le-pow_left h i in
-    let f : 64 ^ i ≤ 64 ^ 9 = pow-le-pow_right {n = 64} (omega arith) {i = i} {j = 9} (omega arith) in
-    let g : u ^ i ≤ 18014398509481984 = omega arith in
-    let m : u ^ i * u ≤ 18014398509481984 * 64 = mul-le-mul g h in
+-- a power of at most 64 fits in 64 bits, as two variables inside a third ask for
+pub power_low : (u n : ℕ) → u ≤ 64 → n ≤ 2 → u ^ n < 18446744073709551616
+power_low u n h l =
+    let e : u ^ n ≤ 64 ^ n = pow-le-pow_left h n in
+    let f : 64 ^ n ≤ 64 ^ 2 = pow-le-pow_right {n = 64} (omega arith) {i = n} {j = 2} l in
     omega arith

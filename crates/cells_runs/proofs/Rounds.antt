@@ -12,14 +12,8 @@ use Rattle.logic.specs.Cells.{tabulate}
 use Rattle.logic.proofs.Tables.{length-tabulate, get_d_tabulate, tabulate-cong}
 use Rattle.cells_runs.specs.inner.Ports.{digit_at, RunsPlaced, repeated, Round}
 use Rattle.cells_runs.proofs.Digits.{run_fits}
-use Rattle.logic.proofs.Written.{Written, done, from_first, written-before, take-tabulate, copied}
+use Rattle.logic.proofs.Written.{Written, done, from_first, take-tabulate, copied}
 use Rattle.cells_runs.proofs.Runs.{part-more}
-
--- one cell more copied
-pub copy_more : (to len : ℕ) (xs cells : List ℕ) (i : ℕ) → Written (λ j. get_or xs j 0) to len xs cells i → i < len → len ≤ to → to + len ≤ length xs
-    → get_or cells i 0 ≡ get_or xs i 0
-copy_more to len xs cells i w l h k =
-    ap (λ (c : List ℕ). get_or c i 0) w.is ∙ written-before (λ j. get_or xs j 0) to i i xs (omega arith) (omega arith)
 
 -- Whole periods on, a place is the same in its period.
 pub period-on : (t i p : ℕ) → t % p ≡ 0 → (t + i) % p ≡ i % p
@@ -109,6 +103,14 @@ round-all u block w t e = record {
   within = omega arith;
   again = λ x l. ap (digit_at u block) (sym (ap (λ (m : ℕ). x % m) e ∙ mod-eq_of_lt l));
 }
+
+-- every port once, or all there are
+pub round-end : {u block w : ℕ} {cells : List ℕ} → RunsPlaced u block w cells → (t : ℕ) → t ≡ u * block → t ≤ w → Round u block w t
+round-end {u} {block} {w} p t e h = go (dec_lt t w)
+  where
+    go : Dec (t < w) → Round u block w t
+    go (yes l) = round_whole p t e l
+    go (no n) = round-all u block w t (omega arith)
 
 -- the first row of the innermost variable
 pub row-port : (u t : ℕ) → t < u → t ≡ digit_at u 1 t

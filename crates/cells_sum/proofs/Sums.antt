@@ -1,5 +1,7 @@
 -- Wrapping sums and minima, one after the other. Assumes nothing.
-use Rattle.std.proofs.Common.{◌≡◌, ℕ, suc, ◌+◌, ◌-◌, ◌%◌, ◌<◌, min, Bool, true, false, List, [], ◌∷◌, ◌++◌, sym, refl, ap, ◌∙◌, ap₂, arith}
+use Rattle.std.proofs.Common.{◌≡◌, ℕ, suc, ◌+◌, ◌-◌, ◌%◌, min, Bool, true, false, List, [], ◌∷◌, ◌++◌, sym, refl, ap, ◌∙◌, ap₂, arith}
+use mir.Val.{bool_byte}
+use Rattle.logic.specs.Configuration.{indicator}
 use Rattle.logic.specs.Penalty.{sum, each_port}
 use Rattle.logic.specs.Change.{modulus, Renewal}
 use Rattle.logic.proofs.Lists.{sum-append}
@@ -7,26 +9,27 @@ use Rattle.cells_sum.specs.inner.Walk.{taken, gathered, Joined}
 use Rattle.cells_sum.specs.declared.After.{After}
 use Rattle.cells_sum.specs.declared.Sum.{Sum}
 
--- a + (new - old) modulo 2^32, where s is new - old
-pub wrapped : (a new old s : ℕ) → old < 4294967296 → (s + old) % 4294967296 ≡ new
-    → (a + s) % 4294967296 ≡ (a + (new + (4294967296 - old))) % 4294967296
-wrapped a new old s ho e = omega arith
-
-pub joined-sum : (add : Bool) (acc : Sum) (x : After) (r : Sum) → add ≡ true → r.value ≡ (acc.value + (x.value + (4294967296 - x.old))) % 4294967296
+pub joined_sum : (add : Bool) (acc : Sum) (x : After) (r : Sum) → add ≡ true → r.value ≡ (acc.value + (x.value + (4294967296 - x.old))) % 4294967296
     → r.changed ≡ (acc.changed + x.changed) % 4294967296 → Joined add acc x r
 unfolding taken modulus
-joined-sum add acc x r h v c = record {
+joined_sum add acc x r h v c = record {
   value-is = v ∙ sym (ap (λ (b : Bool). taken b acc.value record { hit = true; old = x.old; new = x.value }) h);
   changed-is = c;
 }
 
-pub joined-least : (add : Bool) (acc : Sum) (x : After) (r : Sum) → add ≡ false → r.value ≡ min acc.value x.value
+pub joined_least : (add : Bool) (acc : Sum) (x : After) (r : Sum) → add ≡ false → r.value ≡ min acc.value x.value
     → r.changed ≡ (acc.changed + x.changed) % 4294967296 → Joined add acc x r
 unfolding taken modulus
-joined-least add acc x r h v c = record {
+joined_least add acc x r h v c = record {
   value-is = v ∙ sym (ap (λ (b : Bool). taken b acc.value record { hit = true; old = x.old; new = x.value }) h);
   changed-is = c;
 }
+
+-- a truth value as a number
+pub bit_is : (b : Bool) → bool_byte b ≡ indicator b
+unfolding indicator
+bit_is true = refl
+bit_is false = refl
 
 -- of a cell directly below only its number before and after counts
 pub taken-same : (a : Bool) (m : ℕ) (y z : Renewal) → y.old ≡ z.old → y.new ≡ z.new → taken a m y ≡ taken a m z

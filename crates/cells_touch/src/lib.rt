@@ -2,7 +2,7 @@
 #![tactic(auto)]
 
 ghost use Rattle.std.specs.Prelude.{◌≡◌, ◌<◌};
-ghost use Rattle.cells_touch.specs.inner.Hits.{meets, level, other_levels, at_port, first_word, rest_word, port_word, variable_bits, size_bit, change_at, change_in, Tells};
+ghost use Rattle.cells_touch.specs.inner.Hits.{meets, level, other_levels, at_port, first_word, rest_word, port_word, variable_bits, size_bit, change_at, Tells};
 
 use logic::{Move, bit, wide};
 
@@ -15,46 +15,6 @@ pub struct Changed {
     pub psets: u64,
     pub qsets: u64,
     pub resized: u64,
-}
-
-// A port as a number among others.
-fn port_number(port: usize) -> u64
-    ensures { result ≡ port }
-{
-    port as u64
-}
-
-// A number as a port.
-fn number_port(number: u64) -> usize
-    ensures { result ≡ number }
-{
-    number as usize
-}
-
-// A change as five numbers, which a walk lends on: a struct would be copied at every visit.
-pub fn numbers_of(c: Changed) -> [u64; 5]
-    ensures { change_in result ≡ c }
-{
-    [
-        port_number(c.p),
-        port_number(c.q),
-        c.psets,
-        c.qsets,
-        c.resized,
-    ]
-}
-
-// The change that five numbers say.
-pub fn change_in(numbers: &[u64; 5]) -> Changed
-    ensures { result ≡ change_in numbers.now }
-{
-    Changed {
-        p: number_port(numbers[0]),
-        q: number_port(numbers[1]),
-        psets: numbers[2],
-        qsets: numbers[3],
-        resized: numbers[4],
-    }
 }
 
 // Whether a node that uses sets so is touched at a tuple of this word.
@@ -78,26 +38,6 @@ fn other_levels(depth: usize) -> u64
     0xffffffffffffffff - level_of(depth)
 }
 
-// The sets that change at port x.
-fn at_port(c: Changed, x: usize) -> u64
-    ensures { result ≡ at_port c x }
-{
-    if x == c.p {
-        return c.psets;
-    }
-    if x == c.q {
-        return c.qsets;
-    }
-    0
-}
-
-// The word of the empty tuple.
-pub fn first_word(c: Changed) -> u64
-    ensures { result ≡ first_word c }
-{
-    c.psets | c.qsets | c.resized
-}
-
 // What a word says of every port alike, below a quantifier at this depth.
 pub fn rest_word(word: u64, depth: usize) -> u64
     ensures { result ≡ rest_word word depth }
@@ -105,11 +45,33 @@ pub fn rest_word(word: u64, depth: usize) -> u64
     word & other_levels(depth)
 }
 
-// The word of a tuple with port x, below a quantifier at this depth.
-pub fn port_word(c: &[u64; 5], word: u64, depth: usize, x: usize) -> u64
-    ensures { result ≡ port_word (change_in c.now) word depth x }
-{
-    rest_word(word, depth) | (at_port(change_in(c), x) & level_of(depth))
+impl Changed {
+    // The sets that change at port x.
+    fn at_port(&self, x: usize) -> u64
+        ensures { result ≡ at_port self.now x }
+    {
+        if x == self.p {
+            self.psets
+        } else if x == self.q {
+            self.qsets
+        } else {
+            0
+        }
+    }
+
+    // The word of the empty tuple.
+    pub fn first_word(&self) -> u64
+        ensures { result ≡ first_word self.now }
+    {
+        self.psets | self.qsets | self.resized
+    }
+
+    // The word of a tuple with port x, below a quantifier at this depth.
+    pub fn port_word(&self, word: u64, depth: usize, x: usize) -> u64
+        ensures { result ≡ port_word self.now word depth x }
+    {
+        rest_word(word, depth) | (self.at_port(x) & level_of(depth))
+    }
 }
 
 // The bits of a set that say which variables it is tested at.

@@ -2,67 +2,51 @@
 #![tactic(auto)]
 
 ghost use Rattle.std.specs.Prelude.{true};
-ghost use Rattle.cells_touch.specs.inner.Hits.{change_in};
-ghost use Rattle.cells_walk.specs.inner.Root.{RootReady, RootGives};
-ghost use Rattle.cells_visit.specs.inner.Walking.{CellReady, CellTouched, QuantifierReady, CellGives, TreesReady, TreesGive, PairReady, PortsSo, RowReady, RowGives, RowCellsReady, RowJoinReady, RowJoins, RowTreesReady, RowTreesGive};
+ghost use Rattle.cells_walk.specs.inner.Root.{RootGives};
+ghost use Rattle.cells_walk.specs.inner.OverPlan.{RootReady};
+ghost use Rattle.cells_visit.specs.inner.OverPlan.{CellReady, CellTouched, QuantifierReady, CellGives, TreesReady, TreesGive, PairReady, PortsSo, RowReady, RowGives, RowCellsReady, RowJoinReady, RowJoins, RowTreesReady, RowTreesGive};
 
 use cells_row::{begin_row, copy_row, count_row, fill_row, join_row, keep_row, put_port};
 use cells_sum::{After, Sum, adds_of, begin, join, outcome};
-use cells_touch::{Changed, first_word, numbers_of, port_word};
-use cells_walk::{
-    adds_at, by_cells, cell_at, end_at, every_at, first_port, higher_port, is_quantifier, kept,
-    kind_at, literal_at, literal_outcome, lower_port, next_port, row_at, row_outcome, touched_at,
-    with_port,
-};
+use cells_touch::Changed;
+use cells_walk::{Plan, by_cells, first_port, is_quantifier, next_port, row_outcome, with_port};
 use std::num::wrapping_add_u32;
 
 // A cell's old number, its new one, and how many cells at or below it differ from before.
 #[cycle(walk)]
 pub fn cell_after(
-    table: &[u8],
-    firsts: &[u32; 512],
-    ends: &[u16; 512],
-    uses: &[u64; 512],
+    plan: &Plan,
     masks: &[u64],
     cells: &[u32],
-    ports: usize,
-    sets: usize,
-    c: &[u64; 5],
+    change: &Changed,
     i: usize,
     depth: usize,
     place: usize,
     digits: u32,
     word: u64,
 ) -> After
-    requires { CellReady ports sets (change_in c.now) table.now firsts.now ends.now uses.now masks.now cells.now i depth place digits word }
-    ensures { CellGives ports sets (change_in c.now) table.now firsts.now ends.now uses.now masks.now cells.now i depth place digits word result }
+    requires { CellReady plan.now change.now masks.now cells.now i depth place digits word }
+    ensures { CellGives plan.now change.now masks.now cells.now i depth place digits word result }
 {
-    let old = cell_at(firsts, i, place, cells);
-    if !touched_at(uses, i, word) {
-        return kept(firsts, i, place, cells);
+    let old = plan.cell_at(i, place, cells);
+    if !plan.touched_at(i, word) {
+        return plan.kept(i, place, cells);
     }
-    let kind = kind_at(table, i);
+    let kind = plan.kind_at(i);
     if 5 <= kind {
-        return literal_outcome(old, table, i, ports, sets, depth, masks, digits);
+        return plan.literal_outcome(old, i, depth, masks, digits);
     }
     if is_quantifier(kind) {
-        return ports_after(
-            table, firsts, ends, uses, masks, cells, ports, sets, c, i, depth, place, digits, word,
-        );
+        return ports_after(plan, masks, cells, change, i, depth, place, digits, word);
     }
     let add = adds_of(kind);
     let r = trees_after(
-        table,
-        firsts,
-        ends,
-        uses,
+        plan,
         masks,
         cells,
-        ports,
-        sets,
-        c,
+        change,
         i + 1,
-        end_at(ends, i),
+        plan.end_at(i),
         depth,
         place,
         digits,
@@ -76,45 +60,33 @@ pub fn cell_after(
 // A touched cell among its siblings. A literal's is done here, so that the loop over them makes no call for one.
 #[cycle(walk)]
 fn tree_after(
-    table: &[u8],
-    firsts: &[u32; 512],
-    ends: &[u16; 512],
-    uses: &[u64; 512],
+    plan: &Plan,
     masks: &[u64],
     cells: &[u32],
-    ports: usize,
-    sets: usize,
-    c: &[u64; 5],
+    change: &Changed,
     i: usize,
     depth: usize,
     place: usize,
     digits: u32,
     word: u64,
 ) -> After
-    requires { CellTouched ports sets (change_in c.now) table.now firsts.now ends.now uses.now masks.now cells.now i depth place digits word }
-    ensures { CellGives ports sets (change_in c.now) table.now firsts.now ends.now uses.now masks.now cells.now i depth place digits word result }
+    requires { CellTouched plan.now change.now masks.now cells.now i depth place digits word }
+    ensures { CellGives plan.now change.now masks.now cells.now i depth place digits word result }
 {
-    if 5 <= kind_at(table, i) {
-        let old = cell_at(firsts, i, place, cells);
-        return literal_outcome(old, table, i, ports, sets, depth, masks, digits);
+    if 5 <= plan.kind_at(i) {
+        let old = plan.cell_at(i, place, cells);
+        return plan.literal_outcome(old, i, depth, masks, digits);
     }
-    cell_after(
-        table, firsts, ends, uses, masks, cells, ports, sets, c, i, depth, place, digits, word,
-    )
+    cell_after(plan, masks, cells, change, i, depth, place, digits, word)
 }
 
 // The trees of a forest at a tuple, gone into a sum or a minimum.
 #[cycle(walk)]
 fn trees_after(
-    table: &[u8],
-    firsts: &[u32; 512],
-    ends: &[u16; 512],
-    uses: &[u64; 512],
+    plan: &Plan,
     masks: &[u64],
     cells: &[u32],
-    ports: usize,
-    sets: usize,
-    c: &[u64; 5],
+    change: &Changed,
     i: usize,
     until: usize,
     depth: usize,
@@ -124,22 +96,20 @@ fn trees_after(
     add: bool,
     acc: Sum,
 ) -> Sum
-    requires { TreesReady ports sets (change_in c.now) table.now firsts.now ends.now uses.now masks.now cells.now i until depth place digits word acc }
-    ensures { TreesGive ports sets (change_in c.now) table.now firsts.now ends.now uses.now masks.now cells.now i until depth place digits word add acc result }
+    requires { TreesReady plan.now change.now masks.now cells.now i until depth place digits word acc }
+    ensures { TreesGive plan.now change.now masks.now cells.now i until depth place digits word add acc result }
 {
     let mut sum = acc;
     let mut j = i;
+    // Not a `for`: each step is to the end that the index has of a tree.
     while j < until {
-        if touched_at(uses, j, word) {
-            let r = tree_after(
-                table, firsts, ends, uses, masks, cells, ports, sets, c, j, depth, place, digits,
-                word,
-            );
+        if plan.touched_at(j, word) {
+            let r = tree_after(plan, masks, cells, change, j, depth, place, digits, word);
             sum = join(add, sum, r);
         } else {
-            sum = join(add, sum, kept(firsts, j, place, cells));
+            sum = join(add, sum, plan.kept(j, place, cells));
         }
-        j = end_at(ends, j);
+        j = plan.end_at(j);
     }
     sum
 }
@@ -148,48 +118,34 @@ fn trees_after(
 // the child's cells at all ports are one row.
 #[cycle(walk)]
 fn ports_after(
-    table: &[u8],
-    firsts: &[u32; 512],
-    ends: &[u16; 512],
-    uses: &[u64; 512],
+    plan: &Plan,
     masks: &[u64],
     cells: &[u32],
-    ports: usize,
-    sets: usize,
-    c: &[u64; 5],
+    change: &Changed,
     i: usize,
     depth: usize,
     place: usize,
     digits: u32,
     word: u64,
 ) -> After
-    requires { QuantifierReady ports sets (change_in c.now) table.now firsts.now ends.now uses.now masks.now cells.now i depth place digits word }
-    ensures { CellGives ports sets (change_in c.now) table.now firsts.now ends.now uses.now masks.now cells.now i depth place digits word result }
+    requires { QuantifierReady plan.now change.now masks.now cells.now i depth place digits word }
+    ensures { CellGives plan.now change.now masks.now cells.now i depth place digits word result }
 {
-    if !adds_at(table, i) {
-        return all_ports_after(
-            table, firsts, ends, uses, masks, cells, ports, sets, c, i, depth, place, digits, word,
-        );
+    if !plan.adds_at(i) {
+        return all_ports_after(plan, masks, cells, change, i, depth, place, digits, word);
     }
-    if every_at(uses, i + 1, word, depth) {
-        return all_ports_after(
-            table, firsts, ends, uses, masks, cells, ports, sets, c, i, depth, place, digits, word,
-        );
+    if plan.every_at(i + 1, word, depth) {
+        return all_ports_after(plan, masks, cells, change, i, depth, place, digits, word);
     }
-    let old = cell_at(firsts, i, place, cells);
+    let old = plan.cell_at(i, place, cells);
     let r = pair_after(
-        table,
-        firsts,
-        ends,
-        uses,
+        plan,
         masks,
         cells,
-        ports,
-        sets,
-        c,
+        change,
         i + 1,
         depth,
-        place * ports,
+        place * plan.ports,
         digits,
         word,
         begin(true, old),
@@ -201,40 +157,30 @@ fn ports_after(
 // the frame of `cell_after`, of which there is one for each level of the plan.
 #[cycle(walk)]
 fn all_ports_after(
-    table: &[u8],
-    firsts: &[u32; 512],
-    ends: &[u16; 512],
-    uses: &[u64; 512],
+    plan: &Plan,
     masks: &[u64],
     cells: &[u32],
-    ports: usize,
-    sets: usize,
-    c: &[u64; 5],
+    change: &Changed,
     i: usize,
     depth: usize,
     place: usize,
     digits: u32,
     word: u64,
 ) -> After
-    requires { QuantifierReady ports sets (change_in c.now) table.now firsts.now ends.now uses.now masks.now cells.now i depth place digits word }
-    ensures { CellGives ports sets (change_in c.now) table.now firsts.now ends.now uses.now masks.now cells.now i depth place digits word result }
+    requires { QuantifierReady plan.now change.now masks.now cells.now i depth place digits word }
+    ensures { CellGives plan.now change.now masks.now cells.now i depth place digits word result }
 {
-    let old = cell_at(firsts, i, place, cells);
-    let add = adds_at(table, i);
-    let row = place * ports;
+    let old = plan.cell_at(i, place, cells);
+    let add = plan.adds_at(i);
+    let row = place * plan.ports;
     let mut before = [0u32; 64];
-    copy_row(row_at(firsts, i + 1, row, cells), ports, &mut before);
+    copy_row(plan.row_at(i + 1, row, cells), plan.ports, &mut before);
     let mut new = [0u32; 64];
     let changed = row_after(
-        table,
-        firsts,
-        ends,
-        uses,
+        plan,
         masks,
         cells,
-        ports,
-        sets,
-        c,
+        change,
         i + 1,
         depth,
         row,
@@ -242,21 +188,16 @@ fn all_ports_after(
         word,
         &mut new,
     );
-    row_outcome(add, old, changed, &new, &before, ports)
+    row_outcome(add, old, changed, &new, &before, plan.ports)
 }
 
 // A sum with the child's cells at the ports of the change.
 #[cycle(walk)]
 fn pair_after(
-    table: &[u8],
-    firsts: &[u32; 512],
-    ends: &[u16; 512],
-    uses: &[u64; 512],
+    plan: &Plan,
     masks: &[u64],
     cells: &[u32],
-    ports: usize,
-    sets: usize,
-    c: &[u64; 5],
+    change: &Changed,
     i: usize,
     depth: usize,
     row: usize,
@@ -264,46 +205,36 @@ fn pair_after(
     word: u64,
     acc: Sum,
 ) -> Sum
-    requires { PairReady ports sets (change_in c.now) table.now firsts.now ends.now uses.now masks.now cells.now i depth row digits word acc }
-    ensures { PortsSo ports sets (change_in c.now) table.now firsts.now ends.now uses.now masks.now cells.now i depth row digits word true ports acc result }
+    requires { PairReady plan.now change.now masks.now cells.now i depth row digits word acc }
+    ensures { PortsSo plan.now change.now masks.now cells.now i depth row digits word true plan.now.ports acc result }
 {
-    let p = lower_port(c);
-    let q = higher_port(c);
+    let p = change.p;
+    let q = change.q;
     let first = cell_after(
-        table,
-        firsts,
-        ends,
-        uses,
+        plan,
         masks,
         cells,
-        ports,
-        sets,
-        c,
+        change,
         i,
         depth + 1,
         row + p,
         with_port(digits, depth, p),
-        port_word(c, word, depth, p),
+        change.port_word(word, depth, p),
     );
     let sum = join(true, acc, first);
     if q <= p {
         return sum;
     }
     let second = cell_after(
-        table,
-        firsts,
-        ends,
-        uses,
+        plan,
         masks,
         cells,
-        ports,
-        sets,
-        c,
+        change,
         i,
         depth + 1,
         row + q,
         with_port(digits, depth, q),
-        port_word(c, word, depth, q),
+        change.port_word(word, depth, q),
     );
     join(true, sum, second)
 }
@@ -311,15 +242,10 @@ fn pair_after(
 // A node's cells at every port of the variable above it, put into `out`; how many cells at or below them differ from before.
 #[cycle(walk)]
 fn row_after(
-    table: &[u8],
-    firsts: &[u32; 512],
-    ends: &[u16; 512],
-    uses: &[u64; 512],
+    plan: &Plan,
     masks: &[u64],
     cells: &[u32],
-    ports: usize,
-    sets: usize,
-    c: &[u64; 5],
+    change: &Changed,
     i: usize,
     depth: usize,
     row: usize,
@@ -327,38 +253,32 @@ fn row_after(
     word: u64,
     out: &mut [u32],
 ) -> u32
-    requires { RowReady ports sets (change_in c.now) table.now firsts.now ends.now uses.now masks.now cells.now i depth row digits word out.old }
-    ensures { RowGives ports sets (change_in c.now) table.now firsts.now ends.now uses.now masks.now cells.now i depth row digits word out.new result }
+    requires { RowReady plan.now change.now masks.now cells.now i depth row digits word out.old }
+    ensures { RowGives plan.now change.now masks.now cells.now i depth row digits word out.new result }
 {
-    let old = row_at(firsts, i, row, cells);
-    let kind = kind_at(table, i);
-    let every = every_at(uses, i, word, depth);
+    let old = plan.row_at(i, row, cells);
+    let kind = plan.kind_at(i);
+    let every = plan.every_at(i, word, depth);
     if by_cells(every, kind) {
-        copy_row(old, ports, out);
+        copy_row(old, plan.ports, out);
         return row_cells_after(
-            table, firsts, ends, uses, masks, cells, ports, sets, c, i, depth, row, digits, word,
-            every, out,
+            plan, masks, cells, change, i, depth, row, digits, word, every, out,
         );
     }
     if 5 <= kind {
-        let value = literal_at(table, i, ports, sets, depth + 1, masks, digits);
-        fill_row(value, ports, out);
-        return count_row(&out[..], old, ports);
+        let value = plan.literal_at(i, depth + 1, masks, digits);
+        fill_row(value, plan.ports, out);
+        return count_row(&out[..], old, plan.ports);
     }
     let add = adds_of(kind);
-    begin_row(add, old, ports, out);
+    begin_row(add, old, plan.ports, out);
     let changed = row_trees_after(
-        table,
-        firsts,
-        ends,
-        uses,
+        plan,
         masks,
         cells,
-        ports,
-        sets,
-        c,
+        change,
         i + 1,
-        end_at(ends, i),
+        plan.end_at(i),
         depth,
         row,
         digits,
@@ -366,21 +286,16 @@ fn row_after(
         add,
         out,
     );
-    wrapping_add_u32(changed, count_row(&out[..], old, ports))
+    wrapping_add_u32(changed, count_row(&out[..], old, plan.ports))
 }
 
 // The cells of a row visited one by one: at every port, or at those of the change where no other can be touched.
 #[cycle(walk)]
 fn row_cells_after(
-    table: &[u8],
-    firsts: &[u32; 512],
-    ends: &[u16; 512],
-    uses: &[u64; 512],
+    plan: &Plan,
     masks: &[u64],
     cells: &[u32],
-    ports: usize,
-    sets: usize,
-    c: &[u64; 5],
+    change: &Changed,
     i: usize,
     depth: usize,
     row: usize,
@@ -389,31 +304,27 @@ fn row_cells_after(
     every: bool,
     out: &mut [u32],
 ) -> u32
-    requires { RowCellsReady ports sets (change_in c.now) table.now firsts.now ends.now uses.now masks.now cells.now i depth row digits word every out.old }
-    ensures { RowGives ports sets (change_in c.now) table.now firsts.now ends.now uses.now masks.now cells.now i depth row digits word out.new result }
+    requires { RowCellsReady plan.now change.now masks.now cells.now i depth row digits word every out.old }
+    ensures { RowGives plan.now change.now masks.now cells.now i depth row digits word out.new result }
 {
     let mut changed = 0;
-    let mut x = first_port(every, c);
-    while x < ports {
+    let mut x = first_port(every, change);
+    // Not a `for`: where the change is at two ports, a step passes over those between.
+    while x < plan.ports {
         let r = cell_after(
-            table,
-            firsts,
-            ends,
-            uses,
+            plan,
             masks,
             cells,
-            ports,
-            sets,
-            c,
+            change,
             i,
             depth + 1,
             row + x,
             with_port(digits, depth, x),
-            port_word(c, word, depth, x),
+            change.port_word(word, depth, x),
         );
         put_port(x, r.value, out);
         changed = wrapping_add_u32(changed, r.changed);
-        x = next_port(every, c, x, ports);
+        x = next_port(every, change, x, plan.ports);
     }
     changed
 }
@@ -421,15 +332,10 @@ fn row_cells_after(
 // The rows of a forest's trees, gone into a row of sums or minima.
 #[cycle(walk)]
 fn row_trees_after(
-    table: &[u8],
-    firsts: &[u32; 512],
-    ends: &[u16; 512],
-    uses: &[u64; 512],
+    plan: &Plan,
     masks: &[u64],
     cells: &[u32],
-    ports: usize,
-    sets: usize,
-    c: &[u64; 5],
+    change: &Changed,
     i: usize,
     until: usize,
     depth: usize,
@@ -439,18 +345,18 @@ fn row_trees_after(
     add: bool,
     out: &mut [u32],
 ) -> u32
-    requires { RowTreesReady ports sets (change_in c.now) table.now firsts.now ends.now uses.now masks.now cells.now i until depth row digits word out.old 0 }
-    ensures { RowTreesGive ports sets (change_in c.now) table.now firsts.now ends.now uses.now masks.now cells.now i until depth row digits word add out.old 0 out.new result }
+    requires { RowTreesReady plan.now change.now masks.now cells.now i until depth row digits word out.old 0 }
+    ensures { RowTreesGive plan.now change.now masks.now cells.now i until depth row digits word add out.old 0 out.new result }
 {
     let mut changed = 0;
     let mut j = i;
+    // Not a `for`: each step is to the end that the index has of a tree.
     while j < until {
         let more = row_tree_after(
-            table, firsts, ends, uses, masks, cells, ports, sets, c, j, depth, row, digits, word,
-            add, out,
+            plan, masks, cells, change, j, depth, row, digits, word, add, out,
         );
         changed = wrapping_add_u32(changed, more);
-        j = end_at(ends, j);
+        j = plan.end_at(j);
     }
     changed
 }
@@ -458,15 +364,10 @@ fn row_trees_after(
 // One tree's row, gone into a row of sums or minima; one that is not touched is not visited.
 #[cycle(walk)]
 fn row_tree_after(
-    table: &[u8],
-    firsts: &[u32; 512],
-    ends: &[u16; 512],
-    uses: &[u64; 512],
+    plan: &Plan,
     masks: &[u64],
     cells: &[u32],
-    ports: usize,
-    sets: usize,
-    c: &[u64; 5],
+    change: &Changed,
     i: usize,
     depth: usize,
     row: usize,
@@ -475,53 +376,26 @@ fn row_tree_after(
     add: bool,
     out: &mut [u32],
 ) -> u32
-    requires { RowJoinReady ports sets (change_in c.now) table.now firsts.now ends.now uses.now masks.now cells.now i depth row digits word out.old }
-    ensures { RowJoins ports sets (change_in c.now) table.now firsts.now ends.now uses.now masks.now cells.now i depth row digits word add out.old out.new result }
+    requires { RowJoinReady plan.now change.now masks.now cells.now i depth row digits word out.old }
+    ensures { RowJoins plan.now change.now masks.now cells.now i depth row digits word add out.old out.new result }
 {
-    let old = row_at(firsts, i, row, cells);
-    if !touched_at(uses, i, word) {
-        keep_row(add, old, ports, out);
+    let old = plan.row_at(i, row, cells);
+    if !plan.touched_at(i, word) {
+        keep_row(add, old, plan.ports, out);
         return 0;
     }
     let mut new = [0u32; 64];
     let changed = row_after(
-        table, firsts, ends, uses, masks, cells, ports, sets, c, i, depth, row, digits, word,
-        &mut new,
+        plan, masks, cells, change, i, depth, row, digits, word, &mut new,
     );
-    join_row(add, &new, old, ports, out);
+    join_row(add, &new, old, plan.ports, out);
     changed
 }
 
 // What the root comes to, under the masks after a change.
-pub fn root_after(
-    table: &[u8],
-    firsts: &[u32; 512],
-    ends: &[u16; 512],
-    uses: &[u64; 512],
-    masks: &[u64],
-    cells: &[u32],
-    ports: usize,
-    sets: usize,
-    c: Changed,
-) -> After
-    requires { RootReady ports sets c table.now firsts.now ends.now uses.now masks.now cells.now }
-    ensures { RootGives ports c table.now masks.now cells.now result }
+pub fn root_after(plan: &Plan, masks: &[u64], cells: &[u32], change: &Changed) -> After
+    requires { RootReady plan.now change.now masks.now cells.now }
+    ensures { RootGives plan.now.ports change.now plan.now.table.now masks.now cells.now result }
 {
-    let numbers = numbers_of(c);
-    cell_after(
-        table,
-        firsts,
-        ends,
-        uses,
-        masks,
-        cells,
-        ports,
-        sets,
-        &numbers,
-        0,
-        0,
-        0,
-        0,
-        first_word(c),
-    )
+    cell_after(plan, masks, cells, change, 0, 0, 0, 0, change.first_word())
 }

@@ -4,13 +4,12 @@
 ghost use Rattle.std.specs.Prelude.{◌≡◌, suc, ◌^◌, ◌<◌, ◌≤◌, length, slice_index};
 ghost use Rattle.logic.specs.Cells.{tuple_at};
 ghost use Rattle.cells_walk.specs.inner.Visit.{packed};
-ghost use Rattle.cells_tuples.specs.inner.Tuples.{AllPortsReady, AllPortsGive};
+ghost use Rattle.cells_tuples.specs.inner.OverPlan.{AllPortsReady, AllPortsGive};
 
 use cells_flip::flip_row;
 use cells_ports::row_ports;
 use cells_sum::with_difference;
-use cells_walk::cell_at;
-use std::num::wrapping_add_u32;
+use cells_walk::Plan;
 
 // How many outer tuples there are, of as many ports as variables stand outside a row.
 fn outer_count(outer: usize, ports: usize) -> usize
@@ -52,47 +51,37 @@ fn first_cell(row: &[u32]) -> u32
 
 // The same for a tree that stands below a quantifier: row by row, `outer` being how many variables stand above the row's own.
 fn all_rows(
-    table: &[u8],
-    firsts: &[u32; 512],
-    ends: &[u16; 512],
-    uses: &[u64; 512],
+    plan: &Plan,
     masks: &[u64],
     sizes: &[u32; 16],
     cells: &[u32],
-    ports: usize,
     i: usize,
     outer: usize,
     members: u64,
     resized: u64,
     out: &mut [u32],
 ) -> u32
-    requires { AllPortsReady ports table.now firsts.now ends.now uses.now masks.now sizes.now cells.now i (suc outer) members resized out.old }
-    ensures { AllPortsGive ports table.now firsts.now ends.now uses.now masks.now sizes.now cells.now i (suc outer) members resized out.old out.new result }
+    requires { AllPortsReady plan.now masks.now sizes.now cells.now i (suc outer) members resized out.old }
+    ensures { AllPortsGive plan.now masks.now sizes.now cells.now i (suc outer) members resized out.old out.new result }
 {
-    let count = outer_count(outer, ports);
-    let mut sum = 0;
-    let mut number = 0;
-    while number < count {
-        let digits = outer_digits(number, outer, ports);
+    let count = outer_count(outer, plan.ports);
+    let mut sum = 0u32;
+    for number in 0..count {
+        let digits = outer_digits(number, outer, plan.ports);
         let more = row_ports(
-            table,
-            firsts,
-            ends,
-            uses,
+            plan,
             masks,
             sizes,
             cells,
-            ports,
             i,
             outer,
-            number * ports,
+            number * plan.ports,
             digits,
             members,
             resized,
             out,
         );
-        sum = wrapping_add_u32(sum, more);
-        number += 1;
+        sum = sum.wrapping_add(more);
     }
     sum
 }
@@ -100,39 +89,29 @@ fn all_rows(
 // The differences of a resizing over all cells of a tree without quantifiers; and to `out`, port by port, what the flip of the sets
 // at that port adds to them. Below no quantifier no literal tests a port, and the flip adds nothing.
 pub fn all_ports(
-    table: &[u8],
-    firsts: &[u32; 512],
-    ends: &[u16; 512],
-    uses: &[u64; 512],
+    plan: &Plan,
     masks: &[u64],
     sizes: &[u32; 16],
     cells: &[u32],
-    ports: usize,
     i: usize,
     depth: usize,
     members: u64,
     resized: u64,
     out: &mut [u32],
 ) -> u32
-    requires { AllPortsReady ports table.now firsts.now ends.now uses.now masks.now sizes.now cells.now i depth members resized out.old }
-    ensures { AllPortsGive ports table.now firsts.now ends.now uses.now masks.now sizes.now cells.now i depth members resized out.old out.new result }
+    requires { AllPortsReady plan.now masks.now sizes.now cells.now i depth members resized out.old }
+    ensures { AllPortsGive plan.now masks.now sizes.now cells.now i depth members resized out.old out.new result }
 {
     if depth == 0 {
         let mut new = [0u32; 64];
-        flip_row(
-            table, firsts, ends, uses, masks, sizes, cells, i, 1, 3, 0, 0, resized, &mut new,
-        );
-        return with_difference(0, first_cell(&new), cell_at(firsts, i, 0, cells));
+        flip_row(plan, masks, sizes, cells, i, 1, 3, 0, 0, resized, &mut new);
+        return with_difference(0, first_cell(&new), plan.cell_at(i, 0, cells));
     }
     all_rows(
-        table,
-        firsts,
-        ends,
-        uses,
+        plan,
         masks,
         sizes,
         cells,
-        ports,
         i,
         depth - 1,
         members,

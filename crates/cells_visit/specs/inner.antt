@@ -1,3 +1,4 @@
 -- What only proofs and inner contracts use.
 pub mod Walking
 pub mod Writing
+pub mod OverPlan

@@ -3,3 +3,4 @@ pub mod Below
 pub mod Nodes
 pub mod Root
 pub mod Visit
+pub mod OverPlan

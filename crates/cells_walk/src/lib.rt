@@ -5,110 +5,151 @@
 ghost use Rattle.std.specs.Prelude.{◌≡◌, cond, not, ◌&&◌, ◌||◌, ◌+◌, ◌*◌, ◌/◌, ◌%◌, ◌^◌, ◌≤◌, ◌<◌, eqb, leb, ltb, length, get_or, drop};
 ghost use Rattle.logic.specs.Configuration.{indicator};
 ghost use Rattle.table_format.specs.Bytes.{record_length, kind_field, records_of, record_at};
-ghost use Rattle.cells_touch.specs.inner.Hits.{meets, rest_word, change_in};
+ghost use Rattle.cells_touch.specs.inner.Hits.{meets, rest_word};
 ghost use Rattle.cells_sum.specs.inner.Walk.{begun};
 ghost use Rattle.cells_row.specs.inner.Row.{row_gathered};
-ghost use Rattle.cells_walk.specs.inner.Visit.{LiteralReady, Afresh, RecordReady, RecordAfresh};
+ghost use Rattle.cells_walk.specs.inner.Visit.{LiteralReady, Afresh};
+ghost use Rattle.cells_walk.specs.inner.OverPlan.{RecordReady, RecordAfresh};
 
 use cells_row::{cells_from, gather_row};
 use cells_rule::literal_penalty;
 use cells_size::{mask_at, set_size};
 use cells_sum::{After, Sum, adds_of, begin, outcome};
-use cells_touch::{change_in, meet, rest_word};
+use cells_touch::{Changed, meet, rest_word};
 use logic::{has_port, wide};
-use table_format::{a_of, b_of, kind_of, record_at, relation_of};
+use table_format::{Index, a_of, b_of, kind_of, record_at, relation_of};
 
-// The place of a node's cell in the cell table.
-pub fn place_at(firsts: &[u32; 512], i: usize, place: usize) -> usize
-    requires { (i < 512) × (place ≤ 16777216) }
-    ensures { result ≡ get_or firsts.now i 0 + place }
-{
-    wide(firsts[i]) + place
+// A plan's open table, as a walk goes through it: its bytes, what the check noted of each node, and how many ports and sets it has. A
+// call makes one and lends it on; masks and cells, which calls write, stand beside it.
+#[derive(Clone, Copy)]
+pub struct Plan<'a> {
+    pub table: &'a [u8],
+    pub index: &'a Index,
+    pub ports: usize,
+    pub sets: usize,
 }
 
-// A cell's number at a place of its node.
-pub fn cell_at(firsts: &[u32; 512], i: usize, place: usize, cells: &[u32]) -> u32
-    requires { (i < 512) × (get_or firsts.now i 0 + place < length cells.now) }
-    ensures { result ≡ get_or cells.now (get_or firsts.now i 0 + place) 0 }
-{
-    let at = wide(firsts[i]) + place;
-    cells[at]
-}
-
-// A node's row of cells, with all that stand behind it.
-pub fn row_at<'a>(firsts: &[u32; 512], i: usize, row: usize, cells: &'a [u32]) -> &'a [u32]
-    requires { (i < 512) × (row ≤ 16777216) × (get_or firsts.now i 0 + row ≤ length cells.now) }
-    ensures { result.now ≡ drop (get_or firsts.now i 0 + row) cells.now }
-{
-    cells_from(cells, place_at(firsts, i, row))
-}
-
-// A cell that is not touched keeps its number, and so do all below it.
-pub fn kept(firsts: &[u32; 512], i: usize, place: usize, cells: &[u32]) -> After
-    requires { (i < 512) × (get_or firsts.now i 0 + place < length cells.now) }
-    ensures { (result.old ≡ get_or cells.now (get_or firsts.now i 0 + place) 0) × (result.value ≡ result.old) × (result.changed ≡ 0) }
-{
-    let old = cell_at(firsts, i, place, cells);
-    After {
-        old: old,
-        value: old,
-        changed: 0,
+impl Plan<'_> {
+    // The place of a node's cell in the cell table.
+    pub fn place_at(&self, i: usize, place: usize) -> usize
+        requires { (i < 512) × (place ≤ 16777216) }
+        ensures { result ≡ get_or self.now.index.now.firsts i 0 + place }
+    {
+        wide(self.index.firsts[i]) + place
     }
-}
 
-// An end of the index as a node's number.
-fn wide_end(end: u16) -> usize
-    ensures { result ≡ end }
-{
-    end as usize
-}
+    // A cell's number at a place of its node.
+    pub fn cell_at(&self, i: usize, place: usize, cells: &[u32]) -> u32
+        requires { (i < 512) × (get_or self.now.index.now.firsts i 0 + place < length cells.now) }
+        ensures { result ≡ get_or cells.now (get_or self.now.index.now.firsts i 0 + place) 0 }
+    {
+        let at = wide(self.index.firsts[i]) + place;
+        cells[at]
+    }
 
-// The node behind all that stand below node i.
-pub fn end_at(ends: &[u16; 512], i: usize) -> usize
-    requires { i < 512 }
-    ensures { result ≡ get_or ends.now i 0 }
-{
-    wide_end(ends[i])
-}
+    // A node's row of cells, with all that stand behind it.
+    pub fn row_at<'c>(&self, i: usize, row: usize, cells: &'c [u32]) -> &'c [u32]
+        requires { (i < 512) × (row ≤ 16777216) × (get_or self.now.index.now.firsts i 0 + row ≤ length cells.now) }
+        ensures { result.now ≡ drop (get_or self.now.index.now.firsts i 0 + row) cells.now }
+    {
+        cells_from(cells, self.place_at(i, row))
+    }
 
-// How node i and those below it use the sets, four bits a set.
-pub fn uses_at(uses: &[u64; 512], i: usize) -> u64
-    requires { i < 512 }
-    ensures { result ≡ get_or uses.now i 0 }
-{
-    uses[i]
-}
+    // A cell that is not touched keeps its number, and so do all below it.
+    pub fn kept(&self, i: usize, place: usize, cells: &[u32]) -> After
+        requires { (i < 512) × (get_or self.now.index.now.firsts i 0 + place < length cells.now) }
+        ensures { (result.old ≡ get_or cells.now (get_or self.now.index.now.firsts i 0 + place) 0) × (result.value ≡ result.old) × (result.changed ≡ 0) }
+    {
+        let old = self.cell_at(i, place, cells);
+        After {
+            old,
+            value: old,
+            changed: 0,
+        }
+    }
 
-// Whether node i is touched at a tuple of this word.
-pub fn touched_at(uses: &[u64; 512], i: usize, word: u64) -> bool
-    requires { i < 512 }
-    ensures { result ≡ meets (get_or uses.now i 0) word }
-{
-    meet(uses_at(uses, i), word)
-}
+    // The node behind all that stand below node i.
+    pub fn end_at(&self, i: usize) -> usize
+        requires { i < 512 }
+        ensures { result ≡ get_or self.now.index.now.ends i 0 }
+    {
+        usize::from(self.index.ends[i])
+    }
 
-// Whether it is touched at every port, below a quantifier at this depth.
-pub fn every_at(uses: &[u64; 512], i: usize, word: u64, depth: usize) -> bool
-    requires { i < 512 }
-    ensures { result ≡ meets (get_or uses.now i 0) (rest_word word depth) }
-{
-    meet(uses_at(uses, i), rest_word(word, depth))
-}
+    // How node i and those below it use the sets, four bits a set.
+    pub fn uses_at(&self, i: usize) -> u64
+        requires { i < 512 }
+        ensures { result ≡ get_or self.now.index.now.uses i 0 }
+    {
+        self.index.uses[i]
+    }
 
-// A node's kind.
-pub fn kind_at(table: &[u8], i: usize) -> u8
-    requires { record_length * i + record_length ≤ length (records_of table.now) }
-    ensures { result ≡ kind_field (record_at table.now i) }
-{
-    kind_of(record_at(table, i))
-}
+    // Whether node i is touched at a tuple of this word.
+    pub fn touched_at(&self, i: usize, word: u64) -> bool
+        requires { i < 512 }
+        ensures { result ≡ meets (get_or self.now.index.now.uses i 0) word }
+    {
+        meet(self.uses_at(i), word)
+    }
 
-// Whether a node adds.
-pub fn adds_at(table: &[u8], i: usize) -> bool
-    requires { record_length * i + record_length ≤ length (records_of table.now) }
-    ensures { result ≡ eqb (kind_field (record_at table.now i) % 2) 1 }
-{
-    adds_of(kind_at(table, i))
+    // Whether it is touched at every port, below a quantifier at this depth.
+    pub fn every_at(&self, i: usize, word: u64, depth: usize) -> bool
+        requires { i < 512 }
+        ensures { result ≡ meets (get_or self.now.index.now.uses i 0) (rest_word word depth) }
+    {
+        meet(self.uses_at(i), rest_word(word, depth))
+    }
+
+    // A node's kind.
+    pub fn kind_at(&self, i: usize) -> u8
+        requires { record_length * i + record_length ≤ length (records_of self.now.table.now) }
+        ensures { result ≡ kind_field (record_at self.now.table.now i) }
+    {
+        kind_of(record_at(self.table, i))
+    }
+
+    // Whether a node adds.
+    pub fn adds_at(&self, i: usize) -> bool
+        requires { record_length * i + record_length ≤ length (records_of self.now.table.now) }
+        ensures { result ≡ eqb (kind_field (record_at self.now.table.now i) % 2) 1 }
+    {
+        adds_of(self.kind_at(i))
+    }
+
+    // The penalty of literal i at a tuple.
+    pub fn literal_at(&self, i: usize, depth: usize, masks: &[u64], digits: u32) -> u32
+        requires { RecordReady self.now depth i masks.now digits }
+        ensures { RecordAfresh self.now depth i masks.now digits result }
+    {
+        let part = record_at(self.table, i);
+        literal_after(
+            kind_of(part),
+            relation_of(part),
+            a_of(part),
+            b_of(part),
+            self.ports,
+            self.sets,
+            depth,
+            masks,
+            digits,
+        )
+    }
+
+    // A touched cell of literal i, from its old number.
+    pub fn literal_outcome(
+        &self,
+        old: u32,
+        i: usize,
+        depth: usize,
+        masks: &[u64],
+        digits: u32,
+    ) -> After
+        requires { RecordReady self.now depth i masks.now digits }
+        ensures { RecordAfresh self.now depth i masks.now digits result.value × (result.old ≡ old) × (result.changed ≡ (indicator (not (eqb result.value old)) + 0) % 4294967296) }
+    {
+        let value = self.literal_at(i, depth, masks, digits);
+        outcome(old, Sum { value, changed: 0 })
+    }
 }
 
 // The port of a variable: eight bits each, the outermost variable lowest.
@@ -159,57 +200,6 @@ fn literal_after(
     literal_penalty(kind, relation, inside, 0, 0)
 }
 
-// The penalty of literal i at a tuple.
-pub fn literal_at(
-    table: &[u8],
-    i: usize,
-    ports: usize,
-    sets: usize,
-    depth: usize,
-    masks: &[u64],
-    digits: u32,
-) -> u32
-    requires { RecordReady ports sets depth table.now i masks.now digits }
-    ensures { RecordAfresh ports sets depth table.now i masks.now digits result }
-{
-    let part = record_at(table, i);
-    literal_after(
-        kind_of(part),
-        relation_of(part),
-        a_of(part),
-        b_of(part),
-        ports,
-        sets,
-        depth,
-        masks,
-        digits,
-    )
-}
-
-// A touched cell of literal i, from its old number.
-pub fn literal_outcome(
-    old: u32,
-    table: &[u8],
-    i: usize,
-    ports: usize,
-    sets: usize,
-    depth: usize,
-    masks: &[u64],
-    digits: u32,
-) -> After
-    requires { RecordReady ports sets depth table.now i masks.now digits }
-    ensures { RecordAfresh ports sets depth table.now i masks.now digits result.value × (result.old ≡ old) × (result.changed ≡ (indicator (not (eqb result.value old)) + 0) % 4294967296) }
-{
-    let value = literal_at(table, i, ports, sets, depth, masks, digits);
-    outcome(
-        old,
-        Sum {
-            value: value,
-            changed: 0,
-        },
-    )
-}
-
 // A touched quantifier's cell, from its old number and the row of its child: `changed` cells of the row and below it differ.
 pub fn row_outcome(
     add: bool,
@@ -236,10 +226,7 @@ pub fn row_outcome(
 pub fn is_quantifier(kind: u8) -> bool
     ensures { result ≡ (leb 1 kind && leb kind 2) }
 {
-    if 1 <= kind {
-        return kind <= 2;
-    }
-    false
+    matches!(kind, 1..=2)
 }
 
 // Whether a row is renewed cell by cell: below a quantifier's cell stands a row of its own, and where only the ports of the change
@@ -247,46 +234,26 @@ pub fn is_quantifier(kind: u8) -> bool
 pub fn by_cells(every: bool, kind: u8) -> bool
     ensures { result ≡ (not every || (leb 1 kind && leb kind 2)) }
 {
-    if every {
-        return is_quantifier(kind);
-    }
-    true
+    !every || is_quantifier(kind)
 }
 
-// The lower port of a change, and the higher.
-pub fn lower_port(c: &[u64; 5]) -> usize
-    ensures { result ≡ (change_in c.now).p }
+// The first port to visit: the lower of the change, where not all are visited.
+pub fn first_port(all: bool, change: &Changed) -> usize
+    ensures { result ≡ cond all 0 change.now.p }
 {
-    change_in(c).p
+    if all { 0 } else { change.p }
 }
 
-pub fn higher_port(c: &[u64; 5]) -> usize
-    ensures { result ≡ (change_in c.now).q }
-{
-    change_in(c).q
-}
-
-// The first port to visit, and the next.
-pub fn first_port(all: bool, c: &[u64; 5]) -> usize
-    ensures { result ≡ cond all 0 (change_in c.now).p }
-{
-    if all {
-        return 0;
-    }
-    lower_port(c)
-}
-
-// After the last of them it is the number of ports.
-pub fn next_port(all: bool, c: &[u64; 5], x: usize, ports: usize) -> usize
+// The next port to visit; after the last of them it is the number of ports.
+pub fn next_port(all: bool, change: &Changed, x: usize, ports: usize) -> usize
     requires { x < ports }
-    ensures { result ≡ cond all (x + 1) (cond (ltb x (change_in c.now).q) (change_in c.now).q ports) }
+    ensures { result ≡ cond all (x + 1) (cond (ltb x change.now.q) change.now.q ports) }
 {
     if all {
-        return x + 1;
+        x + 1
+    } else if x < change.q {
+        change.q
+    } else {
+        ports
     }
-    let q = higher_port(c);
-    if x < q {
-        return q;
-    }
-    ports
 }

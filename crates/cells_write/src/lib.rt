@@ -2,79 +2,62 @@
 #![tactic(auto)]
 
 ghost use Rattle.std.specs.Prelude.{◌≡◌, ◌+◌, ◌<◌, true, length, slice_index, slice_set};
-ghost use Rattle.cells_touch.specs.inner.Hits.{change_in};
-ghost use Rattle.cells_walk.specs.inner.Root.{RootReady, RootGives, RootWrites};
-ghost use Rattle.cells_visit.specs.inner.Walking.{CellReady, CellTouched, QuantifierReady, CellGives, TreesReady, TreesGive, PairReady, PortsSo, RowGives, RowCellsReady, RowJoinReady, RowJoins, RowTreesReady, RowTreesGive};
-ghost use Rattle.cells_visit.specs.inner.Writing.{CellWrites, TreesWrite, PortsWrite, RowWriteReady, RowWrites, RowTreesWrite};
+ghost use Rattle.cells_walk.specs.inner.Root.{RootGives, RootWrites};
+ghost use Rattle.cells_walk.specs.inner.OverPlan.{RootReady};
+ghost use Rattle.cells_visit.specs.inner.OverPlan.{CellReady, CellTouched, QuantifierReady, CellGives, TreesReady, TreesGive, PairReady, PortsSo, RowGives, RowCellsReady, RowJoinReady, RowJoins, RowTreesReady, RowTreesGive, CellWrites, TreesWrite, PortsWrite, RowWriteReady, RowWrites, RowTreesWrite};
 
 use cells_row::{begin_row, copy_row, count_row, fill_row, join_row, keep_row, put_port, put_row};
 use cells_sum::{After, Sum, adds_of, begin, join, outcome};
-use cells_touch::{Changed, first_word, numbers_of, port_word};
-use cells_walk::{
-    adds_at, by_cells, cell_at, end_at, every_at, first_port, higher_port, is_quantifier, kept,
-    kind_at, literal_at, literal_outcome, lower_port, next_port, place_at, row_at, row_outcome,
-    touched_at, with_port,
-};
+use cells_touch::Changed;
+use cells_walk::{Plan, by_cells, first_port, is_quantifier, next_port, row_outcome, with_port};
 use std::num::wrapping_add_u32;
 
 // Writes a cell's number at a place of its node.
-fn put_cell(firsts: &[u32; 512], i: usize, place: usize, value: u32, cells: &mut [u32])
-    requires { (i < 512) × (slice_index firsts.now i + place < length cells.old) }
-    ensures { cells.new ≡ slice_set cells.old (slice_index firsts.now i + place) value }
+fn put_cell(plan: &Plan, i: usize, place: usize, value: u32, cells: &mut [u32])
+    requires { (i < 512) × (slice_index plan.now.index.now.firsts i + place < length cells.old) }
+    ensures { cells.new ≡ slice_set cells.old (slice_index plan.now.index.now.firsts i + place) value }
 {
-    let at = firsts[i] as usize + place;
+    let at = plan.index.firsts[i] as usize + place;
     cells[at] = value;
 }
 
 // A cell and all that is touched below it, written. Its old number is read first: the sum above takes the new minus the old.
 #[cycle(walk)]
 fn cell_written(
-    table: &[u8],
-    firsts: &[u32; 512],
-    ends: &[u16; 512],
-    uses: &[u64; 512],
+    plan: &Plan,
     masks: &[u64],
     cells: &mut [u32],
-    ports: usize,
-    sets: usize,
-    c: &[u64; 5],
+    change: &Changed,
     i: usize,
     depth: usize,
     place: usize,
     digits: u32,
     word: u64,
 ) -> After
-    requires { CellReady ports sets (change_in c.now) table.now firsts.now ends.now uses.now masks.now cells.old i depth place digits word }
-    ensures { CellGives ports sets (change_in c.now) table.now firsts.now ends.now uses.now masks.now cells.old i depth place digits word result × CellWrites ports sets (change_in c.now) table.now firsts.now ends.now uses.now masks.now cells.old i depth place digits word cells.new }
+    requires { CellReady plan.now change.now masks.now cells.old i depth place digits word }
+    ensures { CellGives plan.now change.now masks.now cells.old i depth place digits word result × CellWrites plan.now change.now masks.now cells.old i depth place digits word cells.new }
 {
-    let old = cell_at(firsts, i, place, &cells[..]);
-    if !touched_at(uses, i, word) {
-        return kept(firsts, i, place, &cells[..]);
+    let old = plan.cell_at(i, place, &cells[..]);
+    if !plan.touched_at(i, word) {
+        return plan.kept(i, place, &cells[..]);
     }
-    let kind = kind_at(table, i);
+    let kind = plan.kind_at(i);
     if 5 <= kind {
-        let r = literal_outcome(old, table, i, ports, sets, depth, masks, digits);
-        put_cell(firsts, i, place, r.value, cells);
+        let r = plan.literal_outcome(old, i, depth, masks, digits);
+        put_cell(plan, i, place, r.value, cells);
         return r;
     }
     if is_quantifier(kind) {
-        return ports_written(
-            table, firsts, ends, uses, masks, cells, ports, sets, c, i, depth, place, digits, word,
-        );
+        return ports_written(plan, masks, cells, change, i, depth, place, digits, word);
     }
     let add = adds_of(kind);
     let r = trees_written(
-        table,
-        firsts,
-        ends,
-        uses,
+        plan,
         masks,
         cells,
-        ports,
-        sets,
-        c,
+        change,
         i + 1,
-        end_at(ends, i),
+        plan.end_at(i),
         depth,
         place,
         digits,
@@ -82,54 +65,42 @@ fn cell_written(
         add,
         begin(add, old),
     );
-    put_cell(firsts, i, place, r.value, cells);
+    put_cell(plan, i, place, r.value, cells);
     outcome(old, r)
 }
 
 // A touched cell among its siblings. A literal's is done here, so that the loop over them makes no call for one.
 #[cycle(walk)]
 fn tree_written(
-    table: &[u8],
-    firsts: &[u32; 512],
-    ends: &[u16; 512],
-    uses: &[u64; 512],
+    plan: &Plan,
     masks: &[u64],
     cells: &mut [u32],
-    ports: usize,
-    sets: usize,
-    c: &[u64; 5],
+    change: &Changed,
     i: usize,
     depth: usize,
     place: usize,
     digits: u32,
     word: u64,
 ) -> After
-    requires { CellTouched ports sets (change_in c.now) table.now firsts.now ends.now uses.now masks.now cells.old i depth place digits word }
-    ensures { CellGives ports sets (change_in c.now) table.now firsts.now ends.now uses.now masks.now cells.old i depth place digits word result × CellWrites ports sets (change_in c.now) table.now firsts.now ends.now uses.now masks.now cells.old i depth place digits word cells.new }
+    requires { CellTouched plan.now change.now masks.now cells.old i depth place digits word }
+    ensures { CellGives plan.now change.now masks.now cells.old i depth place digits word result × CellWrites plan.now change.now masks.now cells.old i depth place digits word cells.new }
 {
-    if 5 <= kind_at(table, i) {
-        let old = cell_at(firsts, i, place, &cells[..]);
-        let r = literal_outcome(old, table, i, ports, sets, depth, masks, digits);
-        put_cell(firsts, i, place, r.value, cells);
+    if 5 <= plan.kind_at(i) {
+        let old = plan.cell_at(i, place, &cells[..]);
+        let r = plan.literal_outcome(old, i, depth, masks, digits);
+        put_cell(plan, i, place, r.value, cells);
         return r;
     }
-    cell_written(
-        table, firsts, ends, uses, masks, cells, ports, sets, c, i, depth, place, digits, word,
-    )
+    cell_written(plan, masks, cells, change, i, depth, place, digits, word)
 }
 
 // The trees of a forest at a tuple, written one after the other and gone into a sum or a minimum.
 #[cycle(walk)]
 fn trees_written(
-    table: &[u8],
-    firsts: &[u32; 512],
-    ends: &[u16; 512],
-    uses: &[u64; 512],
+    plan: &Plan,
     masks: &[u64],
     cells: &mut [u32],
-    ports: usize,
-    sets: usize,
-    c: &[u64; 5],
+    change: &Changed,
     i: usize,
     until: usize,
     depth: usize,
@@ -139,22 +110,20 @@ fn trees_written(
     add: bool,
     acc: Sum,
 ) -> Sum
-    requires { TreesReady ports sets (change_in c.now) table.now firsts.now ends.now uses.now masks.now cells.old i until depth place digits word acc }
-    ensures { TreesGive ports sets (change_in c.now) table.now firsts.now ends.now uses.now masks.now cells.old i until depth place digits word add acc result × TreesWrite ports sets (change_in c.now) table.now firsts.now ends.now uses.now masks.now cells.old i until depth place digits word cells.new }
+    requires { TreesReady plan.now change.now masks.now cells.old i until depth place digits word acc }
+    ensures { TreesGive plan.now change.now masks.now cells.old i until depth place digits word add acc result × TreesWrite plan.now change.now masks.now cells.old i until depth place digits word cells.new }
 {
     let mut sum = acc;
     let mut j = i;
+    // Not a `for`: each step is to the end that the index has of a tree.
     while j < until {
-        if touched_at(uses, j, word) {
-            let r = tree_written(
-                table, firsts, ends, uses, masks, cells, ports, sets, c, j, depth, place, digits,
-                word,
-            );
+        if plan.touched_at(j, word) {
+            let r = tree_written(plan, masks, cells, change, j, depth, place, digits, word);
             sum = join(add, sum, r);
         } else {
-            sum = join(add, sum, kept(firsts, j, place, &cells[..]));
+            sum = join(add, sum, plan.kept(j, place, &cells[..]));
         }
-        j = end_at(ends, j);
+        j = plan.end_at(j);
     }
     sum
 }
@@ -163,53 +132,39 @@ fn trees_written(
 // the child's cells at all ports are one row.
 #[cycle(walk)]
 fn ports_written(
-    table: &[u8],
-    firsts: &[u32; 512],
-    ends: &[u16; 512],
-    uses: &[u64; 512],
+    plan: &Plan,
     masks: &[u64],
     cells: &mut [u32],
-    ports: usize,
-    sets: usize,
-    c: &[u64; 5],
+    change: &Changed,
     i: usize,
     depth: usize,
     place: usize,
     digits: u32,
     word: u64,
 ) -> After
-    requires { QuantifierReady ports sets (change_in c.now) table.now firsts.now ends.now uses.now masks.now cells.old i depth place digits word }
-    ensures { CellGives ports sets (change_in c.now) table.now firsts.now ends.now uses.now masks.now cells.old i depth place digits word result × CellWrites ports sets (change_in c.now) table.now firsts.now ends.now uses.now masks.now cells.old i depth place digits word cells.new }
+    requires { QuantifierReady plan.now change.now masks.now cells.old i depth place digits word }
+    ensures { CellGives plan.now change.now masks.now cells.old i depth place digits word result × CellWrites plan.now change.now masks.now cells.old i depth place digits word cells.new }
 {
-    if !adds_at(table, i) {
-        return all_ports_written(
-            table, firsts, ends, uses, masks, cells, ports, sets, c, i, depth, place, digits, word,
-        );
+    if !plan.adds_at(i) {
+        return all_ports_written(plan, masks, cells, change, i, depth, place, digits, word);
     }
-    if every_at(uses, i + 1, word, depth) {
-        return all_ports_written(
-            table, firsts, ends, uses, masks, cells, ports, sets, c, i, depth, place, digits, word,
-        );
+    if plan.every_at(i + 1, word, depth) {
+        return all_ports_written(plan, masks, cells, change, i, depth, place, digits, word);
     }
-    let old = cell_at(firsts, i, place, &cells[..]);
+    let old = plan.cell_at(i, place, &cells[..]);
     let r = pair_written(
-        table,
-        firsts,
-        ends,
-        uses,
+        plan,
         masks,
         cells,
-        ports,
-        sets,
-        c,
+        change,
         i + 1,
         depth,
-        place * ports,
+        place * plan.ports,
         digits,
         word,
         begin(true, old),
     );
-    put_cell(firsts, i, place, r.value, cells);
+    put_cell(plan, i, place, r.value, cells);
     outcome(old, r)
 }
 
@@ -217,40 +172,30 @@ fn ports_written(
 // `cell_written`, of which there is one for each level of the plan.
 #[cycle(walk)]
 fn all_ports_written(
-    table: &[u8],
-    firsts: &[u32; 512],
-    ends: &[u16; 512],
-    uses: &[u64; 512],
+    plan: &Plan,
     masks: &[u64],
     cells: &mut [u32],
-    ports: usize,
-    sets: usize,
-    c: &[u64; 5],
+    change: &Changed,
     i: usize,
     depth: usize,
     place: usize,
     digits: u32,
     word: u64,
 ) -> After
-    requires { QuantifierReady ports sets (change_in c.now) table.now firsts.now ends.now uses.now masks.now cells.old i depth place digits word }
-    ensures { CellGives ports sets (change_in c.now) table.now firsts.now ends.now uses.now masks.now cells.old i depth place digits word result × CellWrites ports sets (change_in c.now) table.now firsts.now ends.now uses.now masks.now cells.old i depth place digits word cells.new }
+    requires { QuantifierReady plan.now change.now masks.now cells.old i depth place digits word }
+    ensures { CellGives plan.now change.now masks.now cells.old i depth place digits word result × CellWrites plan.now change.now masks.now cells.old i depth place digits word cells.new }
 {
-    let old = cell_at(firsts, i, place, &cells[..]);
-    let add = adds_at(table, i);
-    let row = place * ports;
+    let old = plan.cell_at(i, place, &cells[..]);
+    let add = plan.adds_at(i);
+    let row = place * plan.ports;
     let mut before = [0u32; 64];
-    copy_row(row_at(firsts, i + 1, row, &cells[..]), ports, &mut before);
+    copy_row(plan.row_at(i + 1, row, &cells[..]), plan.ports, &mut before);
     let mut new = [0u32; 64];
     let changed = row_written(
-        table,
-        firsts,
-        ends,
-        uses,
+        plan,
         masks,
         cells,
-        ports,
-        sets,
-        c,
+        change,
         i + 1,
         depth,
         row,
@@ -259,23 +204,18 @@ fn all_ports_written(
         &before,
         &mut new,
     );
-    let r = row_outcome(add, old, changed, &new, &before, ports);
-    put_cell(firsts, i, place, r.value, cells);
+    let r = row_outcome(add, old, changed, &new, &before, plan.ports);
+    put_cell(plan, i, place, r.value, cells);
     r
 }
 
 // A sum with the child's cells at the ports of the change, written.
 #[cycle(walk)]
 fn pair_written(
-    table: &[u8],
-    firsts: &[u32; 512],
-    ends: &[u16; 512],
-    uses: &[u64; 512],
+    plan: &Plan,
     masks: &[u64],
     cells: &mut [u32],
-    ports: usize,
-    sets: usize,
-    c: &[u64; 5],
+    change: &Changed,
     i: usize,
     depth: usize,
     row: usize,
@@ -283,46 +223,36 @@ fn pair_written(
     word: u64,
     acc: Sum,
 ) -> Sum
-    requires { PairReady ports sets (change_in c.now) table.now firsts.now ends.now uses.now masks.now cells.old i depth row digits word acc }
-    ensures { PortsSo ports sets (change_in c.now) table.now firsts.now ends.now uses.now masks.now cells.old i depth row digits word true ports acc result × PortsWrite ports sets (change_in c.now) table.now firsts.now ends.now uses.now masks.now cells.old i depth row digits word cells.new }
+    requires { PairReady plan.now change.now masks.now cells.old i depth row digits word acc }
+    ensures { PortsSo plan.now change.now masks.now cells.old i depth row digits word true plan.now.ports acc result × PortsWrite plan.now change.now masks.now cells.old i depth row digits word cells.new }
 {
-    let p = lower_port(c);
-    let q = higher_port(c);
+    let p = change.p;
+    let q = change.q;
     let first = cell_written(
-        table,
-        firsts,
-        ends,
-        uses,
+        plan,
         masks,
         cells,
-        ports,
-        sets,
-        c,
+        change,
         i,
         depth + 1,
         row + p,
         with_port(digits, depth, p),
-        port_word(c, word, depth, p),
+        change.port_word(word, depth, p),
     );
     let sum = join(true, acc, first);
     if q <= p {
         return sum;
     }
     let second = cell_written(
-        table,
-        firsts,
-        ends,
-        uses,
+        plan,
         masks,
         cells,
-        ports,
-        sets,
-        c,
+        change,
         i,
         depth + 1,
         row + q,
         with_port(digits, depth, q),
-        port_word(c, word, depth, q),
+        change.port_word(word, depth, q),
     );
     join(true, sum, second)
 }
@@ -331,15 +261,10 @@ fn pair_written(
 // many cells at or below them differ from before. `old` has the numbers that the row is about to lose.
 #[cycle(walk)]
 fn row_written(
-    table: &[u8],
-    firsts: &[u32; 512],
-    ends: &[u16; 512],
-    uses: &[u64; 512],
+    plan: &Plan,
     masks: &[u64],
     cells: &mut [u32],
-    ports: usize,
-    sets: usize,
-    c: &[u64; 5],
+    change: &Changed,
     i: usize,
     depth: usize,
     row: usize,
@@ -348,38 +273,32 @@ fn row_written(
     old: &[u32],
     out: &mut [u32],
 ) -> u32
-    requires { RowWriteReady ports sets (change_in c.now) table.now firsts.now ends.now uses.now masks.now cells.old i depth row digits word old.now out.old }
-    ensures { RowGives ports sets (change_in c.now) table.now firsts.now ends.now uses.now masks.now cells.old i depth row digits word out.new result × RowWrites ports sets (change_in c.now) table.now firsts.now ends.now uses.now masks.now cells.old i depth row digits word cells.new }
+    requires { RowWriteReady plan.now change.now masks.now cells.old i depth row digits word old.now out.old }
+    ensures { RowGives plan.now change.now masks.now cells.old i depth row digits word out.new result × RowWrites plan.now change.now masks.now cells.old i depth row digits word cells.new }
 {
-    let kind = kind_at(table, i);
-    let every = every_at(uses, i, word, depth);
+    let kind = plan.kind_at(i);
+    let every = plan.every_at(i, word, depth);
     if by_cells(every, kind) {
-        copy_row(old, ports, out);
+        copy_row(old, plan.ports, out);
         return row_cells_written(
-            table, firsts, ends, uses, masks, cells, ports, sets, c, i, depth, row, digits, word,
-            every, out,
+            plan, masks, cells, change, i, depth, row, digits, word, every, out,
         );
     }
     if 5 <= kind {
-        let value = literal_at(table, i, ports, sets, depth + 1, masks, digits);
-        fill_row(value, ports, out);
-        put_row(&out[..], ports, place_at(firsts, i, row), cells);
-        return count_row(&out[..], old, ports);
+        let value = plan.literal_at(i, depth + 1, masks, digits);
+        fill_row(value, plan.ports, out);
+        put_row(&out[..], plan.ports, plan.place_at(i, row), cells);
+        return count_row(&out[..], old, plan.ports);
     }
     let add = adds_of(kind);
-    begin_row(add, old, ports, out);
+    begin_row(add, old, plan.ports, out);
     let changed = row_trees_written(
-        table,
-        firsts,
-        ends,
-        uses,
+        plan,
         masks,
         cells,
-        ports,
-        sets,
-        c,
+        change,
         i + 1,
-        end_at(ends, i),
+        plan.end_at(i),
         depth,
         row,
         digits,
@@ -387,22 +306,17 @@ fn row_written(
         add,
         out,
     );
-    put_row(&out[..], ports, place_at(firsts, i, row), cells);
-    wrapping_add_u32(changed, count_row(&out[..], old, ports))
+    put_row(&out[..], plan.ports, plan.place_at(i, row), cells);
+    wrapping_add_u32(changed, count_row(&out[..], old, plan.ports))
 }
 
 // The cells of a row written one by one: at every port, or at those of the change where no other can be touched.
 #[cycle(walk)]
 fn row_cells_written(
-    table: &[u8],
-    firsts: &[u32; 512],
-    ends: &[u16; 512],
-    uses: &[u64; 512],
+    plan: &Plan,
     masks: &[u64],
     cells: &mut [u32],
-    ports: usize,
-    sets: usize,
-    c: &[u64; 5],
+    change: &Changed,
     i: usize,
     depth: usize,
     row: usize,
@@ -411,31 +325,27 @@ fn row_cells_written(
     every: bool,
     out: &mut [u32],
 ) -> u32
-    requires { RowCellsReady ports sets (change_in c.now) table.now firsts.now ends.now uses.now masks.now cells.old i depth row digits word every out.old }
-    ensures { RowGives ports sets (change_in c.now) table.now firsts.now ends.now uses.now masks.now cells.old i depth row digits word out.new result × RowWrites ports sets (change_in c.now) table.now firsts.now ends.now uses.now masks.now cells.old i depth row digits word cells.new }
+    requires { RowCellsReady plan.now change.now masks.now cells.old i depth row digits word every out.old }
+    ensures { RowGives plan.now change.now masks.now cells.old i depth row digits word out.new result × RowWrites plan.now change.now masks.now cells.old i depth row digits word cells.new }
 {
     let mut changed = 0;
-    let mut x = first_port(every, c);
-    while x < ports {
+    let mut x = first_port(every, change);
+    // Not a `for`: where the change is at two ports, a step passes over those between.
+    while x < plan.ports {
         let r = cell_written(
-            table,
-            firsts,
-            ends,
-            uses,
+            plan,
             masks,
             cells,
-            ports,
-            sets,
-            c,
+            change,
             i,
             depth + 1,
             row + x,
             with_port(digits, depth, x),
-            port_word(c, word, depth, x),
+            change.port_word(word, depth, x),
         );
         put_port(x, r.value, out);
         changed = wrapping_add_u32(changed, r.changed);
-        x = next_port(every, c, x, ports);
+        x = next_port(every, change, x, plan.ports);
     }
     changed
 }
@@ -443,15 +353,10 @@ fn row_cells_written(
 // The rows of a forest's trees, written one after the other and gone into a row of sums or minima.
 #[cycle(walk)]
 fn row_trees_written(
-    table: &[u8],
-    firsts: &[u32; 512],
-    ends: &[u16; 512],
-    uses: &[u64; 512],
+    plan: &Plan,
     masks: &[u64],
     cells: &mut [u32],
-    ports: usize,
-    sets: usize,
-    c: &[u64; 5],
+    change: &Changed,
     i: usize,
     until: usize,
     depth: usize,
@@ -461,18 +366,18 @@ fn row_trees_written(
     add: bool,
     out: &mut [u32],
 ) -> u32
-    requires { RowTreesReady ports sets (change_in c.now) table.now firsts.now ends.now uses.now masks.now cells.old i until depth row digits word out.old 0 }
-    ensures { RowTreesGive ports sets (change_in c.now) table.now firsts.now ends.now uses.now masks.now cells.old i until depth row digits word add out.old 0 out.new result × RowTreesWrite ports sets (change_in c.now) table.now firsts.now ends.now uses.now masks.now cells.old i until depth row digits word cells.new }
+    requires { RowTreesReady plan.now change.now masks.now cells.old i until depth row digits word out.old 0 }
+    ensures { RowTreesGive plan.now change.now masks.now cells.old i until depth row digits word add out.old 0 out.new result × RowTreesWrite plan.now change.now masks.now cells.old i until depth row digits word cells.new }
 {
     let mut changed = 0;
     let mut j = i;
+    // Not a `for`: each step is to the end that the index has of a tree.
     while j < until {
         let more = row_tree_written(
-            table, firsts, ends, uses, masks, cells, ports, sets, c, j, depth, row, digits, word,
-            add, out,
+            plan, masks, cells, change, j, depth, row, digits, word, add, out,
         );
         changed = wrapping_add_u32(changed, more);
-        j = end_at(ends, j);
+        j = plan.end_at(j);
     }
     changed
 }
@@ -480,15 +385,10 @@ fn row_trees_written(
 // One tree's row, written and gone into a row of sums or minima; one that is not touched is not visited.
 #[cycle(walk)]
 fn row_tree_written(
-    table: &[u8],
-    firsts: &[u32; 512],
-    ends: &[u16; 512],
-    uses: &[u64; 512],
+    plan: &Plan,
     masks: &[u64],
     cells: &mut [u32],
-    ports: usize,
-    sets: usize,
-    c: &[u64; 5],
+    change: &Changed,
     i: usize,
     depth: usize,
     row: usize,
@@ -497,54 +397,27 @@ fn row_tree_written(
     add: bool,
     out: &mut [u32],
 ) -> u32
-    requires { RowJoinReady ports sets (change_in c.now) table.now firsts.now ends.now uses.now masks.now cells.old i depth row digits word out.old }
-    ensures { RowJoins ports sets (change_in c.now) table.now firsts.now ends.now uses.now masks.now cells.old i depth row digits word add out.old out.new result × RowWrites ports sets (change_in c.now) table.now firsts.now ends.now uses.now masks.now cells.old i depth row digits word cells.new }
+    requires { RowJoinReady plan.now change.now masks.now cells.old i depth row digits word out.old }
+    ensures { RowJoins plan.now change.now masks.now cells.old i depth row digits word add out.old out.new result × RowWrites plan.now change.now masks.now cells.old i depth row digits word cells.new }
 {
-    if !touched_at(uses, i, word) {
-        keep_row(add, row_at(firsts, i, row, &cells[..]), ports, out);
+    if !plan.touched_at(i, word) {
+        keep_row(add, plan.row_at(i, row, &cells[..]), plan.ports, out);
         return 0;
     }
     let mut old = [0u32; 64];
-    copy_row(row_at(firsts, i, row, &cells[..]), ports, &mut old);
+    copy_row(plan.row_at(i, row, &cells[..]), plan.ports, &mut old);
     let mut new = [0u32; 64];
     let changed = row_written(
-        table, firsts, ends, uses, masks, cells, ports, sets, c, i, depth, row, digits, word, &old,
-        &mut new,
+        plan, masks, cells, change, i, depth, row, digits, word, &old, &mut new,
     );
-    join_row(add, &new, &old, ports, out);
+    join_row(add, &new, &old, plan.ports, out);
     changed
 }
 
 // A change carried through all of a plan's own cells, under the masks after it.
-pub fn root_written(
-    table: &[u8],
-    firsts: &[u32; 512],
-    ends: &[u16; 512],
-    uses: &[u64; 512],
-    masks: &[u64],
-    cells: &mut [u32],
-    ports: usize,
-    sets: usize,
-    c: Changed,
-) -> After
-    requires { RootReady ports sets c table.now firsts.now ends.now uses.now masks.now cells.old }
-    ensures { RootGives ports c table.now masks.now cells.old result × RootWrites ports c table.now masks.now cells.old cells.new }
+pub fn root_written(plan: &Plan, masks: &[u64], cells: &mut [u32], change: &Changed) -> After
+    requires { RootReady plan.now change.now masks.now cells.old }
+    ensures { RootGives plan.now.ports change.now plan.now.table.now masks.now cells.old result × RootWrites plan.now.ports change.now plan.now.table.now masks.now cells.old cells.new }
 {
-    let numbers = numbers_of(c);
-    cell_written(
-        table,
-        firsts,
-        ends,
-        uses,
-        masks,
-        cells,
-        ports,
-        sets,
-        &numbers,
-        0,
-        0,
-        0,
-        0,
-        first_word(c),
-    )
+    cell_written(plan, masks, cells, change, 0, 0, 0, 0, change.first_word())
 }

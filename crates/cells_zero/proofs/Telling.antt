@@ -54,13 +54,6 @@ or-of and kind h q = absurd (omega arith)
 or-of or kind h q = refl
 or-of (lit l) kind h q = absurd (omega (arith, test-kind-range l.test))
 
--- both tests of a child
-pub kept-yes : (t m : Bool) (x y : ℕ) → t ≡ m → not t ≡ true → x ≡ y → eqb x 0 ≡ (not m && eqb y 0)
-kept-yes t m x y q h z = ap₂ (λ (a : Bool) (w : ℕ). a && eqb w 0) (sym h ∙ ap not q) z
-
-pub kept-no : (t m b : Bool) → t ≡ m → not t ≡ false → false ≡ (not m && b)
-kept-no t m b q h = ap (λ (a : Bool). a && b) (sym h ∙ ap not q)
-
 kept_new : (hit : Bool) (x y : ℕ) → hit ≡ false → y ≡ 0 → cond hit x y ≡ 0
 kept_new hit x y h z = ap (λ (a : Bool). cond a x y) h ∙ z
 

@@ -13,6 +13,9 @@ use Rattle.logic.specs.Formula.{Plan}
 use Rattle.logic.specs.Configuration.{Sets, in_masks, own_masks, all_within}
 use Rattle.logic.specs.Cells.{own_cells}
 use Rattle.logic.specs.Moves.{Ground, refusal}
+use Rattle.logic.specs.declared.refusal.Refusal.{Refusal}
+use Rattle.logic.specs.Refusal.{refusal_number}
+use Rattle.logic.proofs.Refusals.{number-some}
 use Rattle.logic.specs.Change.{some_of}
 use Rattle.logic.proofs.Lists.{or_left, or_right}
 use Rattle.table_format.specs.Decode.{Decoded, broken, sound}
@@ -163,6 +166,15 @@ module _ {A : Type 0} (refused : ℕ → A) (act : Plan → State → A × State
   pub call-refused : (gs : List Ground) (d : Decoded) (s : State) (g : ℕ) → refusal gs ≡ suc g → call refused gs d act s ≡ (refused (suc g), s)
   unfolding call call_or
   call-refused gs d s g e = ap (λ (n : ℕ). call_or refused n d act s) e
+
+  -- the same of a ground as the code names it
+  pub call-refuses : (gs : List Ground) (d : Decoded) (s : State) (g : Refusal) → refusal gs ≡ refusal_number g
+      → call refused gs d act s ≡ (refused (refusal_number g), s)
+  call-refuses gs d s g e = go (refusal_number g) refl
+    where
+      go : (n : ℕ) → refusal_number g ≡ n → call refused gs d act s ≡ (refused (refusal_number g), s)
+      go zero h = absurd (number-some g h)
+      go (suc j) h = call-refused gs d s j (e ∙ h) ∙ ap (λ (n : ℕ). (refused n, s)) (sym h)
 
   -- a call that no ground stops does what it does to the plan's own tables
   pub call-accepted : (gs : List Ground) (P : Plan) (s : State) → refusal gs ≡ 0

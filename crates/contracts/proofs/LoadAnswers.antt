@@ -9,14 +9,18 @@ use Rattle.logic.specs.Configuration.{own_masks, spelled}
 use Rattle.logic.specs.Truth.{PlanTrue}
 use Rattle.logic.specs.Cells.{own_cells, cells, root_penalty}
 use Rattle.logic.specs.Moves.{refusal}
+use Rattle.std.specs.Prelude.{Ok, Err}
+use Rattle.logic.specs.declared.refusal.Refusal.{Refusal}
+use Rattle.logic.specs.Refusal.{refusal_number}
 use Rattle.logic.specs.Change.{some_of}
+use Rattle.logic.proofs.Refusals.{all-told}
 use Rattle.logic.proofs.Theorems.{Nonempty, root-zero, length-cells}
 use Rattle.table_format.specs.Decode.{Decoded, broken, sound, decode}
 use Rattle.contracts.specs.State.{State, tables, own_tables, with_rest}
 use Rattle.contracts.specs.Call.{plan_grounds, call_grounds, call_or, call}
-use Rattle.contracts.specs.declared.Loaded.TheVariants.{Accepted, Refused}
-use Rattle.contracts.specs.Load.{load_grounds, loaded_masks, loaded_tables, loads_own, loads, LoadValues, load_refused, load_values, LoadTold, LoadPromise}
-use Rattle.contracts.proofs.Calls.{LentEnough, tables-pass, call-refused, call-accepted}
+use Rattle.contracts.specs.declared.Loaded.{Loaded}
+use Rattle.contracts.specs.Load.{load_grounds, loaded_masks, loaded_tables, loads_own, loads, LoadValues, load_refused, load_values, LoadPromise}
+use Rattle.contracts.proofs.Calls.{LentEnough, tables-pass, call-refused, call-refuses, call-accepted}
 
 -- a ground applies
 pub load-refused : (d : Decoded) (s : State) (g : ℕ) → refusal (load_grounds d s) ≡ suc g → loads d s ≡ (load_refused (suc g), s)
@@ -39,19 +43,20 @@ load_is P s e =
     ∙ (λ i. (record { number = 0; root = root_penalty P k; cells = own_cells P }, tables (take-append-drop (own_masks P) s.masks i) (cells P k ++ drop (own_cells P) s.cells)))
 
 -- what the call promises of its answer in each case
-pub load-refuses : (d : Decoded) (s : State) (n : ℕ) → (n ≡ 0 → ⊥) → refusal (load_grounds d s) ≡ n → LoadPromise (loads d s) (Refused n) s
-unfolding load_values LoadTold
-load-refuses d s zero h e = absurd (h refl)
-load-refuses d s (suc g) h e = record {
-  values-are = sym (ap (λ (x : LoadValues × State). x.0) (load-refused d s g e));
-  told = h;
-  tables-are = sym (ap (λ (x : LoadValues × State). x.1) (load-refused d s g e));
-}
+pub load-refuses : (d : Decoded) (s : State) (g : Refusal) → refusal (load_grounds d s) ≡ refusal_number g → LoadPromise (loads d s) (Err g) s
+unfolding loads load_values
+load-refuses d s g e =
+    let given = call-refuses load_refused loads_own (load_grounds d s) d s g e in
+    record {
+      values-are = sym (ap (λ (x : LoadValues × State). x.0) given);
+      told = all-told (Err g);
+      tables-are = sym (ap (λ (x : LoadValues × State). x.1) given);
+    }
 
 pub load-accepts : (bytes masks xs ys : List ℕ) (P : Plan) (r t : ℕ) → decode bytes ≡ sound P → refusal (load_grounds (sound P) (tables masks xs)) ≡ 0
     → ys ≡ cells P (spelled P (take (own_masks P) masks)) ++ drop (own_cells P) xs → 1 ≤ own_cells P → r ≡ get_or ys 0 0 → t ≡ own_cells P
-    → LoadPromise (loads (decode bytes) (tables masks xs)) (Accepted r t) (tables masks ys)
-unfolding root_penalty load_values LoadTold
+    → LoadPromise (loads (decode bytes) (tables masks xs)) (Ok (record { root = r; cells = t })) (tables masks ys)
+unfolding root_penalty load_values
 load-accepts bytes masks xs ys P r t d e y one re te =
     let own = take (own_masks P) masks in
     let c = cells P (spelled P own) in
@@ -59,7 +64,7 @@ load-accepts bytes masks xs ys P r t d e y one re te =
     let given = ap (λ (x : Decoded). loads x (tables masks xs)) d ∙ load_is P (tables masks xs) e in
     record {
       values-are = (λ i. record { number = 0; root = first i; cells = te i }) ∙ sym (ap (λ (x : LoadValues × State). x.0) given);
-      told = tt;
+      told = all-told (Ok _);
       tables-are = (λ i. tables masks (y i)) ∙ sym (ap (λ (x : LoadValues × State). x.1) given);
     }
 

@@ -1,12 +1,12 @@
 -- The call that lists the best moves. Paper 02, request 2026-01.
-use Rattle.std.specs.Prelude.{◌≡◌, not, List, [], ◌∷◌, ◌++◌, map, ℕ, ltb, length, drop}
+use Rattle.std.specs.Prelude.{◌≡◌, not, List, [], ◌∷◌, ◌++◌, map, ℕ, ltb, length, drop, Result}
 use Rattle.logic.specs.declared.Move.{Move}
 use Rattle.logic.specs.Formula.{Plan}
 use Rattle.logic.specs.Moves.{Ground, kinds_known}
+use Rattle.logic.specs.declared.refusal.Refusal.{Refusal}
 use Rattle.table_format.specs.Decode.{Decoded}
 use Rattle.contracts.specs.State.{State, own_tables}
 use Rattle.contracts.specs.Call.{call_grounds, call}
-use Rattle.contracts.specs.declared.Counted.{Counted}
 use Rattle.contracts.specs.Counting.{CountValues, count_refused, count_accepted, count_values, CountTold}
 use Rattle.contracts.specs.ImproveCall.{best_moves}
 
@@ -37,7 +37,7 @@ move_record m = m.kind ∷ m.s ∷ m.t ∷ m.p ∷ m.q ∷ []
 
 -- What `best_moves` promises: its answer by the number and the count, and every record of the lent list afterwards: the moves in their
 -- order, those past the count as they were, and on refusal all.
-pub record ListPromise (given : Listing) (r : Counted) (list list' : List (List ℕ)) : Type 0 where
+pub record ListPromise (given : Listing) (r : Result ℕ Refusal) (list list' : List (List ℕ)) : Type 0 where
   pub values-are : count_values r ≡ given.0
   pub told : CountTold r
   pub list-is : list' ≡ map move_record given.1 ++ drop (length given.1) list

@@ -1,16 +1,18 @@
 -- Improve as a function of the tables and their journal. Paper 01, section One move; paper 02, requests 2026-01: "Improve makes the first
 -- of the best.", and 2026-03.
-use Rattle.std.specs.Prelude.{◌≡◌, ◌≢◌, Bool, false, cond, not, ◌&&◌, List, [], ◌∷◌, ℕ, eqb, ltb, get_or}
+use Rattle.std.specs.Prelude.{◌≡◌, Bool, false, cond, not, ◌&&◌, List, [], ◌∷◌, ℕ, eqb, ltb, get_or, Result, Ok, Err}
 use Rattle.logic.specs.declared.Move.{Move}
 use Rattle.logic.specs.Formula.{Plan}
 use Rattle.logic.specs.Configuration.{in_masks}
 use Rattle.logic.specs.Moves.{no_move, Ground, kinds_known}
+use Rattle.logic.specs.declared.refusal.Refusal.{Refusal}
+use Rattle.logic.specs.Refusal.{refusal_number, Told}
 use Rattle.table_format.specs.Decode.{Decoded}
 use Rattle.contracts.specs.State.{State, own_tables}
 use Rattle.contracts.specs.Journal.{Journaled, full, room_of, count_after, journal_after}
 use Rattle.contracts.specs.Call.{journal_grounds, call}
 use Rattle.contracts.specs.declared.Improved.{Improved}
-use Rattle.contracts.specs.declared.Improved.TheVariants.{Made, NoBetter, Refused}
+use Rattle.contracts.specs.declared.Improved.TheVariants.{Made, NoBetter}
 use Rattle.contracts.specs.MoveCall.{MoveValues, move_accepted, cells_after, moves_own}
 use Rattle.contracts.specs.MoveOrder.{candidates, best_of}
 
@@ -36,16 +38,14 @@ unfoldable pub no_better : ℕ → ImproveValues
 no_better root = record { number = 0; found = 0; chosen = no_move; before = root; after = root; changed = 0 }
 
 -- The number and the values of each case of the enum.
-unfoldable pub improve_values : Improved → ImproveValues
-improve_values (Made chosen before after changed) = improve_made chosen (move_accepted before after changed)
-improve_values (NoBetter root) = no_better root
-improve_values (Refused number) = improve_refused number
+unfoldable pub improve_values : Result Improved Refusal → ImproveValues
+improve_values (Ok (Made chosen before after changed)) = improve_made chosen (move_accepted before after changed)
+improve_values (Ok (NoBetter root)) = no_better root
+improve_values (Err g) = improve_refused (refusal_number g)
 
 -- No refusal has the number 0, so that the values tell the case.
-unfoldable pub ImproveTold : Improved → Type 0
-ImproveTold (Made chosen before after changed) = Unit {0}
-ImproveTold (NoBetter root) = Unit {0}
-ImproveTold (Refused number) = number ≢ 0
+abbrev pub ImproveTold : Result Improved Refusal → Type 0
+ImproveTold r = Told r
 
 -- The root as the cells hold it, "now".
 unfoldable pub root_now : List ℕ → ℕ
@@ -108,7 +108,7 @@ improves_journaled d kinds x scratch-length =
 
 -- What `improve` promises, which is lent the journal's length and record count: its answer by 01's number and values, and every mask,
 -- every cell and the record count afterwards.
-pub record ImprovePromise (given : ImproveValues × State) (count : ℕ) (r : Improved) (s' : State) (count' : ℕ) : Type 0 where
+pub record ImprovePromise (given : ImproveValues × State) (count : ℕ) (r : Result Improved Refusal) (s' : State) (count' : ℕ) : Type 0 where
   pub values-are : improve_values r ≡ given.0
   pub told : ImproveTold r
   pub tables-are : s' ≡ given.1

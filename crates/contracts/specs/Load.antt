@@ -1,14 +1,15 @@
 -- Load: "Load checks the tables and fills every cell. It returns root and cell total." (paper 01, sections Penalty and Grounds)
-use Rattle.std.specs.Prelude.{◌≡◌, ◌≢◌, List, [], ℕ}
+use Rattle.std.specs.Prelude.{◌≡◌, List, [], ℕ, Result, Ok, Err}
 use Rattle.logic.specs.Formula.{Plan}
 use Rattle.logic.specs.Configuration.{spelled}
 use Rattle.logic.specs.Cells.{own_cells, cells as planCells, root_penalty}
 use Rattle.logic.specs.Moves.{Ground}
+use Rattle.logic.specs.declared.refusal.Refusal.{Refusal}
+use Rattle.logic.specs.Refusal.{refusal_number, Told}
 use Rattle.table_format.specs.Decode.{Decoded}
 use Rattle.contracts.specs.State.{State}
 use Rattle.contracts.specs.Call.{call_grounds, call}
 use Rattle.contracts.specs.declared.Loaded.{Loaded}
-use Rattle.contracts.specs.declared.Loaded.TheVariants.{Accepted, Refused}
 
 -- What load answers, by 01's number and values: "It returns root and cell total."
 pub record LoadValues : Type 0 where
@@ -21,14 +22,13 @@ unfoldable pub load_refused : ℕ → LoadValues
 load_refused number = record { number = number; root = 0; cells = 0 }
 
 -- The number and the values of each case of the enum.
-unfoldable pub load_values : Loaded → LoadValues
-load_values (Accepted root total) = record { number = 0; root = root; cells = total }
-load_values (Refused number) = load_refused number
+unfoldable pub load_values : Result Loaded Refusal → LoadValues
+load_values (Ok r) = record { number = 0; root = r.root; cells = r.cells }
+load_values (Err g) = load_refused (refusal_number g)
 
 -- No refusal has the number 0, so that the values tell the case.
-unfoldable pub LoadTold : Loaded → Type 0
-LoadTold (Accepted root total) = Unit {0}
-LoadTold (Refused number) = number ≢ 0
+abbrev pub LoadTold : Result Loaded Refusal → Type 0
+LoadTold r = Told r
 
 -- Load tries 11 to 13.
 unfoldable pub load_grounds : Decoded → State → List Ground
@@ -52,7 +52,7 @@ unfoldable pub loads : Decoded → State → LoadValues × State
 loads d s = call load_refused (load_grounds d s) d loads_own s
 
 -- What `load` promises: its answer by 01's number and values, and every mask and every cell afterwards.
-pub record LoadPromise (given : LoadValues × State) (r : Loaded) (s' : State) : Type 0 where
+pub record LoadPromise (given : LoadValues × State) (r : Result Loaded Refusal) (s' : State) : Type 0 where
   pub values-are : load_values r ≡ given.0
   pub told : LoadTold r
   pub tables-are : s' ≡ given.1

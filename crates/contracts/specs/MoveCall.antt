@@ -1,16 +1,17 @@
 -- A move as a function of the tables and their journal: paper 01, sections One move and Grounds for refusal; paper 02, request 2026-03.
-use Rattle.std.specs.Prelude.{◌≡◌, ◌≢◌, Bool, List, [], ◌∷◌, ◌++◌, ℕ, eqb, get_or}
+use Rattle.std.specs.Prelude.{◌≡◌, Bool, List, [], ◌∷◌, ◌++◌, ℕ, eqb, get_or, Result, Ok, Err}
 use Rattle.logic.specs.declared.Move.{Move}
 use Rattle.logic.specs.Formula.{Plan}
 use Rattle.logic.specs.Configuration.{Sets, in_masks, spelled}
 use Rattle.logic.specs.Moves.{Ground, move_grounds, move_masks, move_pairs}
 use Rattle.logic.specs.Change.{pairs_change, new_cells, differing}
+use Rattle.logic.specs.declared.refusal.Refusal.{Refusal}
+use Rattle.logic.specs.Refusal.{refusal_number, Told}
 use Rattle.table_format.specs.Decode.{Decoded}
 use Rattle.contracts.specs.State.{State}
 use Rattle.contracts.specs.Journal.{full, room_of, journal_after, Journaled}
 use Rattle.contracts.specs.Call.{journal_grounds, call}
 use Rattle.contracts.specs.declared.Moved.{Moved}
-use Rattle.contracts.specs.declared.Moved.TheVariants.{Accepted, Refused}
 
 -- What a move, a trial, an undo and a port in test answer, by 01's number and values: "root before, root after, and how many cells differ from before".
 pub record MoveValues : Type 0 where
@@ -28,17 +29,16 @@ unfoldable pub move_accepted : ℕ → ℕ → ℕ → MoveValues
 move_accepted before after changed = record { number = 0; before = before; after = after; changed = changed }
 
 -- The number and the values of each case of the enum.
-unfoldable pub move_values : Moved → MoveValues
-move_values (Accepted before after changed) = move_accepted before after changed
-move_values (Refused number) = move_refused number
+unfoldable pub move_values : Result Moved Refusal → MoveValues
+move_values (Ok r) = move_accepted r.before r.after r.changed
+move_values (Err g) = move_refused (refusal_number g)
 
 -- No refusal has the number 0, so that the values tell the case.
-unfoldable pub MoveTold : Moved → Type 0
-MoveTold (Accepted before after changed) = Unit {0}
-MoveTold (Refused number) = number ≢ 0
+abbrev pub MoveTold : Result Moved Refusal → Type 0
+MoveTold r = Told r
 
 -- The answer of such a call is as given.
-pub record MovedAs (given : MoveValues) (r : Moved) : Type 0 where
+pub record MovedAs (given : MoveValues) (r : Result Moved Refusal) : Type 0 where
   pub values-are : move_values r ≡ given
   pub told : MoveTold r
 
@@ -86,13 +86,13 @@ moves_journaled d m x =
 
 -- The answer, and every mask and every cell afterwards, of a call that answers these numbers: what `port_test` promises, which is lent no
 -- journal.
-pub record MadeAs (given : MoveValues × State) (r : Moved) (s' : State) : Type 0 where
+pub record MadeAs (given : MoveValues × State) (r : Result Moved Refusal) (s' : State) : Type 0 where
   pub answers : MovedAs given.0 r
   pub tables-are : s' ≡ given.1
 
 -- What `make_move` and `undo` promise, which are lent the journal's length and record count: the answer by 01's number and values, and
 -- every mask, every cell and the record count afterwards, which goes by whether a move was made.
-pub record MovePromise (counts : Bool → ℕ → ℕ) (given : MoveValues × State) (count : ℕ) (r : Moved) (s' : State) (count' : ℕ) : Type 0 where
+pub record MovePromise (counts : Bool → ℕ → ℕ) (given : MoveValues × State) (count : ℕ) (r : Result Moved Refusal) (s' : State) (count' : ℕ) : Type 0 where
   pub answers : MovedAs given.0 r
   pub tables-are : s' ≡ given.1
   pub count-is : count' ≡ counts (move_made given.0) count

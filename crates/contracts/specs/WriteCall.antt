@@ -1,9 +1,9 @@
 -- Writing a plan as text. Paper 02, request 2026-02.
-use Rattle.std.specs.Prelude.{◌≡◌, List, [], ◌∷◌, ◌++◌, ℕ, zero, suc, ltb, length, drop}
+use Rattle.std.specs.Prelude.{◌≡◌, List, [], ◌∷◌, ◌++◌, ℕ, zero, suc, ltb, length, drop, Result}
 use Rattle.logic.specs.Moves.{Ground, refusal}
 use Rattle.text_form.specs.Spelling.{plan_text, unwritable}
+use Rattle.logic.specs.declared.refusal.Refusal.{Refusal}
 use Rattle.table_format.specs.Decode.{Decoded, broken, sound}
-use Rattle.contracts.specs.declared.Counted.{Counted}
 use Rattle.contracts.specs.Call.{plan_grounds}
 use Rattle.contracts.specs.Counting.{CountValues, count_refused, count_accepted, count_values, CountTold}
 
@@ -24,7 +24,7 @@ unfoldable pub writes : Decoded → List ℕ → CountValues × List ℕ
 writes d before = write_or (refusal (write_grounds d (length before))) d before
 
 -- What `write` promises: its answer by the number and the length, and every byte of the lent text afterwards.
-pub record WritePromise (given : CountValues × List ℕ) (r : Counted) (text' : List ℕ) : Type 0 where
+pub record WritePromise (given : CountValues × List ℕ) (r : Result ℕ Refusal) (text' : List ℕ) : Type 0 where
   pub values-are : count_values r ≡ given.0
   pub told : CountTold r
   pub text-is : text' ≡ given.1

@@ -1,18 +1,21 @@
 // What the calls answer. What each of them promises, the book and the lists of calls are the definitions in specs/. Paper 01.
+// A call answers one of these or the ground that refuses it.
 #![tactic(auto)]
 
 use logic::Move;
 
-#[derive(Clone, Copy)]
-pub enum Answer {
-    Accepted { nodes: u32, cells: u32 },
-    Refused(u8),
+// Node count and cell total.
+#[derive(Clone, Copy, Debug, PartialEq, Eq)]
+pub struct Read {
+    pub nodes: u32,
+    pub cells: u32,
 }
 
-#[derive(Clone, Copy)]
-pub enum Loaded {
-    Accepted { root: u32, cells: u32 },
-    Refused(u8),
+// The root's penalty and cell total.
+#[derive(Clone, Copy, Debug, PartialEq, Eq)]
+pub struct Loaded {
+    pub root: u32,
+    pub cells: u32,
 }
 
 // A node's cells: a part of the caller's cell table by place and length. vk_part: a slice cannot be handed back to C.
@@ -24,14 +27,11 @@ pub struct Part {
 }
 
 // A move and a trial answer root before, root after and how many cells differ.
-#[derive(Clone, Copy)]
-pub enum Moved {
-    Accepted {
-        before: u32,
-        after: u32,
-        changed: u32,
-    },
-    Refused(u8),
+#[derive(Clone, Copy, Debug, PartialEq, Eq)]
+pub struct Moved {
+    pub before: u32,
+    pub after: u32,
+    pub changed: u32,
 }
 
 // Improve answers the move that it made with the three numbers, or "no better move" with the root.
@@ -46,12 +46,4 @@ pub enum Improved {
     NoBetter {
         root: u32,
     },
-    Refused(u8),
-}
-
-// How many: the best moves, or the bytes of a text.
-#[derive(Clone, Copy)]
-pub enum Counted {
-    Accepted(u32),
-    Refused(u8),
 }

@@ -4,12 +4,13 @@
 ghost use Rattle.std.specs.Prelude.{◌≡◌, set, get_or};
 ghost use Rattle.logic.specs.Moves.{no_move};
 
-use logic::Move;
+use logic::{Move, no_move};
 
 // The record m at a place. A place past the end writes nothing.
 pub fn put_record(journal: &mut [Move], at: usize, m: Move)
     ensures { journal.new ≡ set journal.old at m }
 {
+    // Not `if let Some(record) = journal.get_mut(at)`: what the journal is after the write through `record` stayed open.
     if at < journal.len() {
         journal[at] = m;
     }
@@ -19,14 +20,5 @@ pub fn put_record(journal: &mut [Move], at: usize, m: Move)
 pub fn record_at(journal: &[Move], at: usize) -> Move
     ensures { result ≡ get_or journal.now at no_move }
 {
-    if at < journal.len() {
-        return journal[at];
-    }
-    Move {
-        kind: 0,
-        s: 0,
-        t: 0,
-        p: 0,
-        q: 0,
-    }
+    journal.get(at).copied().unwrap_or(no_move())
 }

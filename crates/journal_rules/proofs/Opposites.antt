@@ -23,3 +23,7 @@ of-kind m k e = ap (λ (x : MoveKind). kind_opposite x m) e
 pub of_none : (m : Move) → (m.kind ≡ 1 → ⊥) → (m.kind ≡ 2 → ⊥) → (m.kind ≡ 3 → ⊥) → (m.kind ≡ 4 → ⊥) → opposite m ≡ m
 unfolding kind_opposite
 of_none m a b c d = of-kind m unknown (none-known m.kind a b c d)
+
+-- a move by its fields
+abbrev pub of_fields : ℕ → ℕ → ℕ → ℕ → ℕ → Move
+of_fields kind s t p q = record { kind = kind; s = s; t = t; p = p; q = q }

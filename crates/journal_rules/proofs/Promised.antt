@@ -4,7 +4,9 @@ use mathlib.Core.Path.{◌≡◌, sym, ap, subst, ◌∙◌}
 use mathlib.Core.List.{List}
 use Prim.Native.Nat.{ℕ, ◌≤◌}
 use lib.ListN.{length, set}
+use Rattle.std.specs.Prelude.{Result}
 use Rattle.logic.specs.declared.Move.{Move}
+use Rattle.logic.specs.declared.refusal.Refusal.{Refusal}
 use Rattle.table_format.specs.Decode.{Decoded}
 use Rattle.contracts.specs.State.{State}
 use Rattle.contracts.specs.Journal.{Journaled, room_of, newest, count_after, count_taken}
@@ -28,7 +30,7 @@ module _ (d : Decoded) (s s' : State) (records : List Move) (room count count' :
   pub put-none : (m : Move) → count' ≤ count → put m ≡ records
   put-none m h = ap (λ (n : ℕ). set records (place_of count count' n) m) (sym l) ∙ unwritten records count count' m h
 
-  pub move-held : (m : Move) (a : Moved) → MovePromise count_after (moves d m s room count) count a s' count'
+  pub move-held : (m : Move) (a : Result Moved Refusal) → MovePromise count_after (moves d m s room count) count a s' count'
       → (let given = moves_journaled d m (held s records count) in (move_values a ≡ given.0) × (held s' (put m) count' ≡ given.1))
   unfolding moves_journaled room_of
   move-held m a p =
@@ -40,7 +42,7 @@ module _ (d : Decoded) (s s' : State) (records : List Move) (room count count' :
         },
       )
 
-  pub improve-held : (kinds scratch : ℕ) (m : Move) (a : Improved) → m ≡ (improve_values a).chosen
+  pub improve-held : (kinds scratch : ℕ) (m : Move) (a : Result Improved Refusal) → m ≡ (improve_values a).chosen
       → ImprovePromise (improves d kinds s scratch room count) count a s' count'
       → (let given = improves_journaled d kinds (held s records count) scratch in (improve_values a ≡ given.0) × (held s' (put m) count' ≡ given.1))
   unfolding improves_journaled room_of
@@ -55,7 +57,7 @@ module _ (d : Decoded) (s s' : State) (records : List Move) (room count count' :
       )
 
   -- undo writes no record
-  pub undo-held : (m : Move) (a : Moved) → newest (journal records count) ≡ m → MovePromise count_taken (undoes d m s room count) count a s' count'
+  pub undo-held : (m : Move) (a : Result Moved Refusal) → newest (journal records count) ≡ m → MovePromise count_taken (undoes d m s room count) count a s' count'
       → (let given = undoes_journaled d (held s records count) in (move_values a ≡ given.0) × (held s' records count' ≡ given.1))
   unfolding undoes_journaled room_of
   undo-held m a e p =

@@ -1,26 +1,14 @@
 // Inputs of planroot, whole and cut in two, and the lines for them.
-ghost use Rattle.std.specs.Prelude.{◌≡◌, min};
-
-use planroot_input::{start, step};
+use planroot_input::Scan;
 use planroot_line::answer;
 use std::io;
-
-// The lesser of two: a cut behind the end of an input cuts nothing off.
-fn least(a: usize, b: usize) -> usize
-    ensures { result ≡ min a b }
-{
-    if a < b {
-        return a;
-    }
-    b
-}
 
 // Prints the line for an input that comes in two pieces, as planroot does.
 fn say_pieces(rt: &impl Print, first: &[u8], rest: &[u8]) -> io::Result<()> {
     let mut masks = [0u64; 16];
     let mut text = [0u8; 4097];
-    let a = step(start(), first, &mut masks, &mut text);
-    let b = step(a, rest, &mut masks, &mut text);
+    let a = Scan::start().step(first, &mut masks, &mut text);
+    let b = a.step(rest, &mut masks, &mut text);
     let mut out = [0u8; 36];
     let n = answer(b, &mut masks, &text, &mut out);
     rt.write_all(&out[..n])
@@ -31,20 +19,18 @@ fn whole(rt: &impl Print, input: &[u8]) -> io::Result<()> {
     say_pieces(rt, input, b"")
 }
 
-// An input of which the first piece has at most n bytes.
+// An input of which the first piece has at most n bytes: a cut behind its end cuts nothing off.
 fn cut_at(rt: &impl Print, input: &[u8], n: usize) -> io::Result<()> {
-    let k = least(n, input.len());
-    say_pieces(rt, &input[0..k], &input[k..])
+    let k = n.min(input.len());
+    say_pieces(rt, &input[..k], &input[k..])
 }
 
 // An input cut at some places: the same line each time.
 fn cut(rt: &impl Print, input: &[u8]) -> io::Result<()> {
-    cut_at(rt, input, 0)?;
-    cut_at(rt, input, 1)?;
-    cut_at(rt, input, 2)?;
-    cut_at(rt, input, 3)?;
-    cut_at(rt, input, 7)?;
-    cut_at(rt, input, 20)
+    for n in [0, 1, 2, 3, 7, 20] {
+        cut_at(rt, input, n)?;
+    }
+    Ok(())
 }
 
 // The first two lines: no line end, line 2 ended by the input.

@@ -11,10 +11,10 @@ use std::io;
 // A move of one port of a set: 1 adds it, 2 drops it.
 fn one_port(kind: u32, s: u32, p: u32) -> Move {
     Move {
-        kind: kind,
-        s: s,
+        kind,
+        s,
         t: 0,
-        p: p,
+        p,
         q: 0,
     }
 }

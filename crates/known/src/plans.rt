@@ -26,7 +26,7 @@ fn say_short(
     if table.len() < n {
         return Ok(());
     }
-    say(rt, &table[0..n], masks, cells)
+    say(rt, &table[..n], masks, cells)
 }
 
 // Plan A: its 34 cells and two past them, then the cells of some nodes.

@@ -1,5 +1,6 @@
 // The lines that known prints.
-use contracts::{Answer, Loaded, Moved};
+use contracts::{Loaded, Moved, Read};
+use logic::Refusal;
 use std::io;
 
 // A number, a space before it.
@@ -33,9 +34,9 @@ fn counted(rt: &impl Print, word: &[u8], n: u32, cells: u32) -> io::Result<()> {
 }
 
 // A refusal by its ground.
-fn refused(rt: &impl Print, ground: u8) -> io::Result<()> {
+fn refused(rt: &impl Print, ground: Refusal) -> io::Result<()> {
     rt.write_all(b"refused")?;
-    byte(rt, ground)?;
+    byte(rt, ground.number())?;
     end(rt)
 }
 
@@ -49,30 +50,26 @@ fn changed(rt: &impl Print, before: u32, after: u32, cells: u32) -> io::Result<(
 }
 
 // What read answers.
-pub fn say_read(rt: &impl Print, answer: Answer) -> io::Result<()> {
+pub fn say_read(rt: &impl Print, answer: Result<Read, Refusal>) -> io::Result<()> {
     match answer {
-        Answer::Accepted { nodes, cells } => counted(rt, b"nodes", nodes, cells),
-        Answer::Refused(n) => refused(rt, n),
+        Ok(plan) => counted(rt, b"nodes", plan.nodes, plan.cells),
+        Err(g) => refused(rt, g),
     }
 }
 
 // What load answers.
-pub fn say_loaded(rt: &impl Print, answer: Loaded) -> io::Result<()> {
+pub fn say_loaded(rt: &impl Print, answer: Result<Loaded, Refusal>) -> io::Result<()> {
     match answer {
-        Loaded::Accepted { root, cells } => counted(rt, b"penalty", root, cells),
-        Loaded::Refused(n) => refused(rt, n),
+        Ok(plan) => counted(rt, b"penalty", plan.root, plan.cells),
+        Err(g) => refused(rt, g),
     }
 }
 
 // What a move or a trial answers.
-pub fn say_moved(rt: &impl Print, answer: Moved) -> io::Result<()> {
+pub fn say_moved(rt: &impl Print, answer: Result<Moved, Refusal>) -> io::Result<()> {
     match answer {
-        Moved::Accepted {
-            before,
-            after,
-            changed: cells,
-        } => changed(rt, before, after, cells),
-        Moved::Refused(n) => refused(rt, n),
+        Ok(m) => changed(rt, m.before, m.after, m.changed),
+        Err(g) => refused(rt, g),
     }
 }
 

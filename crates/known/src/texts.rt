@@ -1,39 +1,18 @@
 // Texts of paper 01 through read and load, each ground at its boundary.
-ghost use Rattle.std.specs.Prelude.{◌≤◌, ◌<◌};
-
 use crate::print::{say_loaded, say_read, show_bytes};
 use call_load::load;
 use call_read::read;
 use std::io;
 
-// j, or 0 behind the last of n places.
-fn wrapped(j: usize, n: usize) -> usize
-    requires { 1 ≤ n }
-    ensures { result < n }
-{
-    if j < n {
-        return j;
-    }
-    0
-}
-
 // Lays a piece again and again over `length` places of out from place `from` on, as far as there is room: where it ends.
 fn lay(out: &mut [u8], from: usize, length: usize, piece: &[u8]) -> usize {
     let mut i = from;
-    if piece.len() == 0 {
-        return i;
-    }
-    let mut left = length;
-    let mut j = 0;
-    while 0 < left {
-        if out.len() <= i {
+    for k in 0..length {
+        if piece.is_empty() || out.len() <= i {
             return i;
         }
-        let k = wrapped(j, piece.len());
-        out[i] = piece[k];
+        out[i] = piece[k % piece.len()];
         i += 1;
-        j = k + 1;
-        left -= 1;
     }
     i
 }
@@ -84,7 +63,7 @@ fn say_part(rt: &impl Print, text: &[u8], length: usize) -> io::Result<()> {
     if text.len() < length {
         return Ok(());
     }
-    say(rt, 1, &text[0..length])
+    say(rt, 1, &text[..length])
 }
 
 // Reads and loads a small plan.
@@ -228,7 +207,7 @@ fn say_short(rt: &impl Print, text: &[u8], table: &mut [u8], length: usize) -> i
     if table.len() < length {
         return Ok(());
     }
-    say_read(rt, read(1, text, &mut table[0..length]))
+    say_read(rt, read(1, text, &mut table[..length]))
 }
 
 // Reads into a table of this length, and shows what is there.

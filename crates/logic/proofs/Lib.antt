@@ -7,6 +7,7 @@ pub mod Lists
 pub mod Masks
 pub mod MoveFields
 pub mod Moves
+pub mod Refusals
 pub mod Relations
 pub mod Tables
 pub mod Theorems

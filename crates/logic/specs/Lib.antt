@@ -6,5 +6,6 @@ pub mod InTest
 pub mod Known
 pub mod Moves
 pub mod Penalty
+pub mod Refusal
 pub mod Truth
 pub mod inner

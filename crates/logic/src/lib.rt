@@ -2,10 +2,14 @@
 // Paper 01, sections Plan table, Penalty and One move.
 #![tactic(auto)]
 
-ghost use Rattle.std.specs.Prelude.{◌≡◌, not, ◌≤◌, ◌<◌, ◌^◌, min};
-ghost use Rattle.logic.specs.Configuration.{indicator, ports_in, out_of_test, in_mask, mask_count, within_ports};
+ghost use Rattle.std.specs.Prelude.{◌≡◌, ◌≤◌, ◌<◌, ◌^◌};
+ghost use Rattle.logic.specs.Configuration.{ports_in, out_of_test, in_mask, mask_count, within_ports};
 ghost use Rattle.logic.specs.Moves.{no_move};
 ghost use Rattle.logic.specs.inner.Flip.{flip_port};
+
+pub mod refusal;
+
+pub use refusal::Refusal;
 
 // A move as the operator gives it: kind, set S, set T, port p, port q. The fields are wide, so that no value is cut before
 // ground 14 sees it. The same struct at the C boundary, vk_move_record.
@@ -44,7 +48,7 @@ pub fn has_port(mask: u64, p: u32) -> bool
 pub fn mask_size(mask: u64, test: u64) -> u32
     ensures { (result ≡ ports_in 64 (out_of_test (in_mask mask) (in_mask test))) × (result ≤ 64) }
 {
-    u64::count_ones(mask & (mask ^ test))
+    (mask & (mask ^ test)).count_ones()
 }
 
 // A mask with port p entered if it was out, and out if it was in.
@@ -70,10 +74,7 @@ pub fn own_masks(sets: usize) -> usize
 pub fn within_ports(mask: u64, u: u32) -> bool
     ensures { result ≡ within_ports u mask }
 {
-    if 64 <= u {
-        return true;
-    }
-    mask >> u == 0
+    if 64 <= u { true } else { mask >> u == 0 }
 }
 
 // One bit of a word.
@@ -82,36 +83,6 @@ pub fn bit(at: usize) -> u64
     ensures { result ≡ 2 ^ at }
 {
     1u64 << at
-}
-
-// 0 if true, else 1.
-pub fn unless(held: bool) -> u32
-    ensures { result ≡ indicator (not held) }
-{
-    if held {
-        return 0;
-    }
-    1
-}
-
-// The lesser of two lengths.
-pub fn lesser(a: usize, b: usize) -> usize
-    ensures { result ≡ min a b }
-{
-    if a <= b {
-        return a;
-    }
-    b
-}
-
-// The lesser of two cells.
-pub fn lesser_cell(a: u32, b: u32) -> u32
-    ensures { result ≡ min a b }
-{
-    if a <= b {
-        return a;
-    }
-    b
 }
 
 // A number of 32 bits as a place in a slice, with the bound that a sum of two places asks for.

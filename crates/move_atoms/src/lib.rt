@@ -2,10 +2,11 @@
 #![tactic(auto)]
 
 ghost use Rattle.std.specs.Prelude.{◌≡◌, false, cond, ◌+◌, ◌≤◌, eqb};
-ghost use Rattle.move_tables.specs.inner.Taking.{is_sum, TakeReady, TakesTree, TakeAllReady, TakesAll};
+ghost use Rattle.move_tables.specs.inner.Taking.{is_sum};
+ghost use Rattle.move_tables.specs.inner.OverPlan.{TakeReady, TakesTree, TakeAllReady, TakesAll};
 
 use cells_sum::adds_of;
-use cells_walk::{end_at, kind_at};
+use cells_walk::Plan;
 use move_tables::{Left, take_atom};
 
 // Whether a node is a sum, "and" or for all: atoms stand below it.
@@ -32,15 +33,10 @@ fn depth_below(kind: u8, depth: usize) -> usize
 // One tree: an atom, or the atoms below it.
 #[cycle(atoms)]
 fn take_tree(
-    table: &[u8],
-    firsts: &[u32; 512],
-    ends: &[u16; 512],
-    uses: &[u64; 512],
+    plan: &Plan,
     masks: &[u64],
     sizes: &[u32; 16],
     cells: &[u32],
-    ports: usize,
-    sets: usize,
     i: usize,
     depth: usize,
     transfers: bool,
@@ -52,23 +48,18 @@ fn take_tree(
     lists: &mut [u16],
     left: Left,
 ) -> Left
-    requires { TakeReady ports sets table.now firsts.now ends.now uses.now masks.now sizes.now cells.now i depth false mine.old own.old one.old still.old joint.old lists.old left }
-    ensures { TakesTree ports sets table.now firsts.now ends.now uses.now masks.now sizes.now cells.now i depth transfers one.old still.old joint.old lists.old left one.new still.new joint.new lists.new result }
+    requires { TakeReady plan.now masks.now sizes.now cells.now i depth false mine.old own.old one.old still.old joint.old lists.old left }
+    ensures { TakesTree plan.now masks.now sizes.now cells.now i depth transfers one.old still.old joint.old lists.old left one.new still.new joint.new lists.new result }
 {
-    let kind = kind_at(table, i);
+    let kind = plan.kind_at(i);
     if is_sum(kind) {
         return take_atoms(
-            table,
-            firsts,
-            ends,
-            uses,
+            plan,
             masks,
             sizes,
             cells,
-            ports,
-            sets,
             i + 1,
-            end_at(ends, i),
+            plan.end_at(i),
             depth_below(kind, depth),
             transfers,
             mine,
@@ -81,23 +72,17 @@ fn take_tree(
         );
     }
     take_atom(
-        table, firsts, ends, uses, masks, sizes, cells, ports, sets, i, depth, transfers, mine,
-        own, one, still, joint, lists, left,
+        plan, masks, sizes, cells, i, depth, transfers, mine, own, one, still, joint, lists, left,
     )
 }
 
 // The trees of a forest, which ends at node `until`.
 #[cycle(atoms)]
 pub fn take_atoms(
-    table: &[u8],
-    firsts: &[u32; 512],
-    ends: &[u16; 512],
-    uses: &[u64; 512],
+    plan: &Plan,
     masks: &[u64],
     sizes: &[u32; 16],
     cells: &[u32],
-    ports: usize,
-    sets: usize,
     i: usize,
     until: usize,
     depth: usize,
@@ -110,17 +95,18 @@ pub fn take_atoms(
     lists: &mut [u16],
     left: Left,
 ) -> Left
-    requires { TakeAllReady ports sets table.now firsts.now ends.now uses.now masks.now sizes.now cells.now i until depth mine.old own.old one.old still.old joint.old lists.old left }
-    ensures { TakesAll ports sets table.now firsts.now ends.now uses.now masks.now sizes.now cells.now i until depth transfers one.old still.old joint.old lists.old left one.new still.new joint.new lists.new result }
+    requires { TakeAllReady plan.now masks.now sizes.now cells.now i until depth mine.old own.old one.old still.old joint.old lists.old left }
+    ensures { TakesAll plan.now masks.now sizes.now cells.now i until depth transfers one.old still.old joint.old lists.old left one.new still.new joint.new lists.new result }
 {
     let mut found = left;
     let mut j = i;
+    // Not a `for`: each step is to the end that the index has of a tree.
     while j < until {
         found = take_tree(
-            table, firsts, ends, uses, masks, sizes, cells, ports, sets, j, depth, transfers, mine,
-            own, one, still, joint, lists, found,
+            plan, masks, sizes, cells, j, depth, transfers, mine, own, one, still, joint, lists,
+            found,
         );
-        j = end_at(ends, j);
+        j = plan.end_at(j);
     }
     found
 }

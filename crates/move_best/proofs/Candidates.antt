@@ -5,6 +5,7 @@ use mathlib.Core.List.{List}
 use Prim.Native.Nat.{ℕ}
 use native.Mathlib.Omega.{arith}
 use lib.ListN.{take}
+use Rattle.std.specs.Prelude.{Option}
 use Rattle.logic.specs.declared.Move.{Move}
 use Rattle.logic.specs.Formula.{Plan}
 use Rattle.logic.specs.Configuration.{in_masks, own_masks, mask_count}
@@ -13,7 +14,6 @@ use Rattle.table_format.specs.Decode.{sound, decode}
 use Rattle.table_format.proofs.Encoding.{decode-sound}
 use Rattle.table_format.proofs.Facts.{plan-sized}
 use Rattle.call_open.specs.inner.Opening.{OpenPlan}
-use Rattle.move_order.specs.declared.Next.{Next}
 use Rattle.logic.specs.inner.MoveFields.{Sized}
 use Rattle.move_order.specs.inner.Stepping.{Begins, BeginsOver, SizedOver, NextOr, GivesNext}
 use Rattle.move_order.proofs.Listing.{candidate-begins}
@@ -48,11 +48,11 @@ module _ {ports sets : ℕ} {bytes masks : List ℕ} {shortest : ℕ} {firsts en
   sets_of : (Q : Plan) → decode bytes ≡ sound Q → Q.sets ≡ n
   sets_of Q d = ap (λ (x : Plan). x.sets) (sym (same-plan opened Q d)) ∙ sym opened.sets-are ∙ sym sets-is
 
-  pub gives-here : (kinds : ℕ) (m : Move) (r : Next) → GivesNext u n kinds masks m r → (Q : Plan) → decode bytes ≡ sound Q
-      → NextOr r.found Q kinds (take (own_masks Q) masks) m r.m
+  pub gives-here : (kinds : ℕ) (m : Move) (r : Option Move) → GivesNext u n kinds masks m r → (Q : Plan) → decode bytes ≡ sound Q
+      → NextOr Q kinds (take (own_masks Q) masks) m r
   unfolding GivesNext own_masks
   gives-here kinds m r g Q d =
-      subst (λ (j : ℕ). NextOr r.found Q kinds (take (mask_count j) masks) m r.m) (sym (sets_of Q d)) (g Q (ports-of Q d) (sets_of Q d))
+      subst (λ (j : ℕ). NextOr Q kinds (take (mask_count j) masks) m r) (sym (sets_of Q d)) (g Q (ports-of Q d) (sets_of Q d))
 
   pub begins-over : (m : Move) → legal P (in_masks own) m ≡ true → BeginsOver u n m masks
   begins-over m h = record {

@@ -1,19 +1,18 @@
 -- One candidate more: what holds of the best so far. Assumes nothing.
 use mathlib.Core.Path.{◌≡◌, refl, sym, ap, ◌∙◌, subst}
 use mathlib.Core.Logic.{◌≢◌}
-use mathlib.Core.Bool.{true, false}
 use mathlib.Core.List.{List, [], ◌∷◌, ◌++◌}
-use Prim.Native.Nat.{ℕ, ◌+◌, ◌-◌, ◌≤◌, ◌<◌}
+use Prim.Native.Nat.{ℕ, ◌+◌, ◌≤◌, ◌<◌}
 use native.Mathlib.Omega.{arith}
 use native.Mathlib.Decide.{dec_lt}
 use lib.ListN.{length, length-append}
+use Rattle.std.specs.Prelude.{Option, Some, None}
 use Rattle.logic.specs.declared.Move.{Move}
 use Rattle.logic.specs.Formula.{Plan}
 use Rattle.contracts.specs.State.{State}
 use Rattle.contracts.specs.MoveOrder.{kept, best_of}
 use Rattle.contracts.specs.ImproveCall.{root_after, best_moves}
 use Rattle.contracts.proofs.Best.{best-shorter, best-first, best-lower, best-equal, best-higher, best_none}
-use Rattle.move_order.specs.declared.Next.{Next}
 use Rattle.move_order.specs.inner.Stepping.{outset, NextOr}
 use Rattle.logic.specs.inner.MoveFields.{Sized}
 use Rattle.move_rank.specs.declared.Choice.{Choice}
@@ -74,34 +73,34 @@ module _ (P : Plan) (own : State) where
             (subst (BestIs ((x ∷ xs) ++ m ∷ []) P own) (sym (ranked_equal best m value some v)) (equal_is x xs best b v))
 
 -- The state of a search that stands at a candidate, or has passed them all.
-pub record Sought (P : Plan) (kinds : ℕ) (own : State) (best : Choice) (at : Next) : Type 0 where
+pub record Sought (P : Plan) (kinds : ℕ) (own : State) (best : Choice) (at : Option Move) : Type 0 where
   pub passed : List Move
   pub walk : Passed P kinds own.masks at passed
   pub best-is : BestIs (best_of (root P own) passed) P own best
 
 module _ (P : Plan) (Z : Sized P.ports P.sets) (kinds : ℕ) (own : State) where
   -- before the first candidate
-  pub sought-first : (at : Next) → NextOr at.found P kinds own.masks outset at.m → Sought P kinds own (choice_of 0 outset 0) at
+  pub sought-first : (at : Option Move) → NextOr P kinds own.masks outset at → Sought P kinds own (choice_of 0 outset 0) at
   unfolding best_of kept BestIs choice_of
   sought-first at N = record { passed = []; walk = none_passed P Z kinds own.masks at N; best-is = refl }
 
-  module _ (best : Choice) (at : Next) (S : Sought P kinds own best at) where
-    pub few-counted : best.count ≤ 21504
-    few-counted =
+  module _ (best : Choice) where
+    pub few-counted : (at : Option Move) → Sought P kinds own best at → best.count ≤ 21504
+    few-counted at S =
         omega (arith, best-shorter (root P own) S.passed, few-passed P Z kinds own.masks at S.passed S.walk, count-is P own best (best_of (root P own) S.passed) S.best-is)
 
     -- from one candidate to the next
-    pub sought-next : at.found ≡ true → (value : ℕ) (new : Choice) (next : Next) → value ≡ root P own at.m → new ≡ ranked_by best at.m value
-        → NextOr next.found P kinds own.masks at.m next.m → Sought P kinds own new next
-    sought-next t value new next n e N = record {
-      passed = S.passed ++ at.m ∷ [];
-      walk = one-passed P Z kinds own.masks at S.passed S.walk t next N;
-      best-is = subst (BestIs (best_of (root P own) (S.passed ++ at.m ∷ [])) P own) (sym e)
-          (ranked-is P own at.m value n S.passed (best_of (root P own) S.passed) best refl S.best-is);
+    pub sought-next : (m : Move) → Sought P kinds own best (Some m) → (value : ℕ) (new : Choice) (next : Option Move) → value ≡ root P own m
+        → new ≡ ranked_by best m value → NextOr P kinds own.masks m next → Sought P kinds own new next
+    sought-next m S value new next n e N = record {
+      passed = S.passed ++ m ∷ [];
+      walk = one-passed P Z kinds own.masks m S.passed S.walk next N;
+      best-is = subst (BestIs (best_of (root P own) (S.passed ++ m ∷ [])) P own) (sym e)
+          (ranked-is P own m value n S.passed (best_of (root P own) S.passed) best refl S.best-is);
     }
 
     -- past the last
-    pub sought-end : at.found ≡ false → BestIs (best_moves P kinds own) P own best
+    pub sought-end : Sought P kinds own best None → BestIs (best_moves P kinds own) P own best
     unfolding best_moves
-    sought-end e =
-        subst (λ (ms : List Move). BestIs (best_of (root P own) ms) P own best) (all-passed P Z kinds own.masks at S.passed S.walk e) S.best-is
+    sought-end S =
+        subst (λ (ms : List Move). BestIs (best_of (root P own) ms) P own best) (all-passed P Z kinds own.masks S.passed S.walk) S.best-is

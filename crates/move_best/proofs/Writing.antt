@@ -8,6 +8,7 @@ use native.Mathlib.Omega.{arith}
 use lib.Dec.{eqb}
 use lib.ListN.{length, set, drop, length-append, length-map}
 use borrow.Author.Tests.{eqb-true, eq-eqb, ne_eqb}
+use Rattle.std.specs.Prelude.{Option, Some, None}
 use Rattle.logic.specs.declared.Move.{Move}
 use Rattle.logic.specs.Formula.{Plan}
 use Rattle.logic.specs.Configuration.{in_masks}
@@ -18,7 +19,6 @@ use Rattle.contracts.specs.ImproveCall.{root_after, best_moves}
 use Rattle.contracts.specs.BestCall.{move_record}
 use Rattle.contracts.proofs.Candidates.{kept-is, keep, kept_append}
 use Rattle.contracts.proofs.Best.{best-is, is-best, best_none}
-use Rattle.move_order.specs.declared.Next.{Next}
 use Rattle.move_order.specs.inner.Stepping.{outset, NextOr}
 use Rattle.move_list.specs.inner.Records.{RoomFor, Put}
 use Rattle.move_list.proofs.Writing.{record-more}
@@ -71,7 +71,7 @@ module _ (P : Plan) (kinds : ℕ) (own : State) where
   best-of ms = kept (λ m. none_smaller root all (root m)) ms
 
   -- The state of the pass: the records of the best among the moves passed, and the place of the next.
-  pub record Written (list list' : List (List ℕ)) (i : ℕ) (at : Next) : Type 0 where
+  pub record Written (list list' : List (List ℕ)) (i : ℕ) (at : Option Move) : Type 0 where
     pub passed : List Move
     pub walk : Passed P kinds own.masks at passed
     pub list-is : list' ≡ map move_record (best-of passed) ++ drop i list
@@ -79,61 +79,61 @@ module _ (P : Plan) (kinds : ℕ) (own : State) where
 
   module _ (Z : Sized P.ports P.sets) (list : List (List ℕ)) where
     -- before the first candidate
-    pub written-first : (at : Next) → NextOr at.found P kinds own.masks outset at.m → Written list list 0 at
+    pub written-first : (at : Option Move) → NextOr P kinds own.masks outset at → Written list list 0 at
     unfolding kept
     written-first at N = record { passed = []; walk = none_passed P Z kinds own.masks at N; list-is = refl; place_is = refl }
 
-    module _ (list' : List (List ℕ)) (i : ℕ) (at : Next) (W : Written list list' i at) where
-      module _ (t : at.found ≡ true) (best : Choice) (b : BestIs (best_moves P kinds own) P own best) (value : ℕ) (v : value ≡ root at.m) where
+    module _ (list' : List (List ℕ)) (i : ℕ) where
+      module _ (m : Move) (W : Written list list' i (Some m)) (best : Choice) (b : BestIs (best_moves P kinds own) P own best) (value : ℕ) (v : value ≡ root m) where
         -- the candidate here is one of the best if it leaves what the choice leaves
-        tells : none_smaller root all (root at.m) ≡ eqb value best.value
+        tells : none_smaller root all (root m) ≡ eqb value best.value
         unfolding best_moves
         tells = go (best_of root all) refl b
           where
-            among : Memᴰ at.m all
-            among = here-among P Z kinds own.masks at W.passed W.walk t
+            among : Memᴰ m all
+            among = here-among P Z kinds own.masks m W.passed W.walk
 
-            go : (ms : List Move) → best_of root all ≡ ms → BestIs ms P own best → none_smaller root all (root at.m) ≡ eqb value best.value
-            go [] e c = absurd (Memᴰ.not-nil (subst (Memᴰ at.m) (best_none root all e) among))
+            go : (ms : List Move) → best_of root all ≡ ms → BestIs ms P own best → none_smaller root all (root m) ≡ eqb value best.value
+            go [] e c = absurd (Memᴰ.not-nil (subst (Memᴰ m) (best_none root all e) among))
             go (x ∷ xs) e c = unfold BestIs in
-                best-tells root all x xs e at.m among ∙ ap₂ eqb (sym v) (sym c.2)
+                best-tells root all x xs e m among ∙ ap₂ eqb (sym v) (sym c.2)
 
         -- those passed with it
-        more : best-of (W.passed ++ at.m ∷ []) ≡ best-of W.passed ++ cond (eqb value best.value) (at.m ∷ []) []
+        more : best-of (W.passed ++ m ∷ []) ≡ best-of W.passed ++ cond (eqb value best.value) (m ∷ []) []
         unfolding kept
         more =
-            kept_append _ W.passed (at.m ∷ [])
-            ∙ ap (λ (c : Bool). best-of W.passed ++ cond c (at.m ∷ []) []) tells
+            kept_append _ W.passed (m ∷ [])
+            ∙ ap (λ (c : Bool). best-of W.passed ++ cond c (m ∷ []) []) tells
 
         -- the list has a place for it
         pub written-room : best.count ≤ length list → length list' ≡ length list → RoomFor value best.value i list'
         unfolding RoomFor best_moves best_of
         written-room h l e =
-            let ms = (here P Z kinds own.masks at W.passed W.walk t).0 in
-            let a : best-of (W.passed ++ at.m ∷ []) ++ best-of ms ≡ best_moves P kinds own =
-            sym (kept_append _ (W.passed ++ at.m ∷ []) ms) ∙ ap best-of (here-joined P Z kinds own.masks at W.passed W.walk t) in
-            let one : best-of (W.passed ++ at.m ∷ []) ≡ best-of W.passed ++ at.m ∷ [] =
-            more ∙ ap (λ (c : Bool). best-of W.passed ++ cond c (at.m ∷ []) []) (eq-eqb value best.value e) in
-            omega (arith, h, l, W.place_is, count-is P own best (best_moves P kinds own) b, ap length a, ap length one, length-append (best-of (W.passed ++ at.m ∷ [])) (best-of ms), length-append (best-of W.passed) (at.m ∷ []))
+            let ms = (here P Z kinds own.masks m W.passed W.walk).0 in
+            let a : best-of (W.passed ++ m ∷ []) ++ best-of ms ≡ best_moves P kinds own =
+            sym (kept_append _ (W.passed ++ m ∷ []) ms) ∙ ap best-of (here-joined P Z kinds own.masks m W.passed W.walk) in
+            let one : best-of (W.passed ++ m ∷ []) ≡ best-of W.passed ++ m ∷ [] =
+            more ∙ ap (λ (c : Bool). best-of W.passed ++ cond c (m ∷ []) []) (eq-eqb value best.value e) in
+            omega (arith, h, l, W.place_is, count-is P own best (best_moves P kinds own) b, ap length a, ap length one, length-append (best-of (W.passed ++ m ∷ [])) (best-of ms), length-append (best-of W.passed) (m ∷ []))
 
         -- from one candidate to the next
-        pub written_next : best.count ≤ length list → length list' ≡ length list → (list'' : List (List ℕ)) (j : ℕ) (next : Next) → Put at.m value best.value i list' list'' j
-            → NextOr next.found P kinds own.masks at.m next.m → Written list list'' j next
+        pub written_next : best.count ≤ length list → length list' ≡ length list → (list'' : List (List ℕ)) (j : ℕ) (next : Option Move)
+            → Put m value best.value i list' list'' j → NextOr P kinds own.masks m next → Written list list'' j next
         unfolding RoomFor
         written_next h l list'' j next p N =
-            let r = record-next at.m list (eqb value best.value) (best-of W.passed) (best-of (W.passed ++ at.m ∷ [])) more list' i W.list-is W.place_is
+            let r = record-next m list (eqb value best.value) (best-of W.passed) (best-of (W.passed ++ m ∷ [])) more list' i W.list-is W.place_is
             (λ e. omega (arith, written-room h l (eqb-true value best.value e), l)) list'' j p.list-is p.next-is in
             record {
-              passed = W.passed ++ at.m ∷ [];
-              walk = one-passed P Z kinds own.masks at W.passed W.walk t next N;
+              passed = W.passed ++ m ∷ [];
+              walk = one-passed P Z kinds own.masks m W.passed W.walk next N;
               list-is = r.0;
               place_is = r.1;
             }
 
       -- past the last
-      pub written-end : at.found ≡ false → list' ≡ map move_record (best_moves P kinds own) ++ drop (length (best_moves P kinds own)) list
+      pub written-end : Written list list' i None → list' ≡ map move_record (best_moves P kinds own) ++ drop (length (best_moves P kinds own)) list
       unfolding best_moves best_of
-      written-end e =
-          let a = all-passed P Z kinds own.masks at W.passed W.walk e in
+      written-end W =
+          let a = all-passed P Z kinds own.masks W.passed W.walk in
           W.list-is ∙ ap (λ (k : ℕ). map move_record (best-of W.passed) ++ drop k list) W.place_is
           ∙ ap (λ (ms : List Move). map move_record (best-of ms) ++ drop (length (best-of ms)) list) a

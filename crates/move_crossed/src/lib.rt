@@ -2,18 +2,18 @@
 #![tactic(auto)]
 
 ghost use Rattle.std.specs.Prelude.{◌≡◌, ◌+◌, ◌-◌, ◌/◌, ◌%◌, ◌<◌, ◌≤◌, length};
-ghost use Rattle.cells_both.specs.inner.Both.{BothReady, BothGives};
 ghost use Rattle.move_shares.specs.inner.Shares.{entering, leaving, exchanged};
-ghost use Rattle.move_crossed.specs.inner.Crossed.{OneSize, ShareAsked, ShareGiven, CrossedReady, CrossedGives};
+ghost use Rattle.move_crossed.specs.inner.Crossed.{OneSize};
+ghost use Rattle.cells_both.specs.inner.OverPlan.{BothReady, BothGives};
+ghost use Rattle.move_crossed.specs.inner.OverPlan.{ShareAsked, ShareGiven, CrossedReady, CrossedGives};
 
 use cells_both::both_ports;
 use cells_share::{entry_depth, entry_node};
 use cells_size::{mask_at, set_size};
 use cells_touch::{size_bit, variable_bits};
-use cells_walk::uses_at;
+use cells_walk::Plan;
 use logic::{Move, has_port, wide};
 use move_tables::crossings;
-use std::num::wrapping_add_u32;
 
 // What becomes of a set's size when port p enters it: 1 the same, 2 one more.
 pub fn entering_size(test: u64, p: u32) -> usize
@@ -62,34 +62,26 @@ fn one_size(set: usize, size: u32) -> [u32; 16]
 
 // What a swap brings to one atom beyond its flips: nothing, if the atom tests the set by one variable only.
 fn crossed_share(
-    table: &[u8],
-    firsts: &[u32; 512],
-    ends: &[u16; 512],
-    uses: &[u64; 512],
+    plan: &Plan,
     masks: &[u64],
     sizes: &[u32; 16],
     cells: &[u32],
-    ports: usize,
     i: usize,
     depth: usize,
     m: Move,
 ) -> u32
-    requires { ShareAsked ports table.now firsts.now ends.now uses.now masks.now sizes.now cells.now i depth m }
-    ensures { ShareGiven ports table.now firsts.now ends.now uses.now masks.now sizes.now cells.now i depth m result }
+    requires { ShareAsked plan.now masks.now sizes.now cells.now i depth m }
+    ensures { ShareGiven plan.now masks.now sizes.now cells.now i depth m result }
 {
-    if !has_port(crossings(uses_at(uses, i)), 4 * m.s) {
+    if !has_port(crossings(plan.uses_at(i)), 4 * m.s) {
         return 0;
     }
     let s = wide(m.s);
     both_ports(
-        table,
-        firsts,
-        ends,
-        uses,
+        plan,
         masks,
         sizes,
         cells,
-        ports,
         i,
         depth,
         variable_bits(s),
@@ -101,43 +93,32 @@ fn crossed_share(
 
 // The same of all atoms of a list.
 pub fn crossed_shares(
-    table: &[u8],
-    firsts: &[u32; 512],
-    ends: &[u16; 512],
-    uses: &[u64; 512],
+    plan: &Plan,
     masks: &[u64],
     cells: &[u32],
-    ports: usize,
-    sets: usize,
     m: Move,
     list: &[u16],
     count: usize,
 ) -> u32
-    requires { CrossedReady ports sets table.now firsts.now ends.now uses.now masks.now cells.now m list.now count }
-    ensures { CrossedGives ports sets table.now firsts.now ends.now uses.now masks.now cells.now m list.now count result }
+    requires { CrossedReady plan.now masks.now cells.now m list.now count }
+    ensures { CrossedGives plan.now masks.now cells.now m list.now count result }
 {
     let s = wide(m.s);
-    let before = set_size(masks, sets, s);
-    let size = size_after(before, mask_at(masks, sets), m.p, m.q);
+    let before = set_size(masks, plan.sets, s);
+    let size = size_after(before, mask_at(masks, plan.sets), m.p, m.q);
     let sizes = one_size(s, size);
-    let mut sum = 0;
-    let mut j = count;
-    while 0 < j {
-        j -= 1;
+    let mut sum = 0u32;
+    for j in (0..count).rev() {
         let more = crossed_share(
-            table,
-            firsts,
-            ends,
-            uses,
+            plan,
             masks,
             &sizes,
             cells,
-            ports,
             entry_node(list, j),
             entry_depth(list, j),
             m,
         );
-        sum = wrapping_add_u32(sum, more);
+        sum = sum.wrapping_add(more);
     }
     sum
 }

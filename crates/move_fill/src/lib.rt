@@ -2,11 +2,12 @@
 #![tactic(auto)]
 
 ghost use Rattle.std.specs.Prelude.{◌≤◌, ◌<◌, length};
-ghost use Rattle.move_root.specs.inner.Telling.{Told};
-ghost use Rattle.move_fill.specs.inner.Filling.{SizesSet, FillReady};
+ghost use Rattle.move_fill.specs.inner.Filling.{SizesSet};
+ghost use Rattle.move_root.specs.inner.OverPlan.{Told};
+ghost use Rattle.move_fill.specs.inner.OverPlan.{FillReady};
 
 use cells_size::set_size;
-use cells_walk::end_at;
+use cells_walk::Plan;
 use move_atoms::take_atoms;
 use move_tables::Left;
 
@@ -16,10 +17,8 @@ fn set_sizes(masks: &[u64], sets: usize) -> [u32; 16]
     ensures { SizesSet masks.now sets sets result }
 {
     let mut sizes = [0u32; 16];
-    let mut s = 0;
-    while s < sets {
+    for s in 0..sets {
         sizes[s] = set_size(masks, sets, s);
-        s += 1;
     }
     sizes
 }
@@ -38,24 +37,19 @@ fn walks_cheaper(kinds: u32, ports: usize, nodes: usize, width: usize) -> bool
 // Fills the tables for the moves of some kinds, and lists the atoms with quantifiers and those for which a swap has a correction; or says that
 // every move is to be walked.
 pub fn fill_tables(
-    table: &[u8],
-    firsts: &[u32; 512],
-    ends: &[u16; 512],
-    uses: &[u64; 512],
+    plan: &Plan,
     masks: &[u64],
     cells: &[u32],
-    ports: usize,
-    sets: usize,
     kinds: u32,
     one: &mut [u32],
     still: &mut [u32],
     joint: &mut [u32],
     lists: &mut [u16],
 ) -> Left
-    requires { FillReady ports sets table.now firsts.now ends.now uses.now masks.now cells.now one.old still.old joint.old lists.old }
-    ensures { Told ports sets table.now firsts.now ends.now uses.now masks.now cells.now kinds one.new still.new joint.new lists.new result }
+    requires { FillReady plan.now masks.now cells.now one.old still.old joint.old lists.old }
+    ensures { Told plan.now masks.now cells.now kinds one.new still.new joint.new lists.new result }
 {
-    if walks_cheaper(kinds, ports, end_at(ends, 0), cells.len()) {
+    if walks_cheaper(kinds, plan.ports, plan.end_at(0), cells.len()) {
         return Left {
             walked: true,
             hards: 0,
@@ -64,19 +58,14 @@ pub fn fill_tables(
     }
     let mut mine = [0u32; 4096];
     let mut own = [0u32; 64];
-    let sizes = set_sizes(masks, sets);
+    let sizes = set_sizes(masks, plan.sets);
     take_atoms(
-        table,
-        firsts,
-        ends,
-        uses,
+        plan,
         masks,
         &sizes,
         cells,
-        ports,
-        sets,
         1,
-        end_at(ends, 0),
+        plan.end_at(0),
         0,
         (kinds >> 2) % 2 == 1,
         &mut mine,

@@ -12,7 +12,7 @@ use Rattle.logic.specs.Moves.{move_pairs, move_masks}
 use Rattle.logic.specs.Change.{pairs_change, modulus, cell_of}
 use Rattle.move_masks.proofs.Copying.{copied-whole}
 use Rattle.cells_touch.specs.declared.Changed.{Changed}
-use Rattle.cells_touch.specs.inner.Hits.{Describes, Tells, change_in}
+use Rattle.cells_touch.specs.inner.Hits.{Describes, Tells}
 use Rattle.cells_visit.specs.inner.Walking.{WalkReady}
 use Rattle.cells_atoms.specs.inner.Atoms.{over_tuples, difference}
 use Rattle.cells_share.specs.inner.Listed.{Listed, of_listed, ListReady, ListGives}
@@ -53,18 +53,17 @@ module _ {ports sets : ℕ} {bytes firsts ends uses masks cells : List ℕ} {m :
   unfolding HardGives
   no-shares z = λ R d xs stands e. none_of R masks cells m xs (sym z ∙ e)
 
-  module _ (numbers : List ℕ) (c : Changed) (tells : Tells m c) (same : change_in numbers ≡ c) (after : List ℕ) (h : after ≡ move_masks P m (take (own_masks P) masks)) where
+  module _ (c : Changed) (tells : Tells m c) (after : List ℕ) (h : after ≡ move_masks P m (take (own_masks P) masks)) where
     -- the walks are lent the masks after the move, and its change
-    walk-ready : WalkReady ports sets (change_in numbers) after cells (change_by P masks m)
+    walk-ready : WalkReady ports sets c after cells (change_by P masks m)
     unfolding change_by
     walk-ready = record {
-      says = subst (λ (x : Changed). Describes ports (pairs_change (move_pairs P (in_masks masks) m)) x) (sym same)
-          (subst (λ (xs : List ℕ). Describes ports (pairs_change (move_pairs P (in_masks xs) m)) c) all-masks (told move c tells));
+      says = subst (λ (xs : List ℕ). Describes ports (pairs_change (move_pairs P (in_masks xs) m)) c) all-masks (told move c tells);
       masks-settled = (root-ready move c tells after h).masks-settled;
       cells_fit = move.tables-open.cells_fit;
     }
 
-    pub list-ready : ListReady ports sets (change_in numbers) bytes firsts ends uses after cells list count
+    pub list-ready : ListReady ports sets c bytes firsts ends uses after cells list count
     list-ready = record {
       change = change_by P masks m;
       atoms = hard.atoms;
@@ -87,7 +86,7 @@ module _ {ports sets : ℕ} {bytes firsts ends uses masks cells : List ℕ} {m :
         ∙ ap (λ (ys : List ℕ). of_listed (λ n f b d. over_tuples P.ports d (difference P.ports (spelled P ys) (change_by P masks m) (cell_of P.ports cells) n f b d) []) xs % modulus)
         (h ∙ ap (move_masks P m) all-masks)
 
-    pub shares-given : (r : ℕ) → ListGives ports sets (change_in numbers) bytes firsts ends uses after cells list count r
+    pub shares-given : (r : ℕ) → ListGives ports sets c bytes firsts ends uses after cells list count r
         → HardGives ports sets bytes firsts ends uses masks cells m list count r
     unfolding ListGives HardGives
     shares-given r gives = λ R d xs stands e.

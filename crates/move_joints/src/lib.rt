@@ -5,15 +5,17 @@
 ghost use Rattle.std.specs.Prelude.{◌≡◌, true, ◌&&◌, ◌+◌, ◌-◌, ◌*◌, ◌≤◌, ◌<◌, length, get_or};
 ghost use Rattle.cells_touch.specs.inner.Hits.{meets};
 ghost use Rattle.move_shares.specs.inner.Shares.{set_bits};
-ghost use Rattle.move_slots.specs.inner.Slots.{slot_of, JointsReady, TakesJoints};
-ghost use Rattle.move_joints.specs.inner.Joints.{left, entered, pair_sizes, takes_port, joint_number, joint_added, PairOf, PairGives, JointRoom, PairAdded, PairTaken};
+ghost use Rattle.move_slots.specs.inner.Slots.{slot_of};
+ghost use Rattle.move_joints.specs.inner.Joints.{left, entered, pair_sizes, takes_port, joint_number, joint_added, JointRoom};
+ghost use Rattle.move_slots.specs.inner.OverPlan.{JointsReady, TakesJoints};
+ghost use Rattle.move_joints.specs.inner.OverPlan.{PairOf, PairGives, PairAdded, PairTaken};
 
 use cells_row::cells_from;
 use cells_size::mask_at;
 use cells_sum::with_difference;
 use cells_touch::{meet, size_bit, variable_bits};
 use cells_tuples::all_ports;
-use cells_walk::uses_at;
+use cells_walk::Plan;
 use logic::{has_port, wide};
 
 // What becomes of the size of the set that a port leaves, 0 one less or 1 the same, by whether the port is in test.
@@ -117,25 +119,19 @@ fn add_joint(
     requires { (ports ≤ 64) × (ports ≤ length row.now) × (ports ≤ length first.now) × (ports ≤ length second.now) × (at + ports ≤ length joint.old) }
     ensures { joint.new ≡ joint_added row.now first.now second.now rest ports test tested at joint.old }
 {
-    let mut x = 0;
-    while x < ports {
+    for x in 0..ports {
         let takes = takes_port(tested, test, x);
         joint[at + x] = joint_number(takes, joint[at + x], row[x], first[x], rest, second[x]);
-        x += 1;
     }
 }
 
 // The numbers of two sets of which a port leaves the first and enters the second: what the resizing brings, and to `out`, port by
 // port, what the flip of both there adds.
 fn pair_ports(
-    table: &[u8],
-    firsts: &[u32; 512],
-    ends: &[u16; 512],
-    uses: &[u64; 512],
+    plan: &Plan,
     masks: &[u64],
     sizes: &[u32; 16],
     cells: &[u32],
-    ports: usize,
     i: usize,
     depth: usize,
     s: usize,
@@ -143,20 +139,16 @@ fn pair_ports(
     tested: bool,
     out: &mut [u32],
 ) -> u32
-    requires { PairOf ports table.now firsts.now ends.now uses.now masks.now sizes.now cells.now i depth s t × (ports ≤ length out.old) }
-    ensures { PairGives ports table.now firsts.now ends.now uses.now masks.now sizes.now cells.now i depth s t tested out.old out.new result }
+    requires { PairOf plan.now masks.now sizes.now cells.now i depth s t × (plan.now.ports ≤ length out.old) }
+    ensures { PairGives plan.now masks.now sizes.now cells.now i depth s t tested out.old out.new result }
 {
     let before = *sizes;
     let asked = pair_sizes(before, s, t, tested);
     all_ports(
-        table,
-        firsts,
-        ends,
-        uses,
+        plan,
         masks,
         &asked,
         cells,
-        ports,
         i,
         depth,
         variable_bits(s) | variable_bits(t),
@@ -167,14 +159,10 @@ fn pair_ports(
 
 // A pair's numbers go into the table for the ports in test, or for the others.
 fn add_pair(
-    table: &[u8],
-    firsts: &[u32; 512],
-    ends: &[u16; 512],
-    uses: &[u64; 512],
+    plan: &Plan,
     masks: &[u64],
     sizes: &[u32; 16],
     cells: &[u32],
-    ports: usize,
     i: usize,
     depth: usize,
     s: usize,
@@ -185,14 +173,12 @@ fn add_pair(
     own: &[u32],
     joint: &mut [u32],
 )
-    requires { PairOf ports table.now firsts.now ends.now uses.now masks.now sizes.now cells.now i depth s t × JointRoom mine.now own.now joint.old }
-    ensures { PairAdded ports table.now firsts.now ends.now uses.now masks.now sizes.now cells.now i depth s t test tested mine.now own.now joint.old joint.new }
+    requires { PairOf plan.now masks.now sizes.now cells.now i depth s t × JointRoom mine.now own.now joint.old }
+    ensures { PairAdded plan.now masks.now sizes.now cells.now i depth s t test tested mine.now own.now joint.old joint.new }
 {
     let mut row = [0u32; 64];
-    let brings = pair_ports(
-        table, firsts, ends, uses, masks, sizes, cells, ports, i, depth, s, t, tested, &mut row,
-    );
-    let used = uses_at(uses, i);
+    let brings = pair_ports(plan, masks, sizes, cells, i, depth, s, t, tested, &mut row);
+    let used = plan.uses_at(i);
     let first = slot_of(used, s, left_outcome(tested));
     let second = slot_of(used, t, entered_outcome(tested));
     let rest = with_difference(with_difference(brings, 0, own[first]), 0, own[second]);
@@ -201,7 +187,7 @@ fn add_pair(
         cells_from(mine, 64 * first),
         cells_from(mine, 64 * second),
         rest,
-        ports,
+        plan.ports,
         test,
         tested,
         64 * (16 * s + t),
@@ -212,15 +198,10 @@ fn add_pair(
 // One pair of sets, if the atom uses both; else the transfer brings what a drop and an add bring. Where no port is in test, none is
 // to be taken of those in test.
 fn take_pair(
-    table: &[u8],
-    firsts: &[u32; 512],
-    ends: &[u16; 512],
-    uses: &[u64; 512],
+    plan: &Plan,
     masks: &[u64],
     sizes: &[u32; 16],
     cells: &[u32],
-    ports: usize,
-    sets: usize,
     i: usize,
     depth: usize,
     pair: usize,
@@ -228,46 +209,39 @@ fn take_pair(
     own: &[u32],
     joint: &mut [u32],
 )
-    requires { (pair < 16 * sets) × JointsReady ports sets table.now firsts.now ends.now uses.now masks.now sizes.now cells.now i depth mine.now own.now joint.old }
-    ensures { PairTaken ports sets table.now firsts.now ends.now uses.now masks.now sizes.now cells.now i depth pair mine.now own.now joint.old joint.new }
+    requires { (pair < 16 * plan.now.sets) × JointsReady plan.now masks.now sizes.now cells.now i depth mine.now own.now joint.old }
+    ensures { PairTaken plan.now masks.now sizes.now cells.now i depth pair mine.now own.now joint.old joint.new }
 {
     let s = pair / 16;
     let t = pair % 16;
-    if sets <= t {
+    if plan.sets <= t {
         return;
     }
     if s == t {
         return;
     }
-    if !uses_both(uses_at(uses, i), s, t) {
+    if !uses_both(plan.uses_at(i), s, t) {
         return;
     }
-    let test = mask_at(masks, sets);
+    let test = mask_at(masks, plan.sets);
     add_pair(
-        table, firsts, ends, uses, masks, sizes, cells, ports, i, depth, s, t, test, false, mine,
-        own, joint,
+        plan, masks, sizes, cells, i, depth, s, t, test, false, mine, own, joint,
     );
     if test == 0 {
         return;
     }
     add_pair(
-        table, firsts, ends, uses, masks, sizes, cells, ports, i, depth, s, t, test, true, mine,
-        own, joint,
+        plan, masks, sizes, cells, i, depth, s, t, test, true, mine, own, joint,
     );
 }
 
 // An atom without quantifiers goes into the table of transfers, after its own numbers of single sets; where the plan has no
 // transfers, nothing is to be done.
 pub fn take_joints(
-    table: &[u8],
-    firsts: &[u32; 512],
-    ends: &[u16; 512],
-    uses: &[u64; 512],
+    plan: &Plan,
     masks: &[u64],
     sizes: &[u32; 16],
     cells: &[u32],
-    ports: usize,
-    sets: usize,
     i: usize,
     depth: usize,
     transfers: bool,
@@ -275,18 +249,13 @@ pub fn take_joints(
     own: &[u32],
     joint: &mut [u32],
 )
-    requires { JointsReady ports sets table.now firsts.now ends.now uses.now masks.now sizes.now cells.now i depth mine.now own.now joint.old }
-    ensures { transfers ≡ true → TakesJoints ports sets table.now firsts.now ends.now uses.now masks.now sizes.now cells.now i depth mine.now own.now joint.old joint.new }
+    requires { JointsReady plan.now masks.now sizes.now cells.now i depth mine.now own.now joint.old }
+    ensures { transfers ≡ true → TakesJoints plan.now masks.now sizes.now cells.now i depth mine.now own.now joint.old joint.new }
 {
     if !transfers {
         return;
     }
-    let mut pair = 0;
-    while pair < 16 * sets {
-        take_pair(
-            table, firsts, ends, uses, masks, sizes, cells, ports, sets, i, depth, pair, mine, own,
-            joint,
-        );
-        pair += 1;
+    for pair in 0..16 * plan.sets {
+        take_pair(plan, masks, sizes, cells, i, depth, pair, mine, own, joint);
     }
 }

@@ -4,10 +4,11 @@
 ghost use Rattle.std.specs.Prelude.{◌≡◌, not, ◌&&◌, ◌≤◌, ◌<◌, length, take};
 ghost use Rattle.logic.specs.Configuration.{in_masks, mask_count};
 ghost use Rattle.logic.specs.Moves.{fits};
+ghost use Rattle.logic.specs.Refusal.{answer_number};
 ghost use Rattle.logic.specs.inner.MoveFields.{Fields, t_end, q_end};
 ghost use Rattle.move_legal.specs.inner.Legal.{MoveNumber, MoveReady, Decides, SaysKnown, KnownOver};
 
-use logic::{Move, has_port, wide};
+use logic::{Move, Refusal, has_port, wide};
 
 // A number of ports or sets at the width of a move's fields.
 pub fn narrow(x: usize) -> u32
@@ -21,20 +22,14 @@ pub fn narrow(x: usize) -> u32
 pub fn t_end(kind: u32, sets: u32) -> u32
     ensures { result ≡ t_end kind sets }
 {
-    if kind == 3 {
-        return sets;
-    }
-    1
+    if kind == 3 { sets } else { 1 }
 }
 
 // As for T: only a swap has a second port.
 pub fn q_end(kind: u32, ports: u32) -> u32
     ensures { result ≡ q_end kind ports }
 {
-    if kind == 4 {
-        return ports;
-    }
-    1
+    if kind == 4 { ports } else { 1 }
 }
 
 // Whether each field of a move is one that its kind can have.
@@ -78,10 +73,7 @@ pub fn is_in(masks: &[u64], s: u32, p: u32) -> bool
 fn in_and_out(here: bool, there: bool) -> bool
     ensures { result ≡ (here && not there) }
 {
-    if here {
-        return !there;
-    }
-    false
+    here && !there
 }
 
 // Whether ground 15 does not apply to a move that 14 does not apply to.
@@ -105,18 +97,18 @@ pub fn fits_move(m: Move, ports: u32, sets: u32, masks: &[u64]) -> bool
     in_and_out(inside, is_in(masks, m.s, m.q))
 }
 
-// 14 or 15 if the ground applies to a move, else 0.
-pub fn move_number(m: Move, ports: usize, sets: usize, masks: &[u64]) -> u8
+// Tries 14 and 15 of a move.
+pub fn legal(m: Move, ports: usize, sets: usize, masks: &[u64]) -> Result<(), Refusal>
     requires { MoveReady ports sets masks.now }
-    ensures { MoveNumber ports sets m masks.now result }
+    ensures { MoveNumber ports sets m masks.now (answer_number result) }
 {
     let u = narrow(ports);
     let n = narrow(sets);
     if !known_move(m, u, n) {
-        return 14;
+        Err(Refusal::Unknown)
+    } else if !fits_move(m, u, n, masks) {
+        Err(Refusal::MoveNotLegal)
+    } else {
+        Ok(())
     }
-    if !fits_move(m, u, n, masks) {
-        return 15;
-    }
-    0
 }

@@ -15,13 +15,15 @@ fn record_of(m: Move) -> [u32; 5]
 }
 
 // Writes the record of a move at its place if the move leaves the least root, and gives the place of the next record.
+#[tactic(auto, unfolding(crate::specs::inner::Records::RoomFor))]
 pub fn put_best(m: Move, value: u32, least: u32, at: usize, list: &mut [[u32; 5]]) -> usize
     requires { RoomFor value least at list.old }
     ensures { Put m value least at list.old list.new result }
 {
     if value == least {
         list[at] = record_of(m);
-        return at + 1;
+        at + 1
+    } else {
+        at
     }
-    at
 }

@@ -6,18 +6,14 @@ ghost use Rattle.logic.specs.inner.Flip.{flip_port};
 ghost use Rattle.logic.specs.Moves.{named_masks};
 ghost use Rattle.move_legal.specs.inner.Legal.{LegalOver};
 
-use logic::{Move, flip_port, wide};
+use logic::{Move, flip_port};
 
 // The first `count` masks, copied.
 pub fn copy_masks(masks: &[u64], count: usize, out: &mut [u64])
     requires { (count ≤ length masks.now) × (count ≤ length out.old) }
     ensures { out.new ≡ take count masks.now ++ drop count out.old }
 {
-    let mut s = 0;
-    while s < count {
-        out[s] = masks[s];
-        s += 1;
-    }
+    out[..count].copy_from_slice(&masks[..count]);
 }
 
 // Port p enters set s if it was out, and leaves it if it was in.
@@ -25,7 +21,7 @@ pub fn flip_at(masks: &mut [u64], s: u32, p: u32)
     requires { (s < length masks.old) × (p < 64) }
     ensures { masks.new ≡ set masks.old s (flip_port (get_or masks.old s 0) p) }
 {
-    let at = wide(s);
+    let at = s as usize;
     masks[at] = flip_port(masks[at], p);
 }
 
@@ -35,11 +31,9 @@ pub fn masks_after(m: Move, ports: u32, sets: u32, masks: &mut [u64])
     ensures { masks.new ≡ named_masks m masks.old }
 {
     flip_at(masks, m.s, m.p);
-    if m.kind == 3 {
-        flip_at(masks, m.t, m.p);
-        return;
-    }
-    if m.kind == 4 {
-        flip_at(masks, m.s, m.q);
+    match m.kind {
+        3 => flip_at(masks, m.t, m.p),
+        4 => flip_at(masks, m.s, m.q),
+        _ => {}
     }
 }

@@ -8,6 +8,7 @@ use Prim.Native.Nat.{ℕ, zero, suc, ◌+◌, ◌*◌, ◌≤◌, ◌<◌}
 use native.Mathlib.Omega.{arith}
 use native.Mathlib.Decide.{dec_lt}
 use lib.Dec.{eqb}
+use Rattle.std.specs.Prelude.{Option, Some, None}
 use Rattle.logic.specs.declared.Move.{Move}
 use Rattle.logic.specs.Formula.{Plan}
 use Rattle.logic.specs.Configuration.{Sets, in_masks}
@@ -210,14 +211,14 @@ module _ (P : Plan) (Z : Sized P.ports P.sets) where
   walked-candidates kinds own ms w = walked_same kinds own outset ms (candidates P kinds (in_masks own)) w (candidates-walked kinds own)
 
   -- a step from m goes to the first of what is left
-  pub stands-next : (kinds : ℕ) (own : List ℕ) (m x : Move) (ms : List Move) (f : Bool) → Walked P kinds own m ms → NextOr f P kinds own m x → Stands f P kinds own x ms
+  pub stands-next : (kinds : ℕ) (own : List ℕ) (m : Move) (r : Option Move) (ms : List Move) → Walked P kinds own m ms → NextOr P kinds own m r → Stands P kinds own r ms
   unfolding Walked NextOr Stands
-  stands-next kinds own m x [] true v F = let a = v.all-passed x F.candidate in let b = F.later in absurd (omega (arith, a, b))
-  stands-next kinds own m x [] false v N = refl
-  stands-next kinds own m x (n ∷ ms) true v F =
+  stands-next kinds own m (Some x) [] v F = let a = v.all-passed x F.candidate in let b = F.later in absurd (omega (arith, a, b))
+  stands-next kinds own m None [] v N = refl
+  stands-next kinds own m (Some x) (n ∷ ms) v F =
       let e = follows_same kinds own m x n F v.0 in
       (e, subst (λ (y : Move). Walked P kinds own y ms) (sym e) v.1)
-  stands-next kinds own m x (n ∷ ms) false v N =
+  stands-next kinds own m None (n ∷ ms) v N =
       let a = N.all-passed n v.0.candidate in let b = v.0.later in absurd (omega (arith, a, b))
 
   -- how far the candidates go

@@ -8,6 +8,7 @@ use native.Mathlib.Decide.{dec_lt, ℕ_discrete}
 use lib.Dec.{eqb}
 use lib.ListN.{take}
 use borrow.Author.Tests.{eqb-true}
+use Rattle.std.specs.Prelude.{Some, None}
 use Rattle.logic.specs.declared.Move.{Move}
 use Rattle.logic.specs.Configuration.{in_masks, mask_count}
 use Rattle.logic.specs.Moves.{of_kinds, move_kind, kind_weight}
@@ -220,7 +221,7 @@ passed-one ports sets kinds masks at₀ at r D n T = record {
 
 -- the walk ends at a candidate
 pub gives_found : (ports sets kinds : ℕ) (masks : List ℕ) (m at₀ at : Move) → StepsOn ports sets kinds masks m at₀ → Passed ports sets kinds masks at₀ at
-    → Suits ports sets kinds masks at → GivesNext ports sets kinds masks m (record { found = true; m = at })
+    → Suits ports sets kinds masks at → GivesNext ports sets kinds masks m (Some at)
 unfolding GivesNext NextOr
 gives_found ports sets kinds masks m at₀ at T D S = λ P e f. record {
   candidate = suits-candidate P ports sets kinds masks at e f S;
@@ -232,7 +233,7 @@ gives_found ports sets kinds masks m at₀ at T D S = λ P e f. record {
 
 -- or past the last kind
 pub gives_none : (ports sets kinds : ℕ) (masks : List ℕ) (m at₀ at : Move) → StepsOn ports sets kinds masks m at₀ → Passed ports sets kinds masks at₀ at
-    → 5 ≤ at.kind → GivesNext ports sets kinds masks m (record { found = false; m = at })
+    → 5 ≤ at.kind → GivesNext ports sets kinds masks m None
 unfolding GivesNext NextOr place
 gives_none ports sets kinds masks m at₀ at T D h = λ P e f. record {
   all-passed = λ n C. go n (candidate-suits P ports sets kinds masks n e f C) (dec_lt (place m) (place n));

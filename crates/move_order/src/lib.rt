@@ -11,27 +11,19 @@ ghost use Rattle.move_legal.specs.inner.Legal.{Decides};
 use logic::Move;
 use move_legal::{fits_move, has_fields, is_in, q_end, t_end};
 
-// The next candidate, if there is one.
-#[derive(Clone, Copy)]
-pub struct Next {
-    pub found: bool,
-    pub m: Move,
-}
-
 // Whether 14 does not apply to a kinds sum.
+#[tactic(auto, unfolding(logic::specs::Moves::kinds_known))]
 pub fn kinds_known(kinds: u32) -> bool
     ensures { result ≡ kinds_known kinds }
 {
-    if 1 <= kinds {
-        return kinds <= 15;
-    }
-    false
+    (1..=15).contains(&kinds)
 }
 
 // Whether a kind is one of those in the sum.
 fn of_kinds(kinds: u32, kind: u32) -> bool
     ensures { result ≡ eqb (kinds / kind_weight (move_kind kind) % 2) 1 }
 {
+    // Not one shift by `kind - 1`: 0 and what is past 4 ask for the fifth bit, so a match would stay.
     match kind {
         1 => kinds % 2 == 1,
         2 => (kinds >> 1) % 2 == 1,
@@ -45,28 +37,20 @@ fn of_kinds(kinds: u32, kind: u32) -> bool
 fn at_fields(kind: u32, s: u32, t: u32, p: u32, q: u32) -> Move
     ensures { result ≡ fields_are kind s t p q }
 {
-    Move {
-        kind: kind,
-        s: s,
-        t: t,
-        p: p,
-        q: q,
-    }
+    Move { kind, s, t, p, q }
 }
 
 // Where q ends at the position m: a swap with p not in S fits with no q, so all q are passed over at once.
+#[tactic(auto, unfolding(crate::specs::inner::Stepping::q_end_at))]
 fn q_end_at(m: Move, ports: u32, masks: &[u64]) -> u32
     requires { (m.s < length masks.now) × (m.p < 64) }
     ensures { result ≡ q_end_at ports masks.now m }
 {
-    let end = q_end(m.kind, ports);
-    if m.kind != 4 {
-        return end;
+    if m.kind == 4 && !is_in(masks, m.s, m.p) {
+        0
+    } else {
+        q_end(m.kind, ports)
     }
-    if is_in(masks, m.s, m.p) {
-        return end;
-    }
-    0
 }
 
 // The next position after m that can fit: q counts up first, then p, T, S and the kind.
@@ -75,18 +59,16 @@ fn next_place(m: Move, ports: u32, sets: u32, masks: &[u64]) -> Move
     ensures { StepsAny ports sets masks.now m result }
 {
     if m.q + 1 < q_end_at(m, ports, masks) {
-        return at_fields(m.kind, m.s, m.t, m.p, m.q + 1);
+        at_fields(m.kind, m.s, m.t, m.p, m.q + 1)
+    } else if m.p + 1 < ports {
+        at_fields(m.kind, m.s, m.t, m.p + 1, 0)
+    } else if m.t + 1 < t_end(m.kind, sets) {
+        at_fields(m.kind, m.s, m.t + 1, 0, 0)
+    } else if m.s + 1 < sets {
+        at_fields(m.kind, m.s + 1, 0, 0, 0)
+    } else {
+        at_fields(m.kind + 1, 0, 0, 0, 0)
     }
-    if m.p + 1 < ports {
-        return at_fields(m.kind, m.s, m.t, m.p + 1, 0);
-    }
-    if m.t + 1 < t_end(m.kind, sets) {
-        return at_fields(m.kind, m.s, m.t + 1, 0, 0);
-    }
-    if m.s + 1 < sets {
-        return at_fields(m.kind, m.s + 1, 0, 0, 0);
-    }
-    at_fields(m.kind + 1, 0, 0, 0, 0)
 }
 
 // The next position that can be a candidate: a kind that is not asked for is passed over at once.
@@ -95,9 +77,10 @@ fn advance(m: Move, kinds: u32, ports: u32, sets: u32, masks: &[u64]) -> Move
     ensures { StepsOn ports sets kinds masks.now m result }
 {
     if of_kinds(kinds, m.kind) {
-        return next_place(m, ports, sets, masks);
+        next_place(m, ports, sets, masks)
+    } else {
+        at_fields(m.kind + 1, 0, 0, 0, 0)
     }
-    at_fields(m.kind + 1, 0, 0, 0, 0)
 }
 
 // Whether a move is legal and of the kinds.
@@ -105,35 +88,26 @@ fn is_candidate(m: Move, kinds: u32, ports: u32, sets: u32, masks: &[u64]) -> bo
     requires { BeginsOver ports sets m masks.now }
     ensures { Decides result (Suits ports sets kinds masks.now m) }
 {
-    if !of_kinds(kinds, m.kind) {
-        return false;
-    }
-    if !has_fields(m, ports, sets) {
-        return false;
-    }
-    fits_move(m, ports, sets, masks)
+    of_kinds(kinds, m.kind) && has_fields(m, ports, sets) && fits_move(m, ports, sets, masks)
 }
 
-// The first candidate after m in the order kind, S, T, p, q.
-pub fn next_candidate(m: Move, kinds: u32, ports: u32, sets: u32, masks: &[u64]) -> Next
+// The first candidate after m in the order kind, S, T, p, q, if there is one.
+pub fn next_candidate(m: Move, kinds: u32, ports: u32, sets: u32, masks: &[u64]) -> Option<Move>
     requires { BeginsOver ports sets m masks.now }
     ensures { GivesNext ports sets kinds masks.now m result }
 {
     let mut at = advance(m, kinds, ports, sets, masks);
     while at.kind < 5 {
         if is_candidate(at, kinds, ports, sets, masks) {
-            return Next { found: true, m: at };
+            return Some(at);
         }
         at = advance(at, kinds, ports, sets, masks);
     }
-    Next {
-        found: false,
-        m: at,
-    }
+    None
 }
 
 // The first candidate of all.
-pub fn first_candidate(kinds: u32, ports: u32, sets: u32, masks: &[u64]) -> Next
+pub fn first_candidate(kinds: u32, ports: u32, sets: u32, masks: &[u64]) -> Option<Move>
     requires { SizedOver ports sets masks.now }
     ensures { GivesNext ports sets kinds masks.now outset result }
 {

@@ -27,34 +27,26 @@ pub fn none_yet() -> Choice
 }
 
 // The best so far and a candidate: it is the best alone, or one more of the best, or none of them.
+#[tactic(auto, unfolding(crate::specs::inner::Ranking::ranked_by, crate::specs::inner::Ranking::choice_of))]
 pub fn ranked(best: Choice, m: Move, value: u32) -> Choice
     requires { best.count < 4294967295 }
     ensures { result ≡ ranked_by best m value }
 {
-    if best.count == 0 {
-        return alone(m, value);
-    }
-    if value < best.value {
-        return alone(m, value);
-    }
-    if value == best.value {
-        let first = best.m;
-        return Choice {
+    if best.count == 0 || value < best.value {
+        alone(m, value)
+    } else if value == best.value {
+        Choice {
             count: best.count + 1,
-            m: first,
-            value: value,
-        };
+            ..best
+        }
+    } else {
+        best
     }
-    best
 }
 
 // One candidate, the best of those before it.
 fn alone(m: Move, value: u32) -> Choice
     ensures { result ≡ choice_of 1 m value }
 {
-    Choice {
-        count: 1,
-        m: m,
-        value: value,
-    }
+    Choice { count: 1, m, value }
 }

@@ -1,3 +1,4 @@
 -- What only proofs and inner contracts use.
 pub mod Reading
 pub mod Telling
+pub mod OverPlan

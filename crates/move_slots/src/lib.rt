@@ -2,14 +2,14 @@
 #![tactic(auto)]
 
 ghost use Rattle.std.specs.Prelude.{◌≡◌, ◌+◌, ◌/◌, ◌<◌, ◌≤◌, length, slice_index};
-ghost use Rattle.move_slots.specs.inner.Slots.{AtomReady, SlotRoom, TakesSlots};
-ghost use Rattle.move_slots.specs.inner.Taking.{takes_slot, asked_size, asked_sizes, added_at, SlotReady, SlotGives, SlotPut, SlotTaking, SlotStep};
+ghost use Rattle.move_slots.specs.inner.Slots.{SlotRoom};
+ghost use Rattle.move_slots.specs.inner.Taking.{takes_slot, asked_size, asked_sizes, added_at, SlotPut};
+ghost use Rattle.move_slots.specs.inner.OverPlan.{AtomReady, TakesSlots, SlotReady, SlotGives, SlotTaking, SlotStep};
 
 use cells_row::put_row;
 use cells_touch::{meet, size_bit, variable_bits};
 use cells_tuples::all_ports;
-use cells_walk::uses_at;
-use std::num::wrapping_add_u32;
+use cells_walk::Plan;
 
 // Whether a slot takes an atom that uses sets so: the first three of a set those that ask its size, the last the others that use it.
 fn takes_slot(used: u64, slot: usize) -> bool
@@ -57,34 +57,26 @@ fn asked_sizes(sizes: [u32; 16], slot: usize) -> [u32; 16]
 
 // A slot's numbers: what the resizing brings, and to `out`, port by port, what the flip of the set there adds.
 fn slot_ports(
-    table: &[u8],
-    firsts: &[u32; 512],
-    ends: &[u16; 512],
-    uses: &[u64; 512],
+    plan: &Plan,
     masks: &[u64],
     sizes: &[u32; 16],
     cells: &[u32],
-    ports: usize,
     i: usize,
     depth: usize,
     slot: usize,
     out: &mut [u32],
 ) -> u32
-    requires { SlotReady ports table.now firsts.now ends.now uses.now masks.now sizes.now cells.now i depth slot out.old }
-    ensures { SlotGives ports table.now firsts.now ends.now uses.now masks.now sizes.now cells.now i depth slot out.old out.new result }
+    requires { SlotReady plan.now masks.now sizes.now cells.now i depth slot out.old }
+    ensures { SlotGives plan.now masks.now sizes.now cells.now i depth slot out.old out.new result }
 {
     let s = slot / 4;
     let before = *sizes;
     let asked = asked_sizes(before, slot);
     all_ports(
-        table,
-        firsts,
-        ends,
-        uses,
+        plan,
         masks,
         &asked,
         cells,
-        ports,
         i,
         depth,
         variable_bits(s),
@@ -98,10 +90,8 @@ fn add_at(row: &[u32], ports: usize, at: usize, table: &mut [u32])
     requires { (ports ≤ length row.now) × (at + ports ≤ length table.old) }
     ensures { table.new ≡ added_at row.now ports at table.old }
 {
-    let mut x = 0;
-    while x < ports {
-        table[at + x] = wrapping_add_u32(table[at + x], row[x]);
-        x += 1;
+    for x in 0..ports {
+        table[at + x] = table[at + x].wrapping_add(row[x]);
     }
 }
 
@@ -122,19 +112,15 @@ fn put_slot(
     put_row(row, ports, 64 * slot, mine);
     own[slot] = brings;
     add_at(row, ports, 64 * slot, one);
-    still[slot] = wrapping_add_u32(still[slot], brings);
+    still[slot] = still[slot].wrapping_add(brings);
 }
 
 // One slot of the tables, if it takes the atom.
 fn take_slot(
-    table: &[u8],
-    firsts: &[u32; 512],
-    ends: &[u16; 512],
-    uses: &[u64; 512],
+    plan: &Plan,
     masks: &[u64],
     sizes: &[u32; 16],
     cells: &[u32],
-    ports: usize,
     i: usize,
     depth: usize,
     slot: usize,
@@ -143,30 +129,23 @@ fn take_slot(
     one: &mut [u32],
     still: &mut [u32],
 )
-    requires { SlotTaking ports table.now firsts.now ends.now uses.now masks.now sizes.now cells.now i depth slot mine.old own.old one.old still.old }
-    ensures { SlotStep ports table.now firsts.now ends.now uses.now masks.now sizes.now cells.now i depth slot mine.old own.old one.old still.old mine.new own.new one.new still.new }
+    requires { SlotTaking plan.now masks.now sizes.now cells.now i depth slot mine.old own.old one.old still.old }
+    ensures { SlotStep plan.now masks.now sizes.now cells.now i depth slot mine.old own.old one.old still.old mine.new own.new one.new still.new }
 {
-    if !takes_slot(uses_at(uses, i), slot) {
+    if !takes_slot(plan.uses_at(i), slot) {
         return;
     }
     let mut row = [0u32; 64];
-    let brings = slot_ports(
-        table, firsts, ends, uses, masks, sizes, cells, ports, i, depth, slot, &mut row,
-    );
-    put_slot(&row, ports, slot, brings, mine, own, one, still);
+    let brings = slot_ports(plan, masks, sizes, cells, i, depth, slot, &mut row);
+    put_slot(&row, plan.ports, slot, brings, mine, own, one, still);
 }
 
 // An atom without quantifiers goes into the tables of single sets: its own numbers, and the sums of all atoms so far.
 pub fn take_slots(
-    table: &[u8],
-    firsts: &[u32; 512],
-    ends: &[u16; 512],
-    uses: &[u64; 512],
+    plan: &Plan,
     masks: &[u64],
     sizes: &[u32; 16],
     cells: &[u32],
-    ports: usize,
-    sets: usize,
     i: usize,
     depth: usize,
     mine: &mut [u32],
@@ -174,15 +153,12 @@ pub fn take_slots(
     one: &mut [u32],
     still: &mut [u32],
 )
-    requires { AtomReady ports sets table.now firsts.now ends.now uses.now masks.now sizes.now cells.now i depth × SlotRoom mine.old own.old one.old still.old }
-    ensures { TakesSlots ports sets table.now firsts.now ends.now uses.now masks.now sizes.now cells.now i depth one.old still.old one.new still.new mine.new own.new }
+    requires { AtomReady plan.now masks.now sizes.now cells.now i depth × SlotRoom mine.old own.old one.old still.old }
+    ensures { TakesSlots plan.now masks.now sizes.now cells.now i depth one.old still.old one.new still.new mine.new own.new }
 {
-    let mut slot = 0;
-    while slot < 4 * sets {
+    for slot in 0..4 * plan.sets {
         take_slot(
-            table, firsts, ends, uses, masks, sizes, cells, ports, i, depth, slot, mine, own, one,
-            still,
+            plan, masks, sizes, cells, i, depth, slot, mine, own, one, still,
         );
-        slot += 1;
     }
 }

@@ -3,9 +3,10 @@
 
 ghost use Rattle.std.specs.Prelude.{◌≡◌, true, ◌+◌, ◌*◌, ◌≤◌, ◌<◌, length};
 ghost use Rattle.table_format.specs.Bytes.{record_length, records_of};
-ghost use Rattle.move_tables.specs.inner.Taking.{NoneBinds, Crossed, TakeReady, TakesTree};
+ghost use Rattle.move_tables.specs.inner.Taking.{NoneBinds, Crossed};
+ghost use Rattle.move_tables.specs.inner.OverPlan.{TakeReady, TakesTree};
 
-use cells_walk::{end_at, is_quantifier, kind_at, uses_at};
+use cells_walk::{Plan, is_quantifier};
 use move_joints::take_joints;
 use move_slots::take_slots;
 
@@ -18,17 +19,26 @@ pub struct Left {
     pub crossed: usize,
 }
 
+// The tables of what flips bring once they are filled, the two lists of atoms beside them, and what they do not tell: every choice of a
+// move reads them together.
+#[derive(Clone, Copy)]
+pub struct FlipTables<'a> {
+    pub one: &'a [u32],
+    pub still: &'a [u32],
+    pub joint: &'a [u32],
+    pub lists: &'a [u16],
+    pub left: Left,
+}
+
 // Whether no node from i up to `until` binds a variable.
-fn is_flat(table: &[u8], i: usize, until: usize) -> bool
-    requires { (until ≤ 512) × (record_length * until ≤ length (records_of table.now)) }
-    ensures { result ≡ true → NoneBinds table.now i until }
+fn is_flat(plan: &Plan, i: usize, until: usize) -> bool
+    requires { (until ≤ 512) × (record_length * until ≤ length (records_of plan.now.table.now)) }
+    ensures { result ≡ true → NoneBinds plan.now.table.now i until }
 {
-    let mut j = i;
-    while j < until {
-        if is_quantifier(kind_at(table, j)) {
+    for j in i..until {
+        if is_quantifier(plan.kind_at(j)) {
             return false;
         }
-        j += 1;
     }
     true
 }
@@ -53,15 +63,10 @@ fn listed_as(i: usize, depth: usize) -> u16
 // One atom: its flips go into the tables; one with quantifiers is listed instead, and one that tests some set by two variables beside, for
 // swaps. Transfers are worked only where they are asked for.
 pub fn take_atom(
-    table: &[u8],
-    firsts: &[u32; 512],
-    ends: &[u16; 512],
-    uses: &[u64; 512],
+    plan: &Plan,
     masks: &[u64],
     sizes: &[u32; 16],
     cells: &[u32],
-    ports: usize,
-    sets: usize,
     i: usize,
     depth: usize,
     transfers: bool,
@@ -73,10 +78,10 @@ pub fn take_atom(
     lists: &mut [u16],
     left: Left,
 ) -> Left
-    requires { TakeReady ports sets table.now firsts.now ends.now uses.now masks.now sizes.now cells.now i depth true mine.old own.old one.old still.old joint.old lists.old left }
-    ensures { TakesTree ports sets table.now firsts.now ends.now uses.now masks.now sizes.now cells.now i depth transfers one.old still.old joint.old lists.old left one.new still.new joint.new lists.new result }
+    requires { TakeReady plan.now masks.now sizes.now cells.now i depth true mine.old own.old one.old still.old joint.old lists.old left }
+    ensures { TakesTree plan.now masks.now sizes.now cells.now i depth transfers one.old still.old joint.old lists.old left one.new still.new joint.new lists.new result }
 {
-    if !is_flat(table, i, end_at(ends, i)) {
+    if !is_flat(plan, i, plan.end_at(i)) {
         let count = left.hards;
         lists[count] = listed_as(i, depth);
         return Left {
@@ -85,20 +90,12 @@ pub fn take_atom(
             crossed: left.crossed,
         };
     }
-    take_slots(
-        table, firsts, ends, uses, masks, sizes, cells, ports, sets, i, depth, mine, own, one,
-        still,
-    );
+    take_slots(plan, masks, sizes, cells, i, depth, mine, own, one, still);
     take_joints(
-        table,
-        firsts,
-        ends,
-        uses,
+        plan,
         masks,
         sizes,
         cells,
-        ports,
-        sets,
         i,
         depth,
         transfers,
@@ -106,7 +103,7 @@ pub fn take_atom(
         &own[..],
         joint,
     );
-    if crossings(uses_at(uses, i)) == 0 {
+    if crossings(plan.uses_at(i)) == 0 {
         return left;
     }
     let count = left.crossed;

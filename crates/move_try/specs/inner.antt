@@ -1,2 +1,3 @@
 -- What only proofs and inner contracts use.
 pub mod Trying
+pub mod OverPlan

@@ -2,44 +2,40 @@
 // refusal. Paper 01, section Known plans.
 #![tactic(auto)]
 
+ghost use Rattle.std.specs.Prelude.{IfOk};
 ghost use Rattle.planroot_input.specs.inner.Scans.{InputRoom};
 ghost use Rattle.planroot_line.specs.inner.Contract.{SomeInput};
 ghost use Rattle.planroot.specs.inner.Known.{KnownInput};
 
-use planroot_input::{Scan, decided, start, step};
+use planroot_input::Scan;
 use planroot_line::answer;
 use std::io;
 use std::io::Read;
 
-// Standard input as far as it is passed: to its end, or as far as bytes can change the line; or a read failed.
-#[derive(Clone, Copy)]
-enum Input {
-    Whole(Scan),
-    Enough(Scan),
-    Failed,
+// A read failed.
+fn failed() -> io::Error {
+    io::Error::other("planroot: standard input")
 }
 
-// Passes a reader's bytes. Nothing says that they end, so the turns are counted: 2^64 - 1 of them suffice.
-fn pass_input<R: Read>(reader: &mut R, masks: &mut [u64], text: &mut [u8]) -> Input
+// Passes a reader's bytes, to their end or as far as they can change the line. Nothing says that they end, so the turns are counted:
+// 2^64 - 1 of them suffice.
+fn pass_input<R: Read>(reader: &mut R, masks: &mut [u64], text: &mut [u8]) -> io::Result<Scan>
     requires { InputRoom masks.old text.old }
-    ensures { KnownInput result masks.new text.new }
+    ensures { IfOk result (λ s. KnownInput s masks.new text.new) }
 {
-    let mut s = start();
+    let mut s = Scan::start();
     let mut piece = [0u8; 4096];
     for _turn in 0..u64::MAX {
-        let n = match reader.read(&mut piece) {
-            Ok(n) => n,
-            Err(_) => return Input::Failed,
-        };
+        let n = reader.read(&mut piece).map_err(|_| failed())?;
         if n == 0 {
-            return Input::Whole(s);
+            return Ok(s);
         }
-        s = step(s, &piece[..n], masks, text);
-        if decided(s) {
-            return Input::Enough(s);
+        s = s.step(&piece[..n], masks, text);
+        if s.decided() {
+            return Ok(s);
         }
     }
-    Input::Failed
+    Err(failed())
 }
 
 // Prints the line for the input that is passed, by one write if the system takes it whole.
@@ -56,10 +52,6 @@ fn say(rt: &impl Print, s: Scan, masks: &mut [u64], text: &[u8]) -> io::Result<(
 fn main(rt: HostRuntime) -> io::Result<()> {
     let mut masks = [0u64; 16];
     let mut text = [0u8; 4097];
-    let input = pass_input(&mut rt.stdin(), &mut masks, &mut text);
-    match input {
-        Input::Whole(s) => say(&rt, s, &mut masks, &text),
-        Input::Enough(s) => say(&rt, s, &mut masks, &text),
-        Input::Failed => Err(io::Error::other("planroot: standard input")),
-    }
+    let s = pass_input(&mut rt.stdin(), &mut masks, &mut text)?;
+    say(&rt, s, &mut masks, &text)
 }

@@ -6,9 +6,11 @@ use Prim.Native.Nat.{ℕ, ◌≤◌, min}
 use native.Mathlib.Omega.{arith}
 use lib.ListN.{length, take}
 use Rattle.logic.proofs.Lists.{and_left, and_right}
+use Rattle.planroot_input.specs.declared.Phase.TheVariants as phase
 use Rattle.planroot_input.specs.declared.Scan.{Scan}
 use Rattle.planroot_input.specs.Lines.{line, behind, ends, words, value, is_run, all_runs, values, sound, ports, masks, text}
-use Rattle.planroot_input.specs.inner.Scans.{Gathered, in-line-1, in-line-2, in-text, EndsWord, Closed, Closes}
+use Rattle.planroot_input.specs.inner.Scans.{Gathered, Line1, Line2, InText, EndsWord, Closed, Closes}
+use Rattle.planroot_input.proofs.Phases.{of-line-1, of-line-2, of-text}
 use Rattle.planroot_input.proofs.Gathering.{and_assoc, runs-snoc, length-values}
 use Rattle.planroot_input.proofs.Splitting.{line-is, behind-is, ends_is, line-all, behind-none}
 
@@ -42,20 +44,20 @@ module _ (input first second rest : List ℕ) (P : Parts input first second rest
   }
 
 module _ (s : Scan) (ms : List ℕ) where
-  pub closes-unended : (r : Scan) → s.phase ≡ 0 → (r.ok ≡ false) × (r.length ≡ 0) → Closes s ms r ms
+  pub closes-unended : (r : Scan) → s.phase ≡ phase.FirstLine → r.ok ≡ false → r.length ≡ 0 → Closes s ms r ms
   unfolding Closes sound
-  closes-unended r e z input tx (in-line-1 p L) = record {
-    ok-is = z.0 ∙ sym (rw L.unended);
-    short = omega (arith, z.1);
-    lines = λ h. absurd (false≢true (sym (rw L.unended) ∙ h));
-  }
-  closes-unended r e z input tx (in-line-2 p L) = absurd (omega arith)
-  closes-unended r e z input tx (in-text p L) = absurd (omega arith)
+  closes-unended r p o l input tx S =
+      let L : Line1 input s = of-line-1 _ _ _ _ p S in
+      record {
+        ok-is = o ∙ sym (rw L.unended);
+        short = omega (arith, l);
+        lines = λ h. absurd (false≢true (sym (rw L.unended) ∙ h));
+      }
 
-  pub closes-second : (r : Scan) (ms' : List ℕ) → s.phase ≡ 1 → EndsWord s ms r ms' → Closes s ms r ms'
+  pub closes-second : (r : Scan) (ms' : List ℕ) → s.phase ≡ phase.SecondLine → EndsWord s ms r ms' → Closes s ms r ms'
   unfolding Closes EndsWord
-  closes-second r ms' e E input tx (in-line-1 p L) = absurd (omega arith)
-  closes-second r ms' e E input tx (in-line-2 p L) =
+  closes-second r ms' p E input tx S =
+      let L : Line2 input s ms = of-line-2 _ _ _ _ p S in
       let D = E L.done L.last L.word L.masks-are in
       let none : r.length ≡ 0 = D.length-is ∙ L.fresh in
       closed_parts input L.first L.rest []
@@ -69,13 +71,11 @@ module _ (s : Scan) (ms : List ℕ) where
       (D.ok-is ∙ ap (λ (x : Bool). x && is_run L.last) L.ok-is ∙ and_assoc (is_run L.first) (all_runs L.done) (is_run L.last)
       ∙ ap (λ (x : Bool). is_run L.first && x) (sym (runs-snoc L.done L.last) ∙ ap all_runs (sym L.words_are)))
       none (λ h. D.ports-are ∙ L.ports-are h) (rw L.words_are D.masks-are) (rw none)
-  closes-second r ms' e E input tx (in-text p L) = absurd (omega arith)
 
-  pub closes-text : (s.phase ≡ 0 → ⊥) → (s.phase ≡ 1 → ⊥) → Closes s ms s ms
+  pub closes-text : s.phase ≡ phase.Text → Closes s ms s ms
   unfolding Closes
-  closes-text f g input tx (in-line-1 p L) = absurd (f p)
-  closes-text f g input tx (in-line-2 p L) = absurd (g p)
-  closes-text f g input tx (in-text p T) =
+  closes-text p input tx S =
+      let T : InText input s ms tx = of-text _ _ _ _ p S in
       let y : List ℕ = T.second ++ (10 ∷ T.rest) in
       let up : behind input ≡ y = ap behind T.is ∙ behind-is y T.first T.first-open in
       let low : s.length ≤ 4097 = omega (arith, T.length-is) in

@@ -1,6 +1,6 @@
 -- The masks of line 2, one by one. Assumes nothing.
 use mathlib.Core.Path.{◌≡◌, refl, sym, ap, ◌∙◌}
-use mathlib.Core.Bool.{Bool, true, false, ◌&&◌}
+use mathlib.Core.Bool.{Bool, true, false, ◌&&◌, false≢true}
 use mathlib.Core.List.{List, [], ◌∷◌, ◌++◌}
 use Prim.Native.Nat.{ℕ, suc, ◌+◌, ◌≤◌, ◌<◌, min}
 use native.Mathlib.Decide.{dec_lt}
@@ -9,17 +9,27 @@ use lib.Dec.{ltb}
 use lib.ListN.{length, take, set, length-append}
 use lib.Seq.{take-suc-set, take_all, take-append-le}
 use borrow.Author.Tests.{lt-ltb, le-ltb}
+use Rattle.std.specs.Prelude.{Option, Some, None, is_some, SomeIff}
+use Rattle.std.specs.Option.{unwrap_or}
+use Rattle.std.proofs.lemmas.Bool.{false_from_ne_true}
 use Rattle.logic.proofs.Lists.{and_left, and_right}
 use Rattle.text_tokens.specs.Tokens.{pick}
 use Rattle.planroot_input.specs.declared.Word.{Word}
+use Rattle.planroot_input.specs.declared.Word.TheVariants as word
+use Rattle.planroot_input.specs.declared.Phase.TheVariants as phase
 use Rattle.planroot_input.specs.declared.Scan.{Scan}
 use Rattle.planroot_input.specs.Lines.{ends, value, is_run, all_runs, values}
 use Rattle.planroot_input.specs.inner.Words.{is-empty, IsWord, JudgesWord}
-use Rattle.planroot_input.specs.inner.Scans.{Gathered, placed, Scanned, in-line-1, EndsWord}
+use Rattle.planroot_input.specs.inner.Scans.{Gathered, placed, Scanned, EndsWord}
+use Rattle.planroot_input.proofs.Phases.{in-line-1}
 
 pub and_assoc : (a b c : Bool) → ((a && b) && c) ≡ (a && (b && c))
 and_assoc true b c = refl
 and_assoc false b c = refl
+
+pub and_off : (a b : Bool) → a ≡ false → a ≡ (a && b)
+and_off true b e = absurd (false≢true (sym e))
+and_off false b e = refl
 
 pub and_one : (a : Bool) → (a && true) ≡ a
 and_one true = refl
@@ -61,7 +71,7 @@ one_more k K vs ms n v low count room are = go (dec_lt n k)
         let j : min k (min K (n + 1)) ≡ min k n = omega arith in
         rw (j, le-ltb n k (omega arith)) (are ∙ sym (take-append-le k vs (v ∷ []) (omega arith)))
 
-module _ (k : ℕ) (xs : List ℕ) (n x : ℕ) where
+module _ {A : Type 0} (k : ℕ) (xs : List A) (n : ℕ) (x : A) where
   pub placed-low : n < k → set xs n x ≡ placed k xs n x
   unfolding placed
   placed-low h = rw (lt-ltb n k h)
@@ -74,29 +84,44 @@ pub gathered_none : (ms : List ℕ) → Gathered [] 0 ms
 unfolding values
 gathered_none ms = record { count-is = refl; are = λ _. refl }
 
-pub start-scanned : (w : Word) → (w.run ≡ 0) × (w.number ≡ 0) → (o : Bool) (p m l : ℕ) (ms tx : List ℕ)
-    → Scanned [] (record { phase = 0; ok = o; word = w; ports = p; masks = m; length = l }) ms tx
-unfolding IsWord ends
-start-scanned w e o p m l ms tx = in-line-1 refl record { unended = refl; word = rw e.0 (is-empty w.number) }
+pub start-scanned : (o : Bool) (p m l : ℕ) (ms tx : List ℕ)
+    → Scanned [] (record { phase = phase.FirstLine; ok = o; word = word.Empty; ports = p; masks = m; length = l }) ms tx
+unfolding ends
+start-scanned o p m l ms tx = in-line-1 _ _ _ _ refl record { unended = refl; word = is-empty }
 
-pub ends-word : (s : Scan) (ms : List ℕ) (b : Bool) (w : Word) (n : ℕ) → 16 ≤ length ms → JudgesWord s.word b → (w.run ≡ 0) × (w.number ≡ 0)
-    → n ≡ min 17 (s.masks + 1)
-    → EndsWord s ms (record { phase = s.phase; ok = s.ok && b; word = w; ports = s.ports; masks = n; length = s.length }) (placed 16 ms s.masks s.word.number)
-unfolding EndsWord JudgesWord IsWord
-ends-word s ms b w n room J e c done last W G =
-    let j = J last W in
-    record {
-      masks-are = record {
-        count-is = c ∙ omega (arith, G.count-is, length-snoc done last);
-        are = λ h.
-            let runs : (all_runs done && is_run last) ≡ true = sym (runs-snoc done last) ∙ h in
-            let v : s.word.number ≡ value last = j.number (j.run ∙ and_right (all_runs done) _ runs) in
-            rw (values-snoc done last, c, ← v)
-            (one_more 16 17 (values done) ms s.masks s.word.number (omega arith) (G.count-is ∙ ap (λ (x : ℕ). min 17 x) (sym (length-values done))) room (G.are (and_left (all_runs done) _ runs)));
-      };
-      ok-is = ap (λ (x : Bool). s.ok && x) j.run;
-      word = rw e.0 (is-empty w.number);
-      phase-is = refl;
-      ports-are = refl;
-      length-is = refl;
-    }
+-- what is known of the number of a word that is a digit run
+module _ (w : Word) (r : Option ℕ) (J : JudgesWord w r) (v : List ℕ) (W : IsWord v w) where
+  pub run-known : is_some r ≡ is_run v
+  unfolding JudgesWord
+  run-known = go r (J v W)
+    where
+      go : (r : Option ℕ) → SomeIff r (is_run v ≡ true) (value v) → is_some r ≡ is_run v
+      go None f = sym (false_from_ne_true (is_run v) f)
+      go (Some n) g = sym g.0
+
+  pub run-value : is_run v ≡ true → unwrap_or r 0 ≡ value v
+  unfolding JudgesWord
+  run-value h = go r (J v W)
+    where
+      go : (r : Option ℕ) → SomeIff r (is_run v ≡ true) (value v) → unwrap_or r 0 ≡ value v
+      go None f = absurd (f h)
+      go (Some n) g = g.1
+
+pub ends-word : (s : Scan) (ms : List ℕ) (r : Option ℕ) (b : Bool) (n : ℕ) → 16 ≤ length ms → JudgesWord s.word r → b ≡ (s.ok && is_some r) → n ≡ min 17 (s.masks + 1)
+    → EndsWord s ms (record { phase = s.phase; ok = b; word = word.Empty; ports = s.ports; masks = n; length = s.length }) (placed 16 ms s.masks (unwrap_or r 0))
+unfolding EndsWord
+ends-word s ms r b n room J o c done last W G = record {
+  masks-are = record {
+    count-is = c ∙ omega (arith, G.count-is, length-snoc done last);
+    are = λ h.
+        let runs : (all_runs done && is_run last) ≡ true = sym (runs-snoc done last) ∙ h in
+        let v : unwrap_or r 0 ≡ value last = run-value s.word r J last W (and_right (all_runs done) _ runs) in
+        rw (values-snoc done last, c, ← v)
+        (one_more 16 17 (values done) ms s.masks (unwrap_or r 0) (omega arith) (G.count-is ∙ ap (λ (x : ℕ). min 17 x) (sym (length-values done))) room (G.are (and_left (all_runs done) _ runs)));
+  };
+  ok-is = o ∙ ap (λ (x : Bool). s.ok && x) (run-known s.word r J last W);
+  word = is-empty;
+  phase-is = refl;
+  ports-are = refl;
+  length-is = refl;
+}

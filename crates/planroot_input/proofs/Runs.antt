@@ -1,29 +1,32 @@
 -- Digit runs byte by byte. Assumes nothing.
-use mathlib.Core.Path.{◌≡◌, refl, sym}
+use mathlib.Core.Path.{◌≡◌, refl, sym, ◌∙◌}
 use mathlib.Core.Bool.{Bool, true, false, ◌&&◌, false≢true}
 use mathlib.Core.List.{List, [], ◌∷◌, ◌++◌, append_assoc, append-nil}
-use Prim.Native.Nat.{ℕ, ◌+◌, ◌*◌, ◌-◌, ◌/◌, ◌≤◌, ◌<◌}
+use Prim.Native.Nat.{ℕ, ◌+◌, ◌*◌, ◌-◌, ◌≤◌, ◌<◌}
 use native.Mathlib.Omega.{arith}
-use lib.Dec.{eqb, leb, ltb}
-use borrow.Author.Tests.{le-leb, lt-leb, lt-ltb, le-ltb, ne_eqb}
+use lib.Dec.{leb, ltb}
+use borrow.Author.Tests.{le-leb, leb-true, lt-ltb, le-ltb, ne_eqb}
+use Rattle.std.specs.Prelude.{Some, None}
+use Rattle.std.proofs.lemmas.Bool.{false_from_ne_true}
 use Rattle.logic.proofs.Lists.{and_left, and_right, and-true}
 use Rattle.text_tokens.specs.Tokens.{pick, is_digit, number_of}
 use Rattle.planroot_input.specs.declared.Word.{Word}
+use Rattle.planroot_input.specs.declared.Word.TheVariants as word
 use Rattle.planroot_input.specs.Lines.{digits_only, begins_well, value, is_run}
-use Rattle.planroot_input.specs.inner.Words.{leads, WordIs, is-empty, is_zero, is_number, is-bad, IsWord, AddsByte, Judges, JudgesWord}
+use Rattle.planroot_input.specs.inner.Words.{leads, is-empty, is_zero, is_number, is-bad, AddsByte, JudgesWord}
 
 pub digit-is : (b : ℕ) → 48 ≤ b → b ≤ 57 → is_digit b ≡ true
 digit-is b h g = and-true _ _ (le-leb 48 b h) (le-leb b 57 g)
 
-pub low-no-digit : (b : ℕ) → b < 48 → is_digit b ≡ false
-low-no-digit b h = rw (lt-leb 48 b h)
+digit-low : (b : ℕ) → is_digit b ≡ true → 48 ≤ b
+digit-low b d = leb-true 48 b (and_left (leb 48 b) _ d)
+
+digit-high : (b : ℕ) → is_digit b ≡ true → b ≤ 57
+digit-high b d = leb-true b 57 (and_right (leb 48 b) _ d)
 
 and_no : (a b : Bool) → b ≡ false → (a && b) ≡ false
 and_no true b h = h
 and_no false b h = refl
-
-pub high-no-digit : (b : ℕ) → 57 < b → is_digit b ≡ false
-high-no-digit b h = and_no (leb 48 b) _ (lt-leb b 57 h)
 
 -- digits one behind the other
 pub digits-snoc : (v : List ℕ) (b : ℕ) → digits_only v ≡ true → is_digit b ≡ true → digits_only (v ++ (b ∷ [])) ≡ true
@@ -85,88 +88,62 @@ bad-large v b h d l x =
     let y = (v ++ (b ∷ [])) ++ x in
     and_no (digits_only y && begins_well y) (ltb (number_of 0 y) 18446744073709551616) (le-ltb (number_of 0 y) 18446744073709551616 (omega (arith, number-snoc 0 v b h d, number-grows 0 (v ++ (b ∷ [])) x (digits-snoc v b h d))))
 
-module _ (w : Word) (b : ℕ) where
-  pub adds-bad : (r : Word) → (r.run ≡ 3) × (r.number ≡ 0) → is_digit b ≡ false → AddsByte w b r
-  unfolding AddsByte IsWord
-  adds-bad r e d v W = rw e.0 (is-bad _ _ (bad-byte v b d))
+-- one byte more
+module _ (b : ℕ) where
+  pub adds-bad : (w : Word) → (is_digit b ≡ true → ⊥) → AddsByte w b word.NoRun
+  unfolding AddsByte
+  adds-bad w f v W = is-bad _ (bad-byte v b (false_from_ne_true (is_digit b) f))
 
-  module _ (d : is_digit b ≡ true) (low : 48 ≤ b) (n : ℕ) (D : n ≡ b - 48) (small : n < 10) where
-    pub adds-zero : w.run ≡ 0 → n ≡ 0 → AddsByte w b (record { run = 1; number = 0 })
-    unfolding AddsByte IsWord
-    adds-zero e z v W = go W e
-      where
-        go : {v : List ℕ} {r k : ℕ} → WordIs v r k → r ≡ 0 → WordIs (v ++ (b ∷ [])) 1 0
-        go (is-empty k) q = let e : b ≡ 48 = omega arith in rw e is_zero
-        go is_zero q = absurd (omega arith)
-        go (is_number v k N) q = absurd (omega arith)
-        go (is-bad v k F) q = absurd (omega arith)
+  pub adds-behind-0 : AddsByte word.Zero b word.NoRun
+  unfolding AddsByte
+  adds-behind-0 v is_zero = is-bad (48 ∷ b ∷ []) (λ x. bad-zero b x)
 
-    pub adds-first : w.run ≡ 0 → (n ≡ 0 → ⊥) → AddsByte w b (record { run = 2; number = n })
-    unfolding AddsByte IsWord leads digits_only value number_of
-    adds-first e z v W = go W e
-      where
-        go : {v : List ℕ} {r k : ℕ} → WordIs v r k → r ≡ 0 → WordIs (v ++ (b ∷ [])) 2 n
-        go (is-empty k) q = is_number (b ∷ []) n record { lead = rw (ne_eqb b 48 (λ y. z (omega arith))); digits = and-true _ _ d refl; is = rw d (omega arith); small = omega arith }
-        go is_zero q = absurd (omega arith)
-        go (is_number v k N) q = absurd (omega arith)
-        go (is-bad v k F) q = absurd (omega arith)
+  pub stays-bad : AddsByte word.NoRun b word.NoRun
+  unfolding AddsByte
+  stays-bad v (is-bad _ F) = is-bad (v ++ (b ∷ [])) (λ x. rw (append_assoc v (b ∷ []) x) (F (b ∷ x)))
 
-    pub adds-behind : (r : Word) → (r.run ≡ 3) × (r.number ≡ 0) → (w.run ≡ 0 → ⊥) → (w.run ≡ 2 → ⊥) → AddsByte w b r
-    unfolding AddsByte IsWord
-    adds-behind r E f g v W = rw E.0 (go W f g)
-      where
-        go : {v : List ℕ} {q k : ℕ} → WordIs v q k → (q ≡ 0 → ⊥) → (q ≡ 2 → ⊥) → WordIs (v ++ (b ∷ [])) 3 r.number
-        go (is-empty k) f g = absurd (f refl)
-        go is_zero f g = is-bad (48 ∷ b ∷ []) r.number (λ x. bad-zero b x)
-        go (is_number v k N) f g = absurd (g refl)
-        go (is-bad v k F) f g = is-bad (v ++ (b ∷ [])) r.number (λ x. rw (append_assoc v (b ∷ []) x) (F (b ∷ x)))
+  module _ (n : ℕ) (D : (is_digit b ≡ true) × (n ≡ b - 48)) where
+    pub adds-zero : n ≡ 0 → AddsByte word.Empty b word.Zero
+    unfolding AddsByte
+    adds-zero z v is-empty = let e : b ≡ 48 = omega (arith, digit-low b D.0, D.1) in rw e is_zero
 
-    pub adds-large : (r : Word) → (r.run ≡ 3) × (r.number ≡ 0) → w.run ≡ 2 → (18446744073709551615 - n) / 10 < w.number → AddsByte w b r
-    unfolding AddsByte IsWord
-    adds-large r E e l v W = rw E.0 (go W e l)
-      where
-        go : {v : List ℕ} {q k : ℕ} → WordIs v q k → q ≡ 2 → (18446744073709551615 - n) / 10 < k → WordIs (v ++ (b ∷ [])) 3 r.number
-        go (is-empty k) e l = absurd (omega arith)
-        go is_zero e l = absurd (omega arith)
-        go (is_number v k N) e l = is-bad (v ++ (b ∷ [])) r.number (bad-large v b N.digits d (omega (arith, N.is)))
-        go (is-bad v k F) e l = absurd (omega arith)
+    pub adds-first : (n ≡ 0 → ⊥) → AddsByte word.Empty b (word.Number n)
+    unfolding AddsByte leads digits_only value number_of
+    adds-first z v is-empty = is_number (b ∷ []) n record {
+      lead = rw (ne_eqb b 48 (λ y. z (omega (arith, D.1))));
+      digits = and-true _ _ D.0 refl;
+      is = rw D.0 (omega (arith, D.1));
+      small = omega (arith, digit-high b D.0, D.1);
+    }
 
-    pub adds-digit : w.run ≡ 2 → w.number ≤ (18446744073709551615 - n) / 10 → AddsByte w b (record { run = 2; number = 10 * w.number + n })
-    unfolding AddsByte IsWord value
-    adds-digit e l v W = go W e l
-      where
-        go : {v : List ℕ} {q k : ℕ} → WordIs v q k → q ≡ 2 → k ≤ (18446744073709551615 - n) / 10 → WordIs (v ++ (b ∷ [])) 2 (10 * k + n)
-        go (is-empty k) e l = absurd (omega arith)
-        go is_zero e l = absurd (omega arith)
-        go (is_number v k N) e l = is_number (v ++ (b ∷ [])) (10 * k + n) (record {
-          lead = leads-on v (b ∷ []) N.lead;
-          digits = digits-snoc v b N.digits d;
-          is = omega (arith, N.is, number-snoc 0 v b N.digits d);
-          small = omega arith;
-        })
-        go (is-bad v k F) e l = absurd (omega arith)
+    module _ (k : ℕ) where
+      pub adds-digit : (r : ℕ) → (10 * k + n < 18446744073709551616) × (r ≡ 10 * k + n) → AddsByte (word.Number k) b (word.Number r)
+      unfolding AddsByte value
+      adds-digit r l v (is_number _ _ N) = is_number (v ++ (b ∷ [])) r (record {
+        lead = leads-on v (b ∷ []) N.lead;
+        digits = digits-snoc v b N.digits D.0;
+        is = omega (arith, N.is, D.1, l.1, number-snoc 0 v b N.digits D.0);
+        small = omega (arith, l.0, l.1);
+      })
+
+      pub adds-large : (10 * k + n < 18446744073709551616 → ⊥) → AddsByte (word.Number k) b word.NoRun
+      unfolding AddsByte
+      adds-large l v (is_number _ _ N) = is-bad (v ++ (b ∷ [])) (bad-large v b N.digits D.0 (omega (arith, N.is, D.1)))
 
 -- the end of a word
-module _ (w : Word) where
-  pub judges-zero : w.run ≡ 1 → JudgesWord w true
-  unfolding JudgesWord IsWord is_run digits_only begins_well value number_of
-  judges-zero e v W = go W e
-    where
-      go : {v : List ℕ} {q k : ℕ} → WordIs v q k → q ≡ 1 → Judges v (record { run = q; number = k }) true
-      go (is-empty k) e = absurd (omega arith)
-      go is_zero e = record { run = refl; number = λ _. refl }
-      go (is_number v k N) e = absurd (omega arith)
-      go (is-bad v k F) e = absurd (omega arith)
+pub judges-empty : JudgesWord word.Empty None
+unfolding JudgesWord is_run digits_only begins_well
+judges-empty v is-empty = λ e. false≢true e
 
-  pub judges-rest : (r : Bool) → (w.run ≡ 1 → ⊥) → r ≡ eqb w.run 2 → JudgesWord w r
-  unfolding JudgesWord IsWord is_run digits_only begins_well
-  judges-rest r f e v W = rw e (go W f)
-    where
-      go : {v : List ℕ} {q k : ℕ} → WordIs v q k → (q ≡ 1 → ⊥) → Judges v (record { run = q; number = k }) (eqb q 2)
-      go (is-empty k) f = record { run = refl; number = λ z. absurd (false≢true z) }
-      go is_zero f = absurd (f refl)
-      go (is_number v k N) f = record {
-        run = sym (and-true _ _ (and-true _ _ N.digits (leads-well v N.lead)) (lt-ltb (value v) 18446744073709551616 (rw (← N.is) N.small)));
-        number = λ _. N.is;
-      }
-      go (is-bad v k F) f = record { run = sym (rw (append-nil v) at (F [])); number = λ z. absurd (false≢true z) }
+pub judges-zero : JudgesWord word.Zero (Some 0)
+unfolding JudgesWord is_run digits_only begins_well value number_of
+judges-zero v is_zero = (refl, refl)
+
+pub judges-number : (n : ℕ) → JudgesWord (word.Number n) (Some n)
+unfolding JudgesWord is_run
+judges-number n v (is_number _ _ N) =
+    (and-true _ _ (and-true _ _ N.digits (leads-well v N.lead)) (lt-ltb (value v) 18446744073709551616 (rw (← N.is) N.small)), N.is)
+
+pub judges-bad : JudgesWord word.NoRun None
+unfolding JudgesWord
+judges-bad v (is-bad _ F) = λ e. false≢true (sym (rw (append-nil v) at (F [])) ∙ e)

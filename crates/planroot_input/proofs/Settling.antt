@@ -1,6 +1,6 @@
 -- Where nothing that follows changes the line. Assumes nothing.
 use mathlib.Core.Path.{◌≡◌, refl, sym, ap, ◌∙◌, subst}
-use mathlib.Core.Bool.{Bool, true, false, ◌&&◌, ◌||◌}
+use mathlib.Core.Bool.{Bool, true, false, ◌&&◌, ◌||◌, false≢true}
 use mathlib.Core.Logic.{◌⊎◌, inl, inr}
 use mathlib.Core.List.{List, [], ◌∷◌, ◌++◌, append_assoc, append-nil}
 use Prim.Native.Nat.{ℕ, ◌≤◌, ◌<◌}
@@ -11,10 +11,13 @@ use lib.ListN.{length}
 use borrow.Author.Tests.{eqb-true, eq-eqb}
 use Rattle.text_tokens.specs.Tokens.{pick}
 use Rattle.planroot_input.specs.declared.Word.{Word}
+use Rattle.planroot_input.specs.declared.Word.TheVariants as word
+use Rattle.planroot_input.specs.declared.Phase.TheVariants as phase
 use Rattle.planroot_input.specs.declared.Scan.{Scan}
 use Rattle.planroot_input.specs.Lines.{line, behind, ends, words, value, is_run, all_runs, values, sound, ports, masks, text, Settled, wrong, long}
-use Rattle.planroot_input.specs.inner.Words.{WordIs, is-empty, is_zero, is_number, is-bad, IsWord}
-use Rattle.planroot_input.specs.inner.Scans.{in-line-1, in-line-2, in-text, DecidesLine}
+use Rattle.planroot_input.specs.inner.Words.{is-bad, IsWord}
+use Rattle.planroot_input.specs.inner.Scans.{Line1, Line2, InText, Decided, DecidesLine}
+use Rattle.planroot_input.proofs.Phases.{of-line-1, of-line-2, of-text}
 use Rattle.planroot_input.proofs.Gathering.{runs-snoc}
 use Rattle.planroot_input.proofs.Splitting.{line-is, behind-is, ends_is, line-open, behind-none, words_snoc, words-space}
 
@@ -46,15 +49,11 @@ wrong-on [] s W = rw (append-nil s) W
 wrong-on (b ∷ y) s W = subst Wrong (append_assoc s (b ∷ []) y) (wrong-on y (s ++ (b ∷ [])) (wrong-snoc s b (ℕ_discrete b 32) W))
 
 -- a word that is no beginning of a digit run
-word-bad : (v : List ℕ) (w : Word) → IsWord v w → w.run ≡ 3 → (x : List ℕ) → is_run (v ++ x) ≡ false
-unfolding IsWord
-word-bad v w W e = go W e
-  where
-    go : {v : List ℕ} {q k : ℕ} → WordIs v q k → q ≡ 3 → (x : List ℕ) → is_run (v ++ x) ≡ false
-    go (is-empty k) e = absurd (omega arith)
-    go is_zero e = absurd (omega arith)
-    go (is_number v k N) e = absurd (omega arith)
-    go (is-bad v k F) e = F
+bad : (v : List ℕ) → IsWord v word.NoRun → (x : List ℕ) → is_run (v ++ x) ≡ false
+bad v (is-bad _ F) = F
+
+word-bad : (v : List ℕ) (w : Word) → IsWord v w → w ≡ word.NoRun → (x : List ℕ) → is_run (v ++ x) ≡ false
+word-bad v w W e = bad v (subst (IsWord v) e W)
 
 -- line 1 is wrong, whatever follows
 first-wrong : (input : List ℕ) → ends input ≡ false → ((x : List ℕ) → is_run (input ++ x) ≡ false) → Settled input
@@ -94,59 +93,78 @@ text_of input first second rest e f r = ap (λ (l : List ℕ). behind (behind l)
 empty-short : (t : List ℕ) → t ≡ [] → 4096 < length t → ⊥
 empty-short t e h = let z : length t ≡ 0 = ap length e in omega arith
 
-module _ (s : Scan) (r : Bool) where
-  pub decides-first : s.phase ≡ 0 → r ≡ eqb s.word.run 3 → DecidesLine s r
-  unfolding DecidesLine
-  decides-first e q input ms tx (in-line-1 p L) = record {
-    settled = λ t. first-wrong input L.unended (word-bad input s.word L.word (eqb-true s.word.run 3 (sym q ∙ t)));
-    in-time = λ h. absurd (empty-short (text input) (no-text-1 input L.unended) h);
-  }
-  decides-first e q input ms tx (in-line-2 p L) = absurd (omega arith)
-  decides-first e q input ms tx (in-text p L) = absurd (omega arith)
+-- bytes that are not known to settle the line, and of which none is of the text
+undecided : (input : List ℕ) → text input ≡ [] → Decided input false
+undecided input e = record { settled = λ t. absurd (false≢true t); in-time = λ h. absurd (empty-short (text input) e h) }
 
-  pub decides-second : s.phase ≡ 1 → r ≡ eqb s.word.run 3 → DecidesLine s r
+-- in line 1, in line 2 and in the text
+module _ (s : Scan) (p : s.phase ≡ phase.FirstLine) where
+  pub decides-first : s.word ≡ word.NoRun → DecidesLine s true
   unfolding DecidesLine
-  decides-second e q input ms tx (in-line-1 p L) = absurd (omega arith)
-  decides-second e q input ms tx (in-line-2 p L) = record {
-    settled = λ t.
-        let bad = word-bad L.last s.word L.word (eqb-true s.word.run 3 (sym q ∙ t)) in
-        second-wrong input L.first L.rest L.is L.first-open L.rest-open (last-wrong L.done L.last L.words_are bad);
-    in-time = λ h. absurd (empty-short (text input) (no-text-2 input L.first L.rest L.is L.first-open L.rest-open) h);
-  }
-  decides-second e q input ms tx (in-text p L) = absurd (omega arith)
+  decides-first w input ms tx S =
+      let L : Line1 input s = of-line-1 _ _ _ _ p S in
+      record { settled = λ _. first-wrong input L.unended (word-bad input s.word L.word w); in-time = λ _. refl }
 
-  pub decides-text : (s.phase ≡ 0 → ⊥) → (s.phase ≡ 1 → ⊥) → r ≡ eqb s.length 4097 → DecidesLine s r
+  pub undecided-first : DecidesLine s false
   unfolding DecidesLine
-  decides-text f g q input ms tx (in-line-1 p L) = absurd (f p)
-  decides-text f g q input ms tx (in-line-2 p L) = absurd (g p)
-  decides-text f g q input ms tx (in-text p T) =
-      let t : length (text input) ≡ length T.rest = ap length (text_of input T.first T.second T.rest T.is T.first-open T.second-open) in
-      record {
-        settled = λ y. let k : s.length ≡ 4097 = eqb-true s.length 4097 (sym q ∙ y) in long (omega (arith, T.length-is));
-        in-time = λ h. q ∙ eq-eqb s.length 4097 (omega (arith, T.length-is));
-      }
+  undecided-first input ms tx S = let L : Line1 input s = of-line-1 _ _ _ _ p S in undecided input (no-text-1 input L.unended)
 
 one-wrong : (a b : Bool) → (a && b) ≡ false → (a ≡ false) ⊎ (b ≡ false)
 one-wrong true b h = inr h
 one-wrong false b h = inl refl
 
-pub decides-wrong : (s : Scan) → (s.phase ≡ 0 → ⊥) → s.ok ≡ false → DecidesLine s true
-unfolding DecidesLine
-decides-wrong s f o input ms tx (in-line-1 p L) = absurd (f p)
-decides-wrong s f o input ms tx (in-line-2 p L) = record { settled = λ _. go (one-wrong _ _ (sym L.ok-is ∙ o)); in-time = λ _. refl }
-  where
-    go : (is_run L.first ≡ false) ⊎ (all_runs L.done ≡ false) → Settled input
-    go (inl h) = start-wrong input L.first L.rest L.is L.first-open h
-    go (inr h) = second-wrong input L.first L.rest L.is L.first-open L.rest-open (ended-wrong L.done L.last L.words_are h)
-decides-wrong s f o input ms tx (in-text p T) = record {
-  settled = λ _. wrong λ more.
-      ap sound (ap (λ (l : List ℕ). l ++ more) T.is ∙ append_assoc T.first (10 ∷ (T.second ++ (10 ∷ T.rest))) more)
-      ∙ sound-of T.first ((T.second ++ (10 ∷ T.rest)) ++ more) T.first-open
-      ∙ ap (λ (l : List ℕ). is_run T.first && all_runs (words (line l))) (append_assoc T.second (10 ∷ T.rest) more)
-      ∙ ap (λ (l : List ℕ). is_run T.first && all_runs (words l)) (line-is (T.rest ++ more) T.second T.second-open)
-      ∙ sym T.ok-is ∙ o;
-  in-time = λ _. refl;
-}
+module _ (s : Scan) (p : s.phase ≡ phase.SecondLine) where
+  pub decides-second : s.word ≡ word.NoRun → DecidesLine s true
+  unfolding DecidesLine
+  decides-second w input ms tx S =
+      let L : Line2 input s ms = of-line-2 _ _ _ _ p S in
+      record {
+        settled = λ _. second-wrong input L.first L.rest L.is L.first-open L.rest-open (last-wrong L.done L.last L.words_are (word-bad L.last s.word L.word w));
+        in-time = λ _. refl;
+      }
+
+  pub wrong-second : s.ok ≡ false → DecidesLine s true
+  unfolding DecidesLine
+  wrong-second o input ms tx S = record { settled = λ _. go (one-wrong _ _ (sym L.ok-is ∙ o)); in-time = λ _. refl }
+    where
+      L : Line2 input s ms
+      L = of-line-2 _ _ _ _ p S
+
+      go : (is_run L.first ≡ false) ⊎ (all_runs L.done ≡ false) → Settled input
+      go (inl h) = start-wrong input L.first L.rest L.is L.first-open h
+      go (inr h) = second-wrong input L.first L.rest L.is L.first-open L.rest-open (ended-wrong L.done L.last L.words_are h)
+
+  pub undecided-second : DecidesLine s false
+  unfolding DecidesLine
+  undecided-second input ms tx S =
+      let L : Line2 input s ms = of-line-2 _ _ _ _ p S in
+      undecided input (no-text-2 input L.first L.rest L.is L.first-open L.rest-open)
+
+module _ (s : Scan) (p : s.phase ≡ phase.Text) where
+  pub decides-text : DecidesLine s (eqb s.length 4097)
+  unfolding DecidesLine
+  decides-text input ms tx S =
+      let T : InText input s ms tx = of-text _ _ _ _ p S in
+      let t : length (text input) ≡ length T.rest = ap length (text_of input T.first T.second T.rest T.is T.first-open T.second-open) in
+      record {
+        settled = λ y. let k : s.length ≡ 4097 = eqb-true s.length 4097 y in long (omega (arith, T.length-is));
+        in-time = λ h. eq-eqb s.length 4097 (omega (arith, T.length-is));
+      }
+
+  pub wrong-text : s.ok ≡ false → DecidesLine s true
+  unfolding DecidesLine
+  wrong-text o input ms tx S = record { settled = λ _. wrong unsound; in-time = λ _. refl }
+    where
+      T : InText input s ms tx
+      T = of-text _ _ _ _ p S
+
+      unsound : (more : List ℕ) → sound (input ++ more) ≡ false
+      unsound more =
+          ap sound (ap (λ (l : List ℕ). l ++ more) T.is ∙ append_assoc T.first (10 ∷ (T.second ++ (10 ∷ T.rest))) more)
+          ∙ sound-of T.first ((T.second ++ (10 ∷ T.rest)) ++ more) T.first-open
+          ∙ ap (λ (l : List ℕ). is_run T.first && all_runs (words (line l))) (append_assoc T.second (10 ∷ T.rest) more)
+          ∙ ap (λ (l : List ℕ). is_run T.first && all_runs (words l)) (line-is (T.rest ++ more) T.second T.second-open)
+          ∙ sym T.ok-is ∙ o
 
 -- more bytes behind an input that has a second line change neither its first two lines nor the beginning of its text
 module _ (more : List ℕ) where

@@ -2,31 +2,26 @@
 use mathlib.Core.Path.{◌≡◌, subst}
 use mathlib.Core.List.{List, [], ◌∷◌, ◌++◌, append_assoc, append-nil}
 use Prim.Native.Nat.{ℕ, ◌+◌, ◌≤◌, ◌<◌}
-use native.Mathlib.Omega.{arith}
 use native.Mathlib.Numerals.{add-one}
 use lib.ListN.{length, get_or, take}
 use lib.Seq.{take-suc, take_all}
+use Rattle.planroot_input.specs.declared.Phase.TheVariants as phase
 use Rattle.planroot_input.specs.declared.Scan.{Scan}
-use Rattle.planroot_input.specs.inner.Scans.{Scanned, in-line-1, in-line-2, in-text, PassesFirst, PassesSecond, PassesText, PassesPiece}
+use Rattle.planroot_input.specs.inner.Scans.{Scanned, PassesFirst, PassesSecond, PassesText, PassesPiece}
+use Rattle.planroot_input.proofs.Phases.{of-line-1, of-line-2, of-text}
 
 module _ (s : Scan) (b : ℕ) (ms tx : List ℕ) where
-  pub steps_first : (r : Scan) → s.phase ≡ 0 → PassesFirst s b r → PassesPiece s (b ∷ []) ms tx r ms tx
+  pub steps_first : (r : Scan) → s.phase ≡ phase.FirstLine → PassesFirst s b r → PassesPiece s (b ∷ []) ms tx r ms tx
   unfolding PassesPiece PassesFirst
-  steps_first r e P input (in-line-1 p L) = P input ms tx p L
-  steps_first r e P input (in-line-2 p L) = absurd (omega arith)
-  steps_first r e P input (in-text p L) = absurd (omega arith)
+  steps_first r p P input S = P input ms tx p (of-line-1 _ _ _ _ p S)
 
-  pub steps-second : (r : Scan) (ms' : List ℕ) → s.phase ≡ 1 → PassesSecond s b ms r ms' → PassesPiece s (b ∷ []) ms tx r ms' tx
+  pub steps-second : (r : Scan) (ms' : List ℕ) → s.phase ≡ phase.SecondLine → PassesSecond s b ms r ms' → PassesPiece s (b ∷ []) ms tx r ms' tx
   unfolding PassesPiece PassesSecond
-  steps-second r ms' e P input (in-line-1 p L) = absurd (omega arith)
-  steps-second r ms' e P input (in-line-2 p L) = P input tx p L
-  steps-second r ms' e P input (in-text p L) = absurd (omega arith)
+  steps-second r ms' p P input S = P input tx p (of-line-2 _ _ _ _ p S)
 
-  pub steps-text : (r : Scan) (tx' : List ℕ) → (s.phase ≡ 0 → ⊥) → (s.phase ≡ 1 → ⊥) → PassesText s b tx r tx' → PassesPiece s (b ∷ []) ms tx r ms tx'
+  pub steps-text : (r : Scan) (tx' : List ℕ) → s.phase ≡ phase.Text → PassesText s b tx r tx' → PassesPiece s (b ∷ []) ms tx r ms tx'
   unfolding PassesPiece PassesText
-  steps-text r tx' f g P input (in-line-1 p L) = absurd (f p)
-  steps-text r tx' f g P input (in-line-2 p L) = absurd (g p)
-  steps-text r tx' f g P input (in-text p L) = P input ms p L
+  steps-text r tx' p P input S = P input ms p (of-text _ _ _ _ p S)
 
 pub steps-none : (s : Scan) (ms tx : List ℕ) → PassesPiece s [] ms tx s ms tx
 unfolding PassesPiece

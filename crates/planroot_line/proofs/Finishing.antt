@@ -2,9 +2,8 @@
 use mathlib.Core.Path.{◌≡◌, sym, ap, ◌∙◌, subst}
 use mathlib.Core.Bool.{true, false}
 use mathlib.Core.List.{List}
-use Prim.Native.Nat.{ℕ, ◌-◌, ◌≤◌}
-use native.Mathlib.Omega.{arith}
-use lib.ListN.{length, take, drop}
+use Prim.Native.Nat.{ℕ, ◌≤◌}
+use lib.ListN.{length, take}
 use Rattle.planroot_input.specs.declared.Scan.{Scan}
 use Rattle.planroot_input.specs.Lines.{sound, ports, masks, text}
 use Rattle.planroot_input.specs.inner.Scans.{Scanned, Closes}
@@ -26,15 +25,13 @@ module _ (s e : Scan) (ms ms' tx : List ℕ) (C : Closes s ms e ms') where
 
   -- with tables of the program's lengths, whatever they hold
   pub finish-line : (table cells : List ℕ) (r : Line) → length table ≡ table_room → length cells ≡ cell_room → e.ok ≡ true
-      → LinesText e.ports e.masks ms' (take (e.length - 0) (drop 0 tx)) table cells r → LinesInput s ms tx r
+      → LinesText e.ports e.masks ms' (take e.length tx) table cells r → LinesInput s ms tx r
   unfolding LinesInput Closes LinesText input_line
   finish-line table cells r t c o T input S =
       let K = C input tx S in
       let h : sound input ≡ true = sym K.ok-is ∙ o in
       let L = K.lines h in
-      let k : e.length - 0 ≡ e.length = omega arith in
-      let own : take (e.length - 0) (drop 0 tx) ≡ take 4097 (text input) = ap (λ (i : ℕ). take i tx) k ∙ L.text-is in
-      T (masks input) (text input) L.count-is L.masks-are own ∙ any-tables e.ports (masks input) (text input) table cells t c ∙ rw (h, ← L.ports-are)
+      T (masks input) (text input) L.count-is L.masks-are L.text-is ∙ any-tables e.ports (masks input) (text input) table cells t c ∙ rw (h, ← L.ports-are)
 
 pub answer-shown : (s : Scan) (ms tx out : List ℕ) (n : ℕ) (out' : List ℕ) (line : Line) → LinesInput s ms tx line → Shows line out n out' → ShowsInput s ms tx out n out'
 unfolding ShowsInput LinesInput

@@ -7,23 +7,23 @@ ghost use Rattle.planroot_line.specs.inner.Contract.{Tables, PlanTables, LinesLo
 
 use call_load::load;
 use call_read::read;
-use contracts::{Answer, Loaded};
-use logic::{MASK_ROOM, own_masks};
+use contracts::Loaded;
+use logic::{MASK_ROOM, Refusal, own_masks};
 use move_masks::copy_masks;
-use planroot_input::{Scan, close};
+use planroot_input::Scan;
 use planroot_print::{Line, put_line};
 use table_format::sets_of;
 
 // Load's answer as a line.
-fn load_line(answer: Loaded) -> Line
+fn load_line(answer: Result<Loaded, Refusal>) -> Line
     ensures { LinesLoad answer result }
 {
     match answer {
-        Loaded::Accepted { root, cells } => Line::Penalty {
-            root: root,
-            cells: cells,
+        Ok(plan) => Line::Penalty {
+            root: plan.root,
+            cells: plan.cells,
         },
-        Loaded::Refused(n) => Line::Refusal(n),
+        Err(g) => Line::Refusal(g.number()),
     }
 }
 
@@ -38,8 +38,7 @@ fn plan_line(count: usize, masks: &[u64], table: &[u8], cells: &mut [u32]) -> Li
     }
     let mut own = [0u64; MASK_ROOM];
     copy_masks(masks, n, &mut own);
-    let end = own_masks(n);
-    load_line(load(table, &own[0..end], cells))
+    load_line(load(table, &own[..own_masks(n)], cells))
 }
 
 // Reads the text and loads its plan.
@@ -54,10 +53,9 @@ fn text_line(
     requires { Tables masks.now table.old }
     ensures { LinesText u count masks.now text.now table.old cells.old result }
 {
-    let answer = read(u, text, table);
-    match answer {
-        Answer::Accepted { nodes: _, cells: _ } => plan_line(count, masks, &table[..], cells),
-        Answer::Refused(n) => Line::Refusal(n),
+    match read(u, text, table) {
+        Ok(_) => plan_line(count, masks, &table[..], cells),
+        Err(ground) => Line::Refusal(ground.number()),
     }
 }
 
@@ -66,18 +64,17 @@ fn finish(s: Scan, masks: &mut [u64], text: &[u8]) -> Line
     requires { SomeInput s masks.old text.now }
     ensures { LinesInput s masks.old text.now result }
 {
-    let e = close(s, masks);
+    let e = s.close(masks);
     if !e.ok {
         return Line::Refusal(0);
     }
-    let length = e.length;
     let mut table = [0u8; 4105];
     let mut cells = [0u32; 16384];
     text_line(
         e.ports,
         e.masks,
         &masks[..],
-        &text[0..length],
+        &text[..e.length],
         &mut table,
         &mut cells,
     )

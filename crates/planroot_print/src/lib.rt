@@ -7,7 +7,8 @@ ghost use Rattle.planroot_print.specs.Line.{penalty_bytes, refusal_bytes, line_r
 
 use text_put::{put_byte, put_bytes, put_digits};
 
-// "`penalty P cells C` (root, cell total) or `refused N`".
+// "`penalty P cells C` (root, cell total) or `refused N`". N stays a number: 0 is no ground, and `read_line` and `load_line` of
+// planroot_line, over which theorems of demands speak, make a line of the number that a call answers.
 #[derive(Clone, Copy)]
 pub enum Line {
     Penalty { root: u32, cells: u32 },
@@ -22,7 +23,7 @@ fn put_penalty(out: &mut [u8], root: u32, cells: u32) -> usize
     let b = put_digits(out, a, root, 10);
     let c = put_bytes(out, b, b" cells ");
     let d = put_digits(out, c, cells, 10);
-    put_byte(out, d, 10)
+    put_byte(out, d, b'\n')
 }
 
 // `refused N`.
@@ -31,7 +32,7 @@ fn put_refusal(out: &mut [u8], number: u8) -> usize
 {
     let a = put_bytes(out, 0, b"refused ");
     let b = put_digits(out, a, number as u32, 10);
-    put_byte(out, b, 10)
+    put_byte(out, b, b'\n')
 }
 
 // Puts a line at the front of a table: how many bytes it has.

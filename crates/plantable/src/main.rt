@@ -2,7 +2,7 @@
 #![tactic(auto)]
 
 use plantable_bytes::answer;
-use program_io::{Input, gather, give};
+use program_io::{gather, give};
 use std::io;
 
 // Writes the plan table of an input, by one write if the system takes it whole. 4,105 bytes have room for every plan.
@@ -16,9 +16,8 @@ fn say(rt: &HostRuntime, input: &[u8]) -> io::Result<()> {
 // written and main ends with an error: half an input is no input.
 fn main(rt: HostRuntime) -> io::Result<()> {
     let mut kept = [0u8; 4118];
-    let input = gather(&mut rt.stdin(), &mut kept);
-    match input {
-        Input::Kept(n) => say(&rt, &kept[..n]),
-        Input::Failed => Err(io::Error::other("plantable: standard input")),
-    }
+    let Ok(n) = gather(&mut rt.stdin(), &mut kept) else {
+        return Err(io::Error::other("plantable: standard input"));
+    };
+    say(&rt, &kept[..n])
 }

@@ -1,53 +1,119 @@
--- Line 1, byte by byte. Assumes nothing.
-use mathlib.Core.Path.{◌≡◌, refl, sym, ap, ◌∙◌}
-use mathlib.Core.Bool.{Bool, false, ◌&&◌, false≢true}
-use mathlib.Core.List.{List, ◌∷◌, ◌++◌}
+-- Line 1, its end and what stands behind it. Assumes nothing.
+use mathlib.Core.Path.{◌≡◌, refl, sym, ap, ◌∙◌, subst}
+use mathlib.Core.Bool.{Bool, true, false, cond, not, ◌||◌, false≢true}
+use mathlib.Core.List.{List, [], ◌∷◌}
 use Prim.Native.Nat.{ℕ, suc, ◌+◌, ◌≤◌, ◌<◌}
 use native.Mathlib.Omega.{arith}
 use native.Mathlib.Numerals.{add-one}
+use lib.Dec.{eqb, ltb}
 use lib.ListN.{length, get_or, take, drop}
-use lib.Seq.{take-suc, take_all, split_at}
+use lib.Seq.{take-suc, take_all}
+use borrow.Author.Tests.{lt-ltb, le-ltb}
+use Rattle.std.specs.Prelude.{Option, Some, None, SomeIff}
+use Rattle.std.specs.List.{position, position_or_len}
+use Rattle.std.proofs.lemmas.Bool.{false_from_ne_true}
+use Rattle.text_tokens.specs.Tokens.{pick}
 use Rattle.planroot_input.specs.declared.Word.{Word}
+use Rattle.planroot_input.specs.declared.Word.TheVariants as word
 use Rattle.planroot_input.specs.Lines.{line, behind, ends, value, is_run}
 use Rattle.planroot_input.specs.inner.Words.{is-empty, IsWord, AddsByte, JudgesWord}
-use Rattle.planroot_input.proofs.Splitting.{ends_snoc, line-is, behind-is, ends_is}
+use Rattle.planroot_input.proofs.Splitting.{line-all}
 use Rattle.plantable_bytes.specs.Table.{line_sound}
-use Rattle.plantable_bytes.specs.inner.Contract.{FindsLine, Passed}
+use Rattle.plantable_bytes.specs.inner.Contract.{FindsLine}
 
-module _ (input : List ℕ) (w : Word) where
-  pub passed_none : (w.run ≡ 0) × (w.number ≡ 0) → Passed input w 0
-  unfolding IsWord ends
-  passed_none e = record { word = rw e.0 (is-empty w.number); unended = refl; within = omega arith }
+-- the word that some bytes are, one by one
+module _ (bytes : List ℕ) where
+  pub word-none : IsWord (take 0 bytes) word.Empty
+  word-none = is-empty
 
-  module _ (i : ℕ) (P : Passed input w i) where
-    pub passed-more : (r : Word) → i < length input → (get_or input i 0 ≡ 10 → ⊥) → AddsByte w (get_or input i 0) r → Passed input r (i + 1)
-    unfolding AddsByte
-    passed-more r h f A =
-        let e = ap (λ (k : ℕ). take k input) (add-one i) ∙ take-suc input i 0 h in
-        record {
-          word = rw e (A (take i input) P.word);
-          unended = rw e (ends_snoc (take i input) (get_or input i 0) P.unended f);
-          within = omega arith;
-        }
+  pub word-more : (w r : Word) (i : ℕ) → i < length bytes → IsWord (take i bytes) w → AddsByte w (get_or bytes i 0) r → IsWord (take (i + 1) bytes) r
+  unfolding AddsByte
+  word-more w r i h W A = rw (add-one i, take-suc bytes i 0 h) (A (take i bytes) W)
 
-    -- the line ends
-    pub line-found : (o : Bool) → i < length input → get_or input i 0 ≡ 10 → JudgesWord w o → FindsLine input (record { ok = o; ports = w.number; text = i + 1 })
-    unfolding JudgesWord line_sound
-    line-found o h e J =
-        let first = take i input in
-        let rest = drop (i + 1) input in
-        let j = J first P.word in
-        let is : input ≡ first ++ (10 ∷ rest) = split_at input i 0 h ∙ ap (λ (b : ℕ). first ++ (b ∷ drop (suc i) input)) e ∙ ap (λ (k : ℕ). first ++ (10 ∷ drop k input)) (sym (add-one i)) in
-        let own : line input ≡ first = ap line is ∙ line-is rest first P.unended in
-        record {
-          ok-is = j.run ∙ sym (ap (λ (l : List ℕ). ends l && is_run (line input)) is ∙ ap (λ (b : Bool). b && is_run (line input)) (ends_is rest first) ∙ ap is_run own);
-          within = omega arith;
-          parts = λ t. record { ports-are = j.number t ∙ sym (ap value own); text-is = sym (ap behind is ∙ behind-is rest first P.unended) };
-        }
+  pub word-all : (w : Word) (i : ℕ) → length bytes ≤ i → IsWord (take i bytes) w → IsWord bytes w
+  word-all w i h W = subst (λ (x : List ℕ). IsWord x w) (take_all i bytes h) W
 
-    -- the input ends in it
-    pub line-missing : length input ≤ i → FindsLine input (record { ok = false; ports = 0; text = i })
+-- the first line end is where line 1 ends
+line-length : (x : List ℕ) → position_or_len (λ (b : ℕ). eqb b 10) x ≡ length (line x)
+unfolding line
+line-length [] = refl
+line-length (b ∷ x) = go (eqb b 10) (line-length x)
+  where
+    go : (t : Bool) → position_or_len (λ (b : ℕ). eqb b 10) x ≡ length (line x) → cond (not t) (1 + position_or_len (λ (b : ℕ). eqb b 10) x) 0 ≡ length (pick t [] (b ∷ line x))
+    go true e = refl
+    go false e = omega (arith, e)
+
+pub line-within : (x : List ℕ) → ends x ≡ true → length (line x) < length x
+unfolding ends line
+line-within [] h = absurd (false≢true h)
+line-within (b ∷ x) h = go (eqb b 10) h (λ k. line-within x k)
+  where
+    go : (t : Bool) → (t || ends x) ≡ true → (ends x ≡ true → length (line x) < length x) → length (pick t [] (b ∷ line x)) < suc (length x)
+    go true h f = omega arith
+    go false h f = omega (arith, f h)
+
+found-if : (p l n : ℕ) (P : Type 0) → p ≡ l → P → l < n → SomeIff (cond (ltb p n) (Some p) None) P l
+found-if p l n P e h k = rw (e, lt-ltb l n k) (h, refl)
+
+none-if : (p l n : ℕ) (P : Type 0) → p ≡ l → (P → ⊥) → n ≤ l → SomeIff (cond (ltb p n) (Some p) None) P l
+none-if p l n P e f k = rw (e, le-ltb l n k) f
+
+pub end-found : (x : List ℕ) → SomeIff (position (λ (b : ℕ). eqb b 10) x) (ends x ≡ true) (length (line x))
+end-found x = go (ends x) refl
+  where
+    p : ℕ
+    p = position_or_len (λ (b : ℕ). eqb b 10) x
+
+    go : (t : Bool) → ends x ≡ t → SomeIff (cond (ltb p (length x)) (Some p) None) (ends x ≡ true) (length (line x))
+    go true e = found-if p (length (line x)) (length x) (ends x ≡ true) (line-length x) e (line-within x e)
+    go false e =
+        let whole : length (line x) ≡ length x = ap length (line-all x e) in
+        none-if p (length (line x)) (length x) (ends x ≡ true) (line-length x) (λ h. false≢true (sym e ∙ h)) (omega (arith, whole))
+
+pub line-taken : (x : List ℕ) → take (length (line x)) x ≡ line x
+unfolding line
+line-taken [] = refl
+line-taken (b ∷ x) = go (eqb b 10) (line-taken x)
+  where
+    go : (t : Bool) → take (length (line x)) x ≡ line x → take (length (pick t [] (b ∷ line x))) (b ∷ x) ≡ pick t [] (b ∷ line x)
+    go true e = refl
+    go false e = ap (λ (l : List ℕ). b ∷ l) e
+
+pub behind-left : (x : List ℕ) → drop (suc (length (line x))) x ≡ behind x
+unfolding line behind
+behind-left [] = refl
+behind-left (b ∷ x) = go (eqb b 10) (behind-left x)
+  where
+    go : (t : Bool) → drop (suc (length (line x))) x ≡ behind x → drop (suc (length (pick t [] (b ∷ line x)))) (b ∷ x) ≡ pick t x (behind x)
+    go true e = refl
+    go false e = e
+
+-- line 1 with its word, in each case
+module _ (input : List ℕ) where
+  pub no-line : (ends input ≡ true → ⊥) → FindsLine input None
+  unfolding line_sound
+  no-line f = rw (false_from_ne_true (ends input) f)
+
+  module _ (e : ends input ≡ true) (end : ℕ) (E : end ≡ length (line input)) (w : Word) (W : IsWord (take end input) w) where
+    own : take end input ≡ line input
+    own = ap (λ (k : ℕ). take k input) E ∙ line-taken input
+
+    run-of : (r : Option ℕ) → JudgesWord w r → SomeIff r (is_run (line input) ≡ true) (value (line input))
+    unfolding JudgesWord
+    run-of r J = J (line input) (subst (λ (x : List ℕ). IsWord x w) own W)
+
+    pub wrong-line : JudgesWord w None → FindsLine input None
     unfolding line_sound
-    line-missing h =
-        let open' : ends input ≡ false = ap ends (sym (take_all i input h)) ∙ P.unended in
-        record { ok-is = rw open'; within = P.within; parts = λ t. absurd (false≢true t) }
+    wrong-line J = rw (e, false_from_ne_true (is_run (line input)) (run-of None J))
+
+    pub line-found : (u : ℕ) → JudgesWord w (Some u) → FindsLine input (Some (record { ports = u; text = end + 1 }))
+    unfolding line_sound
+    line-found u J =
+        let R = run-of (Some u) J in (
+          rw (e, R.0),
+          record {
+            ports-are = R.1;
+            within = omega (arith, E, line-within input e);
+            text-is = ap (λ (k : ℕ). drop k input) (add-one end ∙ ap suc E) ∙ behind-left input;
+          },
+        )

@@ -16,14 +16,16 @@ use Rattle.text_tokens.specs.Tokens.{pick}
 use Rattle.text_form.specs.Spelling.{plan_text, unwritable}
 use Rattle.text_put.specs.inner.Puts.{Puts}
 use Rattle.table_format.specs.Decode.{Decoded, broken, sound, decode}
-use Rattle.contracts.specs.declared.Counted.{Counted}
-use Rattle.contracts.specs.declared.Counted.TheVariants.{Accepted, Refused}
-use Rattle.contracts.specs.Counting.{CountValues, count_refused, count_accepted, count_values, CountTold}
+use Rattle.std.specs.Prelude.{Result, Ok, Err}
+use Rattle.logic.specs.declared.refusal.Refusal.{Refusal}
+use Rattle.logic.specs.Refusal.{refusal_number}
+use Rattle.logic.proofs.Refusals.{number-some}
+use Rattle.contracts.specs.Counting.{CountValues, count_refused, count_accepted, count_values}
 use Rattle.contracts.specs.WriteCall.{writes, WritePromise}
 use Rattle.contracts.proofs.Writing.{write-broken, write_ground, write-refused, write-accepted}
 use Rattle.planroot_print.specs.Line.{line_end}
-use Rattle.program_bytes.specs.declared.Given.TheVariants.{Bytes, Refusal}
-use Rattle.program_bytes.specs.Outcome.{output, refused, outcome_of, named_bytes, Gives}
+use Rattle.program_bytes.specs.declared.Refused.TheVariants.{Ground}
+use Rattle.program_bytes.specs.Outcome.{output, refused, refused_number, outcome_of, named_bytes, Gives}
 use Rattle.plantext_bytes.specs.Text.{written_text, input_text, text_room}
 
 -- a text that is written has at most 4,096 bytes
@@ -49,19 +51,19 @@ cases (sound P) B h = go (unwritable P) refl
     go true e = no_text (write-refused P B 17 (λ q. omega arith) (rw e))
     go false e = written P (writable-short P e) (write-accepted P B (fits-ground P B h e))
 
-module _ (input B O : List ℕ) (x : Counted) (E : WritePromise (writes (decode input) B) x O) where
+module _ (input B O : List ℕ) (x : Result ℕ Refusal) (E : WritePromise (writes (decode input) B) x O) where
   -- what the answer and the text left by it give
-  given_by : (y : Counted) → x ≡ y → written_text (count_values y, O) ≡ input_text input B
+  given_by : (y : Result ℕ Refusal) → x ≡ y → written_text (count_values y, O) ≡ input_text input B
   unfolding input_text
   given_by y q = λ i. written_text ((ap count_values (sym q) ∙ E.values-are) i, E.text-is i)
 
-  pub gives-refusal : (n : ℕ) → x ≡ Refused n → Gives (input_text input B) (Refusal n) O
-  unfolding written_text count_refused count_values CountTold outcome_of named_bytes
-  gives-refusal n q =
-      let some : n ≢ 0 = subst CountTold q E.told in
-      record { outcome-is = sym (ap (λ (b : Bool). pick b (output (take 0 O ++ line_end)) (refused n)) (ne_eqb n 0 some)) ∙ given_by (Refused n) q; within = omega arith }
+  pub gives-refusal : (g : Refusal) → x ≡ Err g → Gives (input_text input B) (Err (Ground g)) O
+  unfolding written_text count_refused count_values refused_number outcome_of named_bytes
+  gives-refusal g q =
+      let n = refusal_number g in
+      record { outcome-is = sym (ap (λ (b : Bool). pick b (output (take 0 O ++ line_end)) (refused n)) (ne_eqb n 0 (number-some g))) ∙ given_by (Err g) q; within = omega arith }
 
-  module _ (n : ℕ) (q : x ≡ Accepted n) (h : text_room ≤ length B) (same : length O ≡ length B) where
+  module _ (n : ℕ) (q : x ≡ Ok n) (h : text_room ≤ length B) (same : length O ≡ length B) where
     pub few_bytes : n ≤ 4096
     unfolding count_values count_refused count_accepted
     few_bytes = go (cases (decode input) B h)
@@ -74,12 +76,12 @@ module _ (input B O : List ℕ) (x : Counted) (E : WritePromise (writes (decode 
         go (no_text e) = let z : ◌≡◌ {A = ℕ} 0 17 = ap (λ (a : CountValues). a.number) v ∙ ap (λ (p : CountValues × List ℕ). p.0.number) e in absurd (omega arith)
         go (written P s e) = let z : n ≡ length (plan_text P) = ap (λ (a : CountValues). a.count) v ∙ ap (λ (p : CountValues × List ℕ). p.0.count) e in omega arith
 
-    pub gives-bytes : (end : ℕ) (O' : List ℕ) → Puts n (10 ∷ []) O end O' → Gives (input_text input B) (Bytes end) O'
+    pub gives-bytes : (end : ℕ) (O' : List ℕ) → Puts n (10 ∷ []) O end O' → Gives (input_text input B) (Ok end) O'
     unfolding written_text count_accepted count_values outcome_of named_bytes
     gives-bytes end O' P =
         let there : n < length O = omega (arith, few_bytes) in
         let bytes : take end O' ≡ take n O ++ (10 ∷ []) = (λ i. take ((P.end_is ∙ add-one n) i) (P.out-is i)) ∙ take-suc-set O n 10 there in
-        record { outcome-is = ap output bytes ∙ given_by (Accepted n) q; within = omega (arith, P.end_is, ap length P.out-is, length-set O n 10) }
+        record { outcome-is = ap output bytes ∙ given_by (Ok n) q; within = omega (arith, P.end_is, ap length P.out-is, length-set O n 10) }
 
 -- What is printed for the table of a plan that can be written: its text and a line end.
 pub printed-text : (input B : List ℕ) (P : Plan) → text_room ≤ length B → decode input ≡ sound P → unwritable P ≡ false → input_text input B ≡ output (plan_text P ++ line_end)

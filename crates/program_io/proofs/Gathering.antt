@@ -6,13 +6,11 @@ use native.Mathlib.Omega.{arith}
 use lib.ListN.{length}
 use Rattle.text_put.specs.inner.Puts.{Puts}
 use Rattle.text_put.proofs.Putting.{puts_none, puts-more, puts-length}
-use Rattle.program_bytes.specs.declared.Given.{Given}
-use Rattle.program_bytes.specs.declared.Given.TheVariants.{Bytes}
+use Rattle.std.specs.Prelude.{Result, Ok}
+use Rattle.program_bytes.specs.declared.Refused.{Refused}
 use Rattle.program_bytes.specs.Outcome.{named_bytes, Kept}
 use Rattle.program_bytes.proofs.Keeping.{puts-kept}
-use Rattle.program_io.specs.declared.Input.{Input}
-use Rattle.program_io.specs.declared.Input.TheVariants as input
-use Rattle.program_io.specs.inner.Known.{Gathered, KnownKept, KnownInput}
+use Rattle.program_io.specs.inner.Known.{Gathered, KnownKept}
 
 module _ (before : List ℕ) where
   pub gathered_none : Gathered before 0 before
@@ -25,27 +23,21 @@ module _ (before : List ℕ) where
     pub gathered-length : length table ≡ length before
     gathered-length = puts-length 0 before G.input at table G.put
 
-    gathered-kept : (n : ℕ) → min (length table) at ≡ n → KnownInput (input.Kept n) table
-    unfolding KnownInput
+    gathered-kept : (n : ℕ) → min (length table) at ≡ n → KnownKept n table
     gathered-kept n e = record { input = G.input; kept = subst (λ (k : ℕ). Kept G.input k table) e (puts-kept G.input before at table G.put) }
 
     -- the input ended before the places did, or the places first
-    pub known-ended : at ≤ length table → KnownInput (input.Kept at) table
+    pub known-ended : at ≤ length table → KnownKept at table
     known-ended h = gathered-kept at (omega arith)
 
-    pub known-full : length table ≤ at → KnownInput (input.Kept (length table)) table
+    pub known-full : length table ≤ at → KnownKept (length table) table
     known-full h = gathered-kept (length table) (omega arith)
 
-pub known-failed : (table : List ℕ) → KnownInput input.Failed table
-unfolding KnownInput
-known-failed table = tt
-
 -- the bytes that are kept are in the table
-pub known-within : (x : Input) (n : ℕ) (table : List ℕ) → KnownInput x table → x ≡ input.Kept n → n ≤ length table
-unfolding KnownInput
-known-within x n table K e = let L : KnownKept n table = subst (λ (y : Input). KnownInput y table) e K in omega (arith, L.kept.count-is)
+pub known-within : (n : ℕ) (table : List ℕ) → KnownKept n table → n ≤ length table
+known-within n table K = omega (arith, K.kept.count-is)
 
 -- the bytes that are given are in the table
-pub given-within : (g : Given) (n : ℕ) (table : List ℕ) → named_bytes g ≤ length table → g ≡ Bytes n → n ≤ length table
+pub given-within : (g : Result ℕ Refused) (n : ℕ) (table : List ℕ) → named_bytes g ≤ length table → g ≡ Ok n → n ≤ length table
 unfolding named_bytes
-given-within g n table h e = subst (λ (y : Given). named_bytes y ≤ length table) e h
+given-within g n table h e = subst (λ (y : Result ℕ Refused). named_bytes y ≤ length table) e h

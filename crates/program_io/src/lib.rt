@@ -1,42 +1,32 @@
 // Standard input and output of plantable and plantext. Paper 02, request 2026-02.
 #![tactic(auto)]
 
-ghost use Rattle.std.specs.Prelude.{◌≤◌, length};
+ghost use Rattle.std.specs.Prelude.{◌≤◌, length, IfOk};
 ghost use Rattle.program_bytes.specs.Outcome.{named_bytes};
-ghost use Rattle.program_io.specs.inner.Known.{most_kept, KnownInput};
+ghost use Rattle.program_io.specs.inner.Known.{most_kept, KnownKept};
 
 use planroot_print::{Line, put_line};
-use program_bytes::Given;
+use program_bytes::Refused;
 use std::io;
 use std::io::Read;
 use text_put::put_bytes;
 
-// How many bytes of standard input are kept; or a read failed.
-#[derive(Clone, Copy)]
-pub enum Input {
-    Kept(usize),
-    Failed,
-}
-
-// Keeps the bytes of a reader at the front of a lent table, to its end or as many as there are places for. Each piece has a byte at
-// least, so the places run out if the reader does not.
-pub fn gather<R: Read>(reader: &mut R, kept: &mut [u8]) -> Input
+// Keeps the bytes of a reader at the front of a lent table, to its end or as many as there are places for: how many they are. Each
+// piece has a byte at least, so the places run out if the reader does not.
+pub fn gather<R: Read>(reader: &mut R, kept: &mut [u8]) -> io::Result<usize>
     requires { length kept.old ≤ most_kept }
-    ensures { KnownInput result kept.new }
+    ensures { IfOk result (λ n. KnownKept n kept.new) }
 {
     let mut at = 0;
     let mut piece = [0u8; 4096];
     while at < kept.len() {
-        let n = match reader.read(&mut piece) {
-            Ok(n) => n,
-            Err(_) => return Input::Failed,
-        };
+        let n = reader.read(&mut piece)?;
         if n == 0 {
-            return Input::Kept(at);
+            return Ok(at);
         }
         at = put_bytes(kept, at, &piece[..n]);
     }
-    Input::Kept(kept.len())
+    Ok(kept.len())
 }
 
 // "`refused N` on standard error and nothing on standard output". The exit status is 0 then, as planroot's is on a refusal.
@@ -47,11 +37,11 @@ fn refuse(rt: &HostRuntime, number: u8) -> io::Result<()> {
 }
 
 // Writes what is given: an error where standard output, or standard error for a refusal, does not take it.
-pub fn give(rt: &HostRuntime, given: Given, table: &[u8]) -> io::Result<()>
+pub fn give(rt: &HostRuntime, given: Result<usize, Refused>, table: &[u8]) -> io::Result<()>
     requires { named_bytes given ≤ length table.now }
 {
     match given {
-        Given::Bytes(n) => rt.write_all(&table[..n]),
-        Given::Refusal(n) => refuse(rt, n),
+        Ok(n) => rt.write_all(&table[..n]),
+        Err(r) => refuse(rt, r.number()),
     }
 }

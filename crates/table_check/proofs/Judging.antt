@@ -1,6 +1,6 @@
 -- The check of records: what a part that is sound looks like, and what follows from the checks of its parts. Assumes nothing.
 use mathlib.Core.Path.{◌≡◌, refl, sym, ap, ap₂, ◌∙◌, subst}
-use mathlib.Core.Bool.{Bool, true, false, false≢true, true≢false}
+use mathlib.Core.Bool.{Bool, true, false, false≢true}
 use mathlib.Core.List.{List, [], ◌∷◌, ◌++◌}
 use Prim.Native.Nat.{ℕ, suc, ◌+◌, ◌-◌, ◌*◌, ◌^◌, ◌≤◌, ◌<◌}
 use native.Mathlib.Nat.{le_trans, pow-le-pow_left, pow-le-pow_right}
@@ -10,16 +10,18 @@ use lib.Bits.{bit_or}
 use lib.Dec.{eqb}
 use lib.ListN.{length, take, drop, set, length-take, length-drop}
 use borrow.Author.Tests.{eqb-true, eq-eqb, leb-true}
+use Rattle.std.specs.Prelude.{Some}
 use Rattle.logic.specs.Formula.{Node, Forest, none, tree, kind_number, node_count, child_depth}
 use Rattle.logic.specs.Cells.{cell_count, first_cells}
 use Rattle.logic.proofs.Lists.{and-true}
 use Rattle.table_check.specs.declared.Checked.{Checked}
 use Rattle.table_check.specs.declared.CheckedTree.{CheckedTree}
+use Rattle.table_format.specs.declared.Index.{Index}
 use Rattle.table_format.specs.Bytes.{record_length, kind_field, relation_field, a_field, b_field, parent_field, end_field, node_of, record_of, records}
 use Rattle.table_format.specs.Rules.{every_node, tree_count, arity_rule, may_nest, nesting_rule, depth_rule, inner_rule, node_rule}
 use Rattle.table_format.specs.inner.Index.{ends, node_uses, forest_uses, uses_table, laid}
 use Rattle.table_format.specs.inner.Tests.{field_rule, record_rule, kind_depth, kind_width, kind_uses, Sound}
-use Rattle.table_check.specs.inner.Check.{Placed, PartIndexed, Judged, FirstRecord, EndJudged, FirstTree, TreeJudged}
+use Rattle.table_check.specs.inner.Check.{Placed, PartIndexed, Judged, FirstRecord, FirstTree, TreeJudged}
 use Rattle.table_format.proofs.Conjunctions.{two-true, four-true}
 use Rattle.table_format.proofs.Parts.{siblings_of, cancel-le, cancel-children, no_record, span-within, length-children, parts_join, first_below, children-below}
 use Rattle.table_format.proofs.Bytes.{record-pos, kind-of-record, relation-of-record, a-of-record, b-of-record, parent-of-record, end-of-record, record_is}
@@ -98,26 +100,14 @@ opened none s h = absurd (h (ap length s.is))
 opened {i} {parent} {d} {sets} {above} (tree n c s) x h =
     subst (λ (l : List ℕ). Opened l i parent d sets above) (sym x.is) (opened-tree n c s i parent d sets above x.rules x.nested)
 
--- A refusal stands where no forest is sound.
-pub refuse : {l : List ℕ} {i parent d ports sets above first : ℕ} (r : Checked) {x y z x' y' z' : List ℕ} → r.ok ≡ false
-    → ((f : Forest) → Sound l i parent d sets above f → ⊥) → Judged l i parent d ports sets above first r x y z x' y' z'
-refuse r e h = record { accepts = λ q. absurd (false≢true (sym e ∙ q)); refuses = λ q f s. h f s }
-
-pub refuse-tree : {l : List ℕ} {i parent d ports sets above first : ℕ} (r : CheckedTree) {x y z x' y' z' : List ℕ} → r.ok ≡ false
-    → ((f : Forest) → Sound l i parent d sets above f → ⊥) → TreeJudged l i parent d ports sets above first r x y z x' y' z'
-refuse-tree r e h = record { accepts = λ q. absurd (false≢true (sym e ∙ q)); refuses = λ q f s. h f s }
-
-pub refuse-end : {l : List ℕ} {i parent d sets above : ℕ} → ((f : Forest) → Sound l i parent d sets above f → ⊥) → EndJudged l i parent d sets above 0
-refuse-end h = record { accepts = λ q. absurd (q refl); refuses = λ q f s. h f s }
-
-module _ (l : List ℕ) (i parent d sets above : ℕ) (some : length l ≡ 0 → ⊥) where
+module _ {l : List ℕ} {i parent d sets above : ℕ} (some : length l ≡ 0 → ⊥) where
   pub too_short : length l < record_length → (f : Forest) → Sound l i parent d sets above f → ⊥
   too_short h f s = some (no_record record_length record-pos (length l) (node_count f) (sound-length s) h)
 
   pub bad-record : record_rule sets d above parent l ≡ false → (f : Forest) → Sound l i parent d sets above f → ⊥
   bad-record h f s = false≢true (sym h ∙ (opened f s some).record-ok)
 
-  module _ (e : ℕ) (en : e ≡ end_field l) where
+  module _ {e : ℕ} (en : e ≡ end_field l) where
     pub early-end : e ≤ i → (f : Forest) → Sound l i parent d sets above f → ⊥
     early-end h f s = let o = (opened f s some).end_is in omega arith
 
@@ -136,7 +126,7 @@ module _ (l : List ℕ) (i parent d sets above : ℕ) (some : length l ≡ 0 →
     pub bad-rest : ((g : Forest) → Sound (later_of l i e) e parent d sets above g → ⊥) → (f : Forest) → Sound l i parent d sets above f → ⊥
     bad-rest h f s = let o = opened f s some in h o.siblings (rest-sound o)
 
-    module _ (kind : ℕ) (ki : kind ≡ kind_field l) where
+    module _ {kind : ℕ} (ki : kind ≡ kind_field l) where
       kids-sound : (o : Opened l i parent d sets above) → Sound (kids_of l i e) (i + 1) i (kind_depth kind d) sets kind o.children
       kids-sound o =
           let k = o.kids in
@@ -147,16 +137,16 @@ module _ (l : List ℕ) (i parent d sets above : ℕ) (some : length l ≡ 0 →
             nested = ap (λ (x : ℕ). nesting_rule x o.children) (ki ∙ o.kind) ∙ k.nested;
           }
 
-      module _ {ports first : ℕ} {r : Checked} {x y z x' y' z' : List ℕ} (j : Judged (kids_of l i e) (i + 1) i (kind_depth kind d) ports sets kind first r x y z x' y' z') where
-        pub bad-kids : r.ok ≡ false → (f : Forest) → Sound l i parent d sets above f → ⊥
-        bad-kids q f s = let o = opened f s some in j.refuses q o.children (kids-sound o)
+      pub bad-kids : ((f : Forest) → Sound (kids_of l i e) (i + 1) i (kind_depth kind d) sets kind f → ⊥) → (f : Forest) → Sound l i parent d sets above f → ⊥
+      bad-kids h f s = let o = opened f s some in h o.children (kids-sound o)
 
-        pub bad-arity : r.ok ≡ true → arity_rule kind r.trees ≡ false → (f : Forest) → Sound l i parent d sets above f → ⊥
-        bad-arity q a f s =
-            let o = opened f s some in
-            let g = j.accepts q in
-            let one : g.0 ≡ o.children = same-forest g.0 o.children (i + 1) i (sym g.1.is ∙ (kids-sound o).is) in
-            false≢true (sym a ∙ ap₂ arity_rule (ki ∙ o.kind) (g.2.trees ∙ ap tree_count one) ∙ o.arity)
+      pub bad-arity : {ports first : ℕ} {c : Checked} {x x' : Index}
+          → Judged (kids_of l i e) (i + 1) i (kind_depth kind d) ports sets kind first (Some c) x x'
+          → arity_rule kind c.trees ≡ false → (f : Forest) → Sound l i parent d sets above f → ⊥
+      bad-arity g a f s =
+          let o = opened f s some in
+          let one : g.0 ≡ o.children = same-forest g.0 o.children (i + 1) i (sym g.1.is ∙ (kids-sound o).is) in
+          false≢true (sym a ∙ ap₂ arity_rule (ki ∙ o.kind) (g.2.trees ∙ ap tree_count one) ∙ o.arity)
 
 pub cells-few : (u sets : ℕ) (f : Forest) (d : ℕ) → 1 ≤ u → u ≤ 64 → every_node (node_rule sets) f d ≡ true → cell_count u f d ≤ 262144 * node_count f
 unfolding cell_count node_count depth_rule
@@ -175,7 +165,7 @@ unfolding tree_count node_count
 trees-few none = omega arith
 trees-few (tree n c s) = omega (arith, trees-few s)
 
-module _ (l : List ℕ) (i parent d sets above e : ℕ) (h : FirstRecord l i parent d sets above e) where
+module _ {l : List ℕ} {i parent d sets above e : ℕ} (h : FirstRecord l i parent d sets above e) where
   abbrev node_here : Node
   node_here = node_of (kind_field l) (relation_field l) (a_field l) (b_field l)
 
@@ -219,14 +209,14 @@ module _ (l : List ℕ) (i parent d sets above e : ℕ) (h : FirstRecord l i par
     uses-here = sym (kind-uses node_here ∙ (λ j. kind_uses (node-here.kind-is j) (node-here.a-is j) (node-here.b-is j)))
 
     -- what is then known of the first tree
-    first-tree : (ports width first : ℕ) (rc : Checked) (r : CheckedTree) (x y z x₁ y₁ z₁ x₂ y₂ z₂ : List ℕ) → width ≡ ports ^ d
-        → PartIndexed (i + 1) (kind_depth (kind_field l) d) ports (first + width) c rc x y z x₁ y₁ z₁
+    first-tree : (ports width first : ℕ) (rc : Checked) (r : CheckedTree) (x x₁ x₂ : Index) → width ≡ ports ^ d
+        → PartIndexed (i + 1) (kind_depth (kind_field l) d) ports (first + width) c rc x x₁
         → arity_rule (kind_field l) (tree_count c) ≡ true
-        → (x₂ ≡ set x₁ i first) × (y₂ ≡ set y₁ i e) × (z₂ ≡ set z₁ i r.uses)
+        → (x₂.firsts ≡ set x₁.firsts i first) × (x₂.ends ≡ set x₁.ends i e) × (x₂.uses ≡ set x₁.uses i r.uses)
         → e ≡ r.end → r.cells ≡ width + rc.cells → r.uses ≡ bit_or (kind_uses (kind_field l) (a_field l) (b_field l)) rc.uses
-        → FirstTree l i parent d ports sets above first r x y z x₂ y₂ z₂ node_here c
+        → FirstTree l i parent d ports sets above first r x x₂ node_here c
     unfolding node_rule
-    first-tree ports width first rc r x y z x₁ y₁ z₁ x₂ y₂ z₂ u jc a m en ce us =
+    first-tree ports width first rc r x x₁ x₂ u jc a m en ce us =
         let k = node-here.kind-is in
         record {
           is = record-here
@@ -244,54 +234,48 @@ module _ (l : List ℕ) (i parent d sets above e : ℕ) (h : FirstRecord l i par
           used = us ∙ ap₂ bit_or uses-here jc.used;
           firsts-are = m.0
               ∙ ap (λ (t : List ℕ). set t i first)
-              (jc.firsts-are ∙ (λ j. laid x (add-one i j) (first_cells ports c (first + u j) (depth_below j))));
-          ends-are = m.1 ∙ ap₂ (λ (t : List ℕ) (w : ℕ). set t i w) (jc.ends-are ∙ (λ j. laid y (add-one i j) (ends c (add-one i j)))) en;
-          uses-are = m.2 ∙ ap (λ (t : List ℕ). set t i r.uses) (jc.uses-are ∙ ap (λ (j : ℕ). laid z j (uses_table c)) (add-one i));
+              (jc.firsts-are ∙ (λ j. laid x.firsts (add-one i j) (first_cells ports c (first + u j) (depth_below j))));
+          ends-are = m.1 ∙ ap₂ (λ (t : List ℕ) (w : ℕ). set t i w) (jc.ends-are ∙ (λ j. laid x.ends (add-one i j) (ends c (add-one i j)))) en;
+          uses-are = m.2 ∙ ap (λ (t : List ℕ). set t i r.uses) (jc.uses-are ∙ ap (λ (j : ℕ). laid x.uses j (uses_table c)) (add-one i));
         }
 
   -- the same over the numbers that the code reads
-  pub accept-tree : (kind a b ports width first : ℕ) (ki : kind ≡ kind_field l) (ai : a ≡ a_field l) (bi : b ≡ b_field l)
-      (rc : Checked) (r : CheckedTree) (x y z x₁ y₁ z₁ x₂ y₂ z₂ : List ℕ) → width ≡ ports ^ d
-      → Judged (kids_of l i e) (i + 1) i (kind_depth kind d) ports sets kind (first + width) rc x y z x₁ y₁ z₁ → rc.ok ≡ true
+  pub accept-tree : {kind a b ports width first used : ℕ} → kind ≡ kind_field l → a ≡ a_field l → b ≡ b_field l
+      → {rc : Checked} {x x₁ x₂ : Index} → width ≡ ports ^ d
+      → Judged (kids_of l i e) (i + 1) i (kind_depth kind d) ports sets kind (first + width) (Some rc) x x₁
       → arity_rule kind rc.trees ≡ true
-      → (x₂ ≡ set x₁ i first) × (y₂ ≡ set y₁ i e) × (z₂ ≡ set z₁ i r.uses)
-      → r.ok ≡ true → e ≡ r.end → r.cells ≡ width + rc.cells → r.uses ≡ bit_or (kind_uses kind a b) rc.uses
-      → TreeJudged l i parent d ports sets above first r x y z x₂ y₂ z₂
-  accept-tree kind a b ports width first ki ai bi rc r x y z x₁ y₁ z₁ x₂ y₂ z₂ u jk ok ar m good en cells_are uses-are =
-      let kids = (subst (λ (k : ℕ). Judged (kids_of l i e) (i + 1) i (kind_depth k d) ports sets k (first + width) rc x y z x₁ y₁ z₁) ki jk).accepts ok in
-      record {
-        accepts = λ q. (
-          node_here,
-          kids.0,
-          first-tree kids.0 kids.1 ports width first rc r x y z x₁ y₁ z₁ x₂ y₂ z₂ u kids.2 (ap₂ arity_rule (sym ki) (sym kids.2.trees) ∙ ar) m en cells_are
-              (uses-are ∙ (λ j. bit_or (kind_uses (ki j) (ai j) (bi j)) rc.uses)),
-        );
-        refuses = λ q. absurd (true≢false (sym good ∙ q));
-      }
+      → (x₂.firsts ≡ set x₁.firsts i first) × (x₂.ends ≡ set x₁.ends i e) × (x₂.uses ≡ set x₁.uses i used)
+      → used ≡ bit_or (kind_uses kind a b) rc.uses
+      → TreeJudged l i parent d ports sets above first (Some (record { end = e; cells = width + rc.cells; uses = used })) x x₂
+  accept-tree {ports} {width} {first} {used} ki ai bi {rc} {x} {x₁} {x₂} u jk ar m us =
+      let kids = subst (λ (k : ℕ). Judged (kids_of l i e) (i + 1) i (kind_depth k d) ports sets k (first + width) (Some rc) x x₁) ki jk in (
+        node_here,
+        kids.0,
+        first-tree kids.0 kids.1 ports width first rc (record { end = e; cells = width + rc.cells; uses = used }) x x₁ x₂ u kids.2
+            (ap₂ arity_rule (sym ki) (sym kids.2.trees) ∙ ar) m refl refl
+            (us ∙ (λ j. bit_or (kind_uses (ki j) (ai j) (bi j)) rc.uses)),
+      )
 
 -- no records are no trees
-pub accept-none : (l : List ℕ) (i parent d ports sets above first : ℕ) (r : Checked) (x y z : List ℕ) → length l ≡ 0 → r.ok ≡ true → r.trees ≡ 0 → r.cells ≡ 0 → r.uses ≡ 0
-    → Judged l i parent d ports sets above first r x y z x y z
+pub accept-none : (l : List ℕ) {i parent d ports sets above first : ℕ} {x : Index} → length l ≡ 0
+    → Judged l i parent d ports sets above first (Some (record { trees = 0; cells = 0; uses = 0 })) x x
 unfolding records every_node nesting_rule tree_count cell_count forest_uses first_cells ends uses_table
-accept-none [] i parent d ports sets above first r x y z h good t c u = record {
-  accepts = λ q. (
-    none,
-    record { is = refl; rules = refl; nested = refl },
-    record { trees = t; cells = c; used = u; firsts-are = sym (laid-nothing x i); ends-are = sym (laid-nothing y i); uses-are = sym (laid-nothing z i) },
-  );
-  refuses = λ q. absurd (true≢false (sym good ∙ q));
-}
-accept-none (b ∷ l) i parent d ports sets above first r x y z h good t c u = absurd (omega arith)
+accept-none [] {i} {x} h = (
+  none,
+  record { is = refl; rules = refl; nested = refl },
+  record { trees = refl; cells = refl; used = refl; firsts-are = sym (laid-nothing x.firsts i); ends-are = sym (laid-nothing x.ends i); uses-are = sym (laid-nothing x.uses i) },
+)
+accept-none (b ∷ l) h = absurd (omega arith)
 
 -- where the children stand
-pub placed-kids : (l : List ℕ) (i parent d ports sets above width first e : ℕ) (x y z : List ℕ) → Placed l i parent d ports sets width first x y z
+pub placed-kids : {l : List ℕ} {i parent d ports sets above width first e : ℕ} {x : Index} → Placed l i parent d ports sets width first x
     → FirstRecord l i parent d sets above e → (kind : ℕ)
-    → Placed (kids_of l i e) (i + 1) i (kind_depth kind d) ports sets (kind_width kind width ports) (first + width) x y z
-placed-kids l i parent d ports sets above width first e x y z place h kind =
-    let low = depth-here l i parent d sets above e h in
+    → Placed (kids_of l i e) (i + 1) i (kind_depth kind d) ports sets (kind_width kind width ports) (first + width) x
+placed-kids {l} {i} {d} {ports} {width} {e} place h kind =
+    let low = depth-here h in
     let w = width_low ports d place.ports1 place.ports64 low in
     record {
-      few = rw (length-kids l i parent d sets above e h) (children-below record_length record-pos i e (length l) 512 h.after h.within place.few);
+      few = rw (length-kids h) (children-below record_length record-pos i e (length l) 512 h.after h.within place.few);
       parents = omega (arith, first_below record_length record-pos i (length l) 512 h.long place.few);
       ports1 = place.ports1;
       ports64 = place.ports64;
@@ -299,13 +283,11 @@ placed-kids l i parent d ports sets above width first e x y z place h kind =
       width_is = kind-width kind width ports d place.width_is;
       depth = omega (arith, kind-depth-le kind d, low);
       first-low = omega (arith, place.first-low, place.width_is, w);
-      room-firsts = place.room-firsts;
-      room-ends = place.room-ends;
-      room-uses = place.room-uses;
+      room = place.room;
     }
 
 -- the numbers of a place are small
-pub placed-low : {l : List ℕ} {i parent d ports sets width first : ℕ} {x y z : List ℕ} → Placed l i parent d ports sets width first x y z
+pub placed-low : {l : List ℕ} {i parent d ports sets width first : ℕ} {x : Index} → Placed l i parent d ports sets width first x
     → (width ≤ 16777216) × (first ≤ 536870912) × (length l ≤ record_length * 512)
 placed-low {i} {d} {ports} p =
     let w : ports ^ d ≤ 16777216 = le_trans (pow-le-pow_left p.ports64 d) (pow-le-pow_right (omega arith) p.depth) in
@@ -313,11 +295,10 @@ placed-low {i} {d} {ports} p =
     (omega (arith, p.width_is), omega (arith, p.first-low), omega (arith, p.few))
 
 -- and so is what is counted in a part of a short part
-pub counted-low : (whole : List ℕ) (a b : ℕ) {i parent d ports sets above first : ℕ} (r : Checked) {x y z x' y' z' : List ℕ}
-    → Judged (take a (drop b whole)) i parent d ports sets above first r x y z x' y' z' → r.ok ≡ true → 1 ≤ ports → ports ≤ 64
+pub counted-low : (whole : List ℕ) (a b : ℕ) {i parent d ports sets above first : ℕ} {r : Checked} {x x' : Index}
+    → Judged (take a (drop b whole)) i parent d ports sets above first (Some r) x x' → 1 ≤ ports → ports ≤ 64
     → length whole ≤ record_length * 512 → (r.trees ≤ 512) × (r.cells ≤ 134217728)
-counted-low whole a b {d} {ports} {sets} r j ok u1 u64 few =
-    let f = j.accepts ok in
+counted-low whole a b {d} {ports} {sets} f u1 u64 few =
     let n = node_count f.0 in
     let short : n ≤ 512 = cancel-le record_length record-pos n 512
     (omega (arith, sound-length f.1, length-take a (drop b whole), length-drop b whole)) in

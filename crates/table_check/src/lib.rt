@@ -2,11 +2,12 @@
 // Paper 01, section Plan table.
 #![tactic(auto)]
 
-ghost use Rattle.std.specs.Prelude.{◌≡◌, false, ◌+◌, ◌≤◌, ◌<◌, length, set};
-ghost use Rattle.table_check.specs.inner.Check.{PlanJudged, IndexRoom, Placed, Judged, EndJudged, TreeJudged};
-ghost use Rattle.table_format.specs.inner.Tests.{kind_depth, kind_width};
+ghost use Rattle.std.specs.Prelude.{◌≡◌, ◌+◌, ◌≤◌, ◌<◌, length, set};
+ghost use Rattle.table_check.specs.inner.Check.{PlanJudged, IndexRoom, PlacedAt, JudgedAt, EndJudgedAt, TreeJudgedAt, children_place};
 
-use table_format::{RECORD, a_of, b_of, below_root, end_of, kind_of, nodes_of, ports_of, sets_of};
+use table_format::{
+    Index, RECORD, a_of, b_of, below_root, end_of, kind_of, nodes_of, ports_of, sets_of,
+};
 use table_rules::{arity_ok, child_depth, child_width, front_ok, record_ok, uses_of};
 
 // A plan has at most so many cells.
@@ -15,7 +16,6 @@ const MOST_CELLS: usize = 1048576;
 // What the check of some records finds: how many trees they are, their cells, and which sets they use.
 #[derive(Clone, Copy)]
 pub struct Checked {
-    pub ok: bool,
     pub trees: usize,
     pub cells: usize,
     pub uses: u64,
@@ -24,73 +24,46 @@ pub struct Checked {
 // What the check of one tree finds: the node behind it, its cells, and which sets it uses.
 #[derive(Clone, Copy)]
 pub struct CheckedTree {
-    pub ok: bool,
     pub end: usize,
     pub cells: usize,
     pub uses: u64,
 }
 
-// The entries of node i in the index tables.
-fn note(
-    i: usize,
-    first: usize,
-    end: usize,
-    used: u64,
-    firsts: &mut [u32; 512],
-    ends: &mut [u16; 512],
-    uses: &mut [u64; 512],
-)
+// Where the trees of some records stand: the node above them and its kind, their depth, and the cells of a node at that depth. Ports
+// and sets are the plan's.
+#[derive(Clone, Copy)]
+struct Place {
+    parent: usize,
+    above: u8,
+    depth: usize,
+    ports: usize,
+    sets: usize,
+    width: usize,
+}
+
+// The entries of node i in the index.
+fn note(i: usize, first: usize, end: usize, used: u64, index: &mut Index)
     requires { (i < 512) × (first < 4294967296) × (end < 65536) }
-    ensures { (firsts.new ≡ set firsts.old i first) × (ends.new ≡ set ends.old i end) × (uses.new ≡ set uses.old i used) }
+    ensures { (index.new.firsts ≡ set index.old.firsts i first) × (index.new.ends ≡ set index.old.ends i end) × (index.new.uses ≡ set index.old.uses i used) }
 {
-    firsts[i] = first as u32;
-    ends[i] = end as u16;
-    uses[i] = used;
+    index.firsts[i] = first as u32;
+    index.ends[i] = end as u16;
+    index.uses[i] = used;
 }
 
-// No forest that keeps the rules.
-fn broken() -> Checked
-    ensures { result.ok ≡ false }
-{
-    Checked {
-        ok: false,
-        trees: 0,
-        cells: 0,
-        uses: 0,
-    }
-}
-
-// No tree that keeps the rules.
-fn broken_tree() -> CheckedTree
-    ensures { result.ok ≡ false }
-{
-    CheckedTree {
-        ok: false,
-        end: 0,
-        cells: 0,
-        uses: 0,
-    }
-}
-
-// The end of a part's first tree, or 0 where its record breaks a rule or the part is too short for it.
-fn tree_end(part: &[u8], i: usize, parent: usize, depth: usize, above: u8, sets: usize) -> usize
+// The end of a part's first tree, or None where its record breaks a rule or the part is too short for it.
+fn tree_end(part: &[u8], i: usize, place: &Place) -> Option<usize>
     requires { 1 ≤ length part.now }
-    ensures { EndJudged part.now i parent depth sets above result }
+    ensures { EndJudgedAt part.now i place.now result }
 {
-    if part.len() < RECORD {
-        return 0;
-    }
-    if !record_ok(part, parent, depth, above, sets) {
-        return 0;
+    if part.len() < RECORD || !record_ok(part, place.parent, place.depth, place.above, place.sets) {
+        return None;
     }
     let end = end_of(part);
-    if end <= i {
-        return 0;
+    if end <= i || part.len() < RECORD * (end - i) {
+        return None;
     }
-    if part.len() < RECORD * (end - i) {
-        return 0;
-    }
-    end
+    Some(end)
 }
 
 // Checks a part's first tree, node i and its children, and fills the index tables with what it finds.
@@ -98,43 +71,27 @@ fn tree_end(part: &[u8], i: usize, parent: usize, depth: usize, above: u8, sets:
 fn check_tree(
     part: &[u8],
     i: usize,
-    parent: usize,
-    depth: usize,
-    above: u8,
-    ports: usize,
-    sets: usize,
-    width: usize,
+    place: &Place,
     first: usize,
-    firsts: &mut [u32; 512],
-    ends: &mut [u16; 512],
-    uses: &mut [u64; 512],
-) -> CheckedTree
-    requires { (1 ≤ length part.now) × Placed part.now i parent depth ports sets width first firsts.old ends.old uses.old }
-    ensures { TreeJudged part.now i parent depth ports sets above first result firsts.old ends.old uses.old firsts.new ends.new uses.new }
+    index: &mut Index,
+) -> Option<CheckedTree>
+    requires { (1 ≤ length part.now) × PlacedAt part.now i place.now first index.old }
+    ensures { TreeJudgedAt part.now i place.now first result index.old index.new }
 {
-    let end = tree_end(part, i, parent, depth, above, sets);
-    if end == 0 {
-        return broken_tree();
-    }
+    let end = tree_end(part, i, place)?;
     let kind = kind_of(part);
     let children = &part[RECORD..RECORD * (end - i)];
-    let c = check_children(
-        children, i, kind, depth, ports, sets, width, first, firsts, ends, uses,
-    );
-    if !c.ok {
-        return broken_tree();
-    }
+    let c = check_children(children, i, kind, place, first, index)?;
     if !arity_ok(kind, c.trees) {
-        return broken_tree();
+        return None;
     }
     let used = uses_of(kind, a_of(part), b_of(part)) | c.uses;
-    note(i, first, end, used, firsts, ends, uses);
-    CheckedTree {
-        ok: true,
-        end: end,
-        cells: width + c.cells,
+    note(i, first, end, used, index);
+    Some(CheckedTree {
+        end,
+        cells: place.width + c.cells,
         uses: used,
-    }
+    })
 }
 
 // Checks the children of node i, a node of some kind. Most nodes have none: that is answered here, since a call costs more.
@@ -143,42 +100,28 @@ fn check_children(
     part: &[u8],
     i: usize,
     kind: u8,
-    depth: usize,
-    ports: usize,
-    sets: usize,
-    width: usize,
+    place: &Place,
     first: usize,
-    firsts: &mut [u32; 512],
-    ends: &mut [u16; 512],
-    uses: &mut [u64; 512],
-) -> Checked
-    requires { (depth ≤ 4) × (width ≤ 16777216) × Placed part.now (i + 1) i (kind_depth kind depth) ports sets (kind_width kind width ports) (first + width) firsts.old ends.old uses.old }
-    ensures { Judged part.now (i + 1) i (kind_depth kind depth) ports sets kind (first + width) result firsts.old ends.old uses.old firsts.new ends.new uses.new }
+    index: &mut Index,
+) -> Option<Checked>
+    requires { (place.now.depth ≤ 4) × (place.now.width ≤ 16777216) × PlacedAt part.now (i + 1) (children_place i kind place.now) (first + place.now.width) index.old }
+    ensures { JudgedAt part.now (i + 1) (children_place i kind place.now) (first + place.now.width) result index.old index.new }
 {
-    if part.len() == 0 {
-        return Checked {
-            ok: true,
+    if part.is_empty() {
+        return Some(Checked {
             trees: 0,
             cells: 0,
             uses: 0,
-        };
+        });
     }
-    let below = child_depth(kind, depth);
-    let wider = child_width(kind, width, ports);
-    check_forest(
-        part,
-        i + 1,
-        i,
-        below,
-        kind,
-        ports,
-        sets,
-        wider,
-        first + width,
-        firsts,
-        ends,
-        uses,
-    )
+    let below = Place {
+        parent: i,
+        above: kind,
+        depth: child_depth(kind, place.depth),
+        width: child_width(kind, place.width, place.ports),
+        ..*place
+    };
+    check_forest(part, i + 1, &below, first + place.width, index)
 }
 
 // Checks the records of some trees, the first of them node i, and fills the index tables with what it finds. Each record is
@@ -188,113 +131,70 @@ fn check_children(
 fn check_forest(
     part: &[u8],
     i: usize,
-    parent: usize,
-    depth: usize,
-    above: u8,
-    ports: usize,
-    sets: usize,
-    width: usize,
+    place: &Place,
     first: usize,
-    firsts: &mut [u32; 512],
-    ends: &mut [u16; 512],
-    uses: &mut [u64; 512],
-) -> Checked
-    requires { Placed part.now i parent depth ports sets width first firsts.old ends.old uses.old }
-    ensures { Judged part.now i parent depth ports sets above first result firsts.old ends.old uses.old firsts.new ends.new uses.new }
+    index: &mut Index,
+) -> Option<Checked>
+    requires { PlacedAt part.now i place.now first index.old }
+    ensures { JudgedAt part.now i place.now first result index.old index.new }
 {
-    let mut at = 0;
+    let mut rest = part;
     let mut node = i;
     let mut trees = 0;
     let mut cells = 0;
     let mut used = 0;
-    while at < part.len() {
-        let t = check_tree(
-            &part[at..],
-            node,
-            parent,
-            depth,
-            above,
-            ports,
-            sets,
-            width,
-            first + cells,
-            firsts,
-            ends,
-            uses,
-        );
-        if !t.ok {
-            return broken();
-        }
-        at += RECORD * (t.end - node);
+    while !rest.is_empty() {
+        let t = check_tree(rest, node, place, first + cells, index)?;
+        rest = &rest[RECORD * (t.end - node)..];
         node = t.end;
         trees += 1;
         cells += t.cells;
-        used = used | t.uses;
+        used |= t.uses;
     }
-    Checked {
-        ok: true,
-        trees: trees,
-        cells: cells,
+    Some(Checked {
+        trees,
+        cells,
         uses: used,
-    }
+    })
 }
 
 // What the check of a whole table finds.
 #[derive(Clone, Copy)]
 pub struct Info {
-    pub ok: bool,
     pub ports: usize,
     pub sets: usize,
     pub nodes: usize,
     pub cells: usize,
 }
 
-// No plan's table.
-fn no_plan() -> Info
-    ensures { result.ok ≡ false }
-{
-    Info {
-        ok: false,
-        ports: 0,
-        sets: 0,
-        nodes: 0,
-        cells: 0,
-    }
-}
-
 // Checks a plan table (ground 11) and fills the index tables: linear in the table, whatever its shape.
-pub fn check(
-    table: &[u8],
-    firsts: &mut [u32; 512],
-    ends: &mut [u16; 512],
-    uses: &mut [u64; 512],
-) -> Info
-    requires { IndexRoom firsts.old ends.old uses.old }
-    ensures { PlanJudged table.now result firsts.old ends.old uses.old firsts.new ends.new uses.new }
+pub fn check(table: &[u8], index: &mut Index) -> Option<Info>
+    requires { IndexRoom index.old }
+    ensures { PlanJudged table.now result index.old index.new }
 {
     if !front_ok(table) {
-        return no_plan();
+        return None;
     }
     let ports = ports_of(table);
     let sets = sets_of(table);
     let nodes = nodes_of(table);
-    let below = below_root(table, nodes);
-    let c = check_forest(below, 1, 0, 0, 0, ports, sets, 1, 1, firsts, ends, uses);
-    if !c.ok {
-        return no_plan();
+    let below = Place {
+        parent: 0,
+        above: 0,
+        depth: 0,
+        ports,
+        sets,
+        width: 1,
+    };
+    let c = check_forest(below_root(table, nodes), 1, &below, 1, index)?;
+    if c.trees != 1 || MOST_CELLS <= c.cells {
+        return None;
     }
-    if c.trees != 1 {
-        return no_plan();
-    }
-    if MOST_CELLS <= c.cells {
-        return no_plan();
-    }
-    note(0, 0, nodes, c.uses, firsts, ends, uses);
-    Info {
-        ok: true,
-        ports: ports,
-        sets: sets,
-        nodes: nodes,
+    note(0, 0, nodes, c.uses, index);
+    Some(Info {
+        ports,
+        sets,
+        nodes,
         cells: c.cells + 1,
-    }
+    })
 }

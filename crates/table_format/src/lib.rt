@@ -5,15 +5,39 @@ ghost use Rattle.std.specs.Prelude.{◌≡◌, ◌&&◌, ◌<◌, ◌+◌, ◌*�
 ghost use Rattle.table_format.specs.inner.Fields.{FieldIs};
 ghost use Rattle.table_format.specs.Bytes.{header_length, record_length, records_from, table_bytes, word_field, word_bytes, kind_field, relation_field, a_field, b_field, parent_field, end_field, marked, version_field, ports_field, sets_field, nodes_field, records_of, record_at, header};
 ghost use Rattle.table_format.specs.inner.Tests.{below_root};
+ghost use Rattle.table_format.specs.inner.Index.{blank_index};
 ghost use Rattle.table_format.specs.inner.Written.{field_bytes, Written};
 
-// A node's own bytes.
+// A node's own bytes. Kind and relation stay bytes and are no enums: a damaged table holds any byte, and the rules of a table
+// (`field_rule`, `kind_depth`, `test_of`) are over them as numbers.
 #[derive(Clone, Copy)]
 pub struct Fields {
     pub kind: u8,
     pub relation: u8,
     pub a: u8,
     pub b: u8,
+}
+
+// What the check of a table notes of each node: its first cell, the node behind all that stand below it, and the sets used at or
+// below it, four bits a set. Three arrays and not one of records: a walk tests the sets of most nodes and reads nothing else of them.
+#[derive(Clone, Copy)]
+pub struct Index {
+    pub firsts: [u32; 512],
+    pub ends: [u16; 512],
+    pub uses: [u64; 512],
+}
+
+impl Index {
+    // Before the check: nothing is noted.
+    pub fn new() -> Index
+        ensures { result ≡ blank_index }
+    {
+        Index {
+            firsts: [0; 512],
+            ends: [0; 512],
+            uses: [0; 512],
+        }
+    }
 }
 
 // The length of a record and the places of its fields, and the same of the header.

@@ -4,19 +4,20 @@
 ghost use Rattle.std.specs.Prelude.{◌≡◌, ◌≤◌, ◌<◌, length};
 ghost use Rattle.test_change.specs.inner.Holders.{held_bit, size_bits, TellsTest};
 
-use cells_size::mask_at;
 use cells_touch::{Changed, size_bit};
-use logic::{has_port, wide};
+use logic::has_port;
 
 // The size bit of a set if its mask holds a port, else none.
+#[tactic(auto, unfolding(crate::specs::inner::Holders::held_bit))]
 fn held_bit(mask: u64, set: usize, port: u32) -> u64
     requires { (set < 16) × (port < 64) }
     ensures { result ≡ held_bit mask set port }
 {
     if has_port(mask, port) {
-        return size_bit(set);
+        size_bit(set)
+    } else {
+        0
     }
-    0
 }
 
 // The size bits of the sets that hold a port.
@@ -25,10 +26,8 @@ fn size_bits(masks: &[u64], sets: usize, port: u32) -> u64
     ensures { result ≡ size_bits masks.now port sets }
 {
     let mut word = 0u64;
-    let mut s = 0;
-    while s < sets {
-        word = word | held_bit(mask_at(masks, s), s, port);
-        s += 1;
+    for (set, mask) in masks[..sets].iter().enumerate() {
+        word |= held_bit(*mask, set, port);
     }
     word
 }
@@ -38,7 +37,7 @@ pub fn test_change(masks: &[u64], sets: usize, port: u32) -> Changed
     requires { (sets ≤ 16) × (sets ≤ length masks.now) × (port < 64) }
     ensures { TellsTest sets masks.now port result }
 {
-    let at = wide(port);
+    let at = port as usize;
     Changed {
         p: at,
         q: at,

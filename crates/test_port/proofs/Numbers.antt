@@ -14,10 +14,6 @@ use Rattle.logic.specs.Moves.{refusal}
 use Rattle.logic.specs.InTest.{test_grounds}
 use Rattle.test_port.specs.inner.Port.{PortNumber}
 
-pub beside-true : (b : Bool) → b ≡ beq true b
-beside-true true = refl
-beside-true false = refl
-
 module _ (ports sets : ℕ) (into : Bool) (p : ℕ) (masks : List ℕ) where
   by_tests : (P : Plan) → P.sets ≡ sets → (a b : Bool) → ltb p P.ports ≡ a → beq (in_mask (get_or masks sets 0) p) into ≡ b
       → refusal (test_grounds P (in_masks (take (mask_count sets) masks)) into p) ≡ cond (not a) 14 (cond b 20 0)

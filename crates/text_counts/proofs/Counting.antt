@@ -1,12 +1,16 @@
 -- Totals: the cells and nodes of the core, and how they are held up to a limit. Assumes nothing.
 use mathlib.Core.Path.{◌≡◌, refl, sym, ap, ◌∙◌}
-use mathlib.Core.Bool.{Bool, true, false, not}
+use mathlib.Core.Bool.{Bool, true, false, not, true≢false}
 use mathlib.Core.List.{List, [], ◌∷◌}
+use mathlib.Core.Logic.{◌⊎◌, inl, inr}
 use Prim.Native.Nat.{ℕ, zero, suc, ◌+◌, ◌*◌, ◌-◌, ◌^◌, ◌≤◌, ◌<◌, min}
-use native.Mathlib.Nat.{pow-zero, pow-suc, mul-add, mul_assoc, mul-one, one-mul, mul-le-mul, mul-le-mul_right}
+use native.Mathlib.Nat.{pow-zero, pow-suc, mul-add, mul_assoc, mul-one, one-mul, mul-le-mul_right}
 use native.Mathlib.Omega.{arith}
 use lib.ListN.{length, get_or}
-use Rattle.logic.specs.Formula.{Node, and, or, Forest, none, tree, child_depth, node_count}
+use borrow.Author.Tests.{lt-ltb}
+use Rattle.std.proofs.lemmas.Bool.{cases_lt}
+use Rattle.logic.proofs.Lists.{or-true-left}
+use Rattle.logic.specs.Formula.{Node, Forest, none, tree, child_depth, node_count}
 use Rattle.logic.specs.Cells.{cell_count}
 use Rattle.text_tree.specs.Tree.{Quantifier, forall, exists, Join, conj, disj, imp, rev, iff, Tree, leaf, neg, par, bind, join}
 use Rattle.text_tree.specs.inner.Stored.{join_operator, Stored, literal_code, JoinAt, Joins}
@@ -164,45 +168,43 @@ module _ (limit : ℕ) (a b : Totals) where
     join-two J j i k f g o f-is g-is P e K o' w x A B =
         rw (same-join operator K J o' o, e w x) (pair_read r j i k f g f-is g-is P w x A B)
 
-    pub join-iff : (q : Bool) (forth back fa fb ba bb : Total) → q ≡ not p → (operator ≡ 5 → ⊥) → (operator ≡ 6 → ⊥) → (operator ≡ 8 → ⊥) → (operator ≡ 7 → ⊥)
-        → fa ≡ total_at a q → fb ≡ total_at b p → PairHeld limit q fa fb forth
-        → ba ≡ total_at a p → bb ≡ total_at b q → PairHeld limit q ba bb back
+    pub join-iff : (forth back fa fb ba bb : Total) → (operator ≡ 5 → ⊥) → (operator ≡ 6 → ⊥) → (operator ≡ 7 → ⊥) → (operator ≡ 8 → ⊥)
+        → fa ≡ total_at a (not p) → fb ≡ total_at b p → PairHeld limit (not p) fa fb forth
+        → ba ≡ total_at a p → bb ≡ total_at b (not p) → PairHeld limit (not p) ba bb back
         → PairHeld limit p forth back r → JoinHeld limit operator p a b r
     unfolding JoinHeld join_operator PairHeld join_with
-    join-iff q forth back fa fb ba bb e n5 n6 n8 n7 e1 e2 P e3 e4 Q R conj o w x A B = absurd (n5 o)
-    join-iff q forth back fa fb ba bb e n5 n6 n8 n7 e1 e2 P e3 e4 Q R disj o w x A B = absurd (n6 o)
-    join-iff q forth back fa fb ba bb e n5 n6 n8 n7 e1 e2 P e3 e4 Q R imp o w x A B = absurd (n7 o)
-    join-iff q forth back fa fb ba bb e n5 n6 n8 n7 e1 e2 P e3 e4 Q R rev o w x A B = absurd (n8 o)
-    join-iff q forth back fa fb ba bb e n5 n6 n8 n7 e1 e2 P e3 e4 Q R iff o w x A B =
-        rw (← e) (R _ _ (pair_read forth q q p fa fb e1 e2 P w x A B) (pair_read back q p q ba bb e3 e4 Q w x A B))
+    join-iff forth back fa fb ba bb n5 n6 n7 n8 e1 e2 P e3 e4 Q R conj o w x A B = absurd (n5 o)
+    join-iff forth back fa fb ba bb n5 n6 n7 n8 e1 e2 P e3 e4 Q R disj o w x A B = absurd (n6 o)
+    join-iff forth back fa fb ba bb n5 n6 n7 n8 e1 e2 P e3 e4 Q R imp o w x A B = absurd (n7 o)
+    join-iff forth back fa fb ba bb n5 n6 n7 n8 e1 e2 P e3 e4 Q R rev o w x A B = absurd (n8 o)
+    join-iff forth back fa fb ba bb n5 n6 n7 n8 e1 e2 P e3 e4 Q R iff o w x A B =
+        R _ _ (pair_read forth (not p) (not p) p fa fb e1 e2 P w x A B) (pair_read back (not p) p (not p) ba bb e3 e4 Q w x A B)
 
 -- one more than u times a total
-pub scaled-full : (limit u x : ℕ) → 1 ≤ u → limit ≤ x → Scaled limit u x limit
+pub scaled-is : (limit u x m r : ℕ) → 1 ≤ u → limit < 4294967296 → m ≡ min 4294967295 (u * x) → r ≡ min limit (1 + m) → Scaled limit u x r
 unfolding Scaled
-scaled-full limit u x h g w e = omega (arith, mul-le-mul_right w h, one-mul w)
-
-pub scaled-low : (limit u x r : ℕ) → x < limit → r ≡ min limit (1 + u * x) → Scaled limit u x r
-unfolding Scaled
-scaled-low limit u x r h e w g = let same : x ≡ w = omega arith in e ∙ ap (λ (n : ℕ). min limit (1 + u * n)) same
-
-pub scaled_fits : (u x limit : ℕ) → u ≤ 64 → x < limit → limit ≤ 1048577 → u * x < 4294967296
-scaled_fits u x limit h g l =
-    let low : x ≤ 1048577 = omega arith in
-    let m : u * x ≤ 64 * 1048577 = mul-le-mul h low in omega arith
+scaled-is limit u x m r h fits M R w e = go (cases_lt limit w)
+  where
+    go : (limit < w) ⊎ (w ≤ limit) → r ≡ min limit (1 + u * w)
+    go (inl l) = omega (arith, mul-le-mul_right w h, one-mul w, mul-le-mul_right x h, one-mul x)
+    go (inr l) = let same : x ≡ w = omega arith in omega (arith, ap (λ (n : ℕ). u * n) same)
 
 pub both-held : (limit : ℕ) (w : Bool → PartTotal) (r : Totals) → Held limit (w true) r.plus → Held limit (w false) r.minus → HeldBoth limit w r
 unfolding HeldBoth total_at
 both-held limit w r P M true = P
 both-held limit w r P M false = M
 
-pub alike : (limit n x : ℕ) → x ≡ min limit n → Held limit (λ above. n) (record { alone = x; and = x; or = x })
-alike limit n x h = record { is-alone = h; is-and = h; is-or = h }
+abbrev same : ℕ → Total
+same x = record { alone = x; and = x; or = x }
 
-pub quantified : (limit u x y : ℕ) (b : Totals) → Scaled limit u b.plus.alone x → Scaled limit u b.minus.alone y
-    → Quantified limit u b (record { plus = record { alone = x; and = x; or = x }; minus = record { alone = y; and = y; or = y } })
+pub alike : (limit n x : ℕ) (r : Total) → r ≡ same x → x ≡ min limit n → Held limit (λ above. n) r
+alike limit n x r e h = rw e (record { is-alone = h; is-and = h; is-or = h })
+
+pub quantified : (limit u x y : ℕ) (b : Totals) (p n : Total) → p ≡ same x → n ≡ same y → Scaled limit u b.plus.alone x → Scaled limit u b.minus.alone y
+    → Quantified limit u b (record { plus = p; minus = n })
 unfolding Quantified Scaled HeldBoth total_at
-quantified limit u x y b X Y w B =
-    both-held limit (λ i above. 1 + u * w i alone) _ (alike limit _ x (X _ (B true).is-alone)) (alike limit _ y (Y _ (B false).is-alone))
+quantified limit u x y b p n P N X Y w B =
+    both-held limit (λ i above. 1 + u * w i alone) _ (alike limit _ x p P (X _ (B true).is-alone)) (alike limit _ y n N (Y _ (B false).is-alone))
 
 pub both-joined : (limit operator : ℕ) (a b r : Totals) → JoinHeld limit operator true a b r.plus → JoinHeld limit operator false a b r.minus → BothJoined limit operator a b r
 unfolding BothJoined total_at
@@ -250,25 +252,21 @@ module _ (t : List ℕ) (e u limit : ℕ) where
     totals-join a b n m h J A B =
         on-join t e Goal through n m h (λ j x y o i c d k. J k j o (λ l. part_total u l x) (λ l. part_total u l y) (A x c) (B y d))
 
-    pub totals-none : (JoinAt t e → ⊥) → literal_code (get_or t (e - 1) 0) ≡ false → (get_or t (e - 1) 0 ≡ 2 → ⊥) → 5 ≤ get_or t (e - 1) 0 → HasTotals t e u limit r
-    unfolding HasTotals
-    totals-none f n m h a d = absurd (no-tree t e f n m h a d)
+    pub totals-none : (JoinAt t e → ⊥) → literal_code (get_or t (e - 1) 0) ≡ false → (get_or t (e - 1) 0 < 2) ⊎ (5 ≤ get_or t (e - 1) 0) → HasTotals t e u limit r
+    unfolding HasTotals literal_code
+    totals-none f n (inl h) a d = absurd (true≢false (sym (or-true-left _ _ (lt-ltb _ 2 h)) ∙ n))
+    totals-none f n (inr h) a d = absurd (no-tree t e f n (λ m. omega arith) h a d)
 
 -- the joins at the end of a tree, taken from the one that stands first: of n, so many are left
-abbrev pub TotalsLeft : List ℕ → ℕ → ℕ → ℕ → ℕ → ℕ → Totals → Type 0
-TotalsLeft t e u limit n left r = (left ≤ n) × HasTotals t (e - 2 * left) u limit r
-
-pub totals-next : (t : List ℕ) (e u limit n left : ℕ) (a b r : Totals) → Joins t e n → 0 < left → TotalsLeft t e u limit n left b
+pub totals-next : (t : List ℕ) (e u limit n left : ℕ) (a b r : Totals) → Joins t e n → 0 < left → left ≤ n → HasTotals t (e - 2 * left) u limit b
     → HasTotals t (get_or t (e - 2 * (left - 1) - 2) 0) u limit a → BothJoined limit (get_or t (e - 2 * (left - 1) - 1) 0) a b r
-    → TotalsLeft t e u limit n (left - 1) r
-totals-next t e u limit n left a b r J some B A R =
-    let j = next-join t e n left J some B.0 in (
-      (omega (arith, B.0)),
-      totals-join t (e - 2 * (left - 1)) u limit r a b (join-other t _ j) (join-no-negation t _ j) j.low R A (rw (next-right t e n left J some B.0) B.1),
-    )
+    → HasTotals t (e - 2 * (left - 1)) u limit r
+totals-next t e u limit n left a b r J some l B A R =
+    let j = next-join t e n left J some l in
+    totals-join t (e - 2 * (left - 1)) u limit r a b (join-other t _ j) (join-no-negation t _ j) j.low R A (rw (next-right t e n left J some l) B)
 
-pub totals-done : (t : List ℕ) (e u limit n left : ℕ) (r : Totals) → left ≤ 0 → TotalsLeft t e u limit n left r → HasTotals t e u limit r
-totals-done t e u limit n left r h B = rw (none_left e left h) at B.1
+pub totals-done : (t : List ℕ) (e u limit left : ℕ) (r : Totals) → left ≤ 0 → HasTotals t (e - 2 * left) u limit r → HasTotals t e u limit r
+totals-done t e u limit left r h B = rw (none_left e left h) at B
 
 -- the whole core has the root besides
 pub counts-cells : (t : List ℕ) (e u : ℕ) (w : Totals) (r : ℕ) → HasTotals t e u 1048577 w → r ≡ min 1048577 (1 + w.plus.alone) → CountsCells t e u r

@@ -3,18 +3,18 @@ use mathlib.Core.Path.{◌≡◌, refl, sym, ap, ◌∙◌}
 use mathlib.Core.List.{List}
 use mathlib.Core.Bool.{true, false, ◌||◌}
 use mathlib.Core.Option.{none, some}
-use Prim.Native.Nat.{ℕ, suc, ◌+◌, ◌-◌, ◌≤◌, ◌<◌}
+use Prim.Native.Nat.{ℕ, suc, ◌+◌, ◌≤◌, ◌<◌}
 use native.Mathlib.Omega.{arith}
 use lib.Dec.{ltb}
 use lib.ListN.{length, get_or}
-use borrow.Author.Tests.{lt-ltb, ltb-true, ltb-false}
+use borrow.Author.Tests.{lt-ltb, ltb-false}
 use Rattle.logic.proofs.Lists.{or_left, or_right, or-true-left}
 use Rattle.text_tree.specs.Tree.{Tree, leaf, neg, par, bind, join, too_deep}
-use Rattle.text_grammar.specs.declared.Reading.{Reading}
+use Rattle.std.specs.Prelude.{Some, None}
 use Rattle.text_grammar.specs.Grammar.{unit}
 use Rattle.text_grammar.specs.Parser.{Part, missing, found}
 use Rattle.text_grammar.specs.inner.Contract.{ReaderRoom, Reads, part_at}
-use Rattle.text_grammar.proofs.Readers.{clash, refusal}
+use Rattle.text_grammar.proofs.Readers.{clash}
 use Rattle.text_grammar.proofs.Calls.{every}
 use Rattle.text_deep.specs.declared.Passing.{Passing}
 use Rattle.text_deep.specs.inner.Deep.{end_of, outward, marks, end_from, Step}
@@ -46,40 +46,16 @@ pub record Along (s before t : List ℕ) (at n : ℕ) (p : Passing) : Type 0 whe
   pub long : length t ≡ length before
   pub same : end_from s (marks t n p.brackets) p.due p.next ≡ end_of (part_at unit s at)
 
--- a step goes on
-pub more-inside : (p : Passing) → (p.due || ltb 0 p.brackets) ≡ true → p.due ≡ false → 1 ≤ p.brackets
-more-inside p y e = let z : ltb 0 p.brackets ≡ true = ap (λ b. b || ltb 0 p.brackets) (sym e) ∙ y in omega (arith, ltb-true 0 p.brackets z)
-
 module _ (s before : List ℕ) (at n d : ℕ) (room : ReaderRoom s before at n d) where
-  pub along-start : (p : Passing) → p ≡ record { ok = true; due = true; next = at; brackets = 0 } → Along s before before at n p
+  pub along-start : Along s before before at n (record { due = true; next = at; brackets = 0 })
   unfolding marks outward
-  along-start p E = rw E (record { within = room.within; few = omega arith; past = λ y. clash true refl y; kept = λ i l. refl; long = refl; same = refl })
+  along-start = record { within = room.within; few = omega arith; past = λ y. clash true refl y; kept = λ i l. refl; long = refl; same = refl }
 
   module _ (t : List ℕ) (p : Passing) (A : Along s before t at n p) where
-    pub along-room : ReaderRoom s t p.next (n + p.brackets) d
-    along-room =
-        record { within = A.within; room = omega (arith, room.room, A.few, A.within); wide = omega (arith, room.wide, A.long); shallow = omega (arith, room.shallow, A.few) }
+    pub along-refused : Step s t t n p None → Reads unit s before before at n d None
+    along-refused z f h = every s unit at room.within f h ∙ no_end (part_at unit s at) (sym A.same ∙ z)
 
-    module _ (u : List ℕ) (r : Passing) (S : Step s t u n p r) where
-      pub along-step : length u ≡ length t → r.ok ≡ true → Along s before u at n r
-      along-step long y =
-          let O = S.accepts y in
-          record {
-            within = O.within;
-            few = omega (arith, A.few, O.few);
-            past = λ _. omega (arith, A.few, O.onward);
-            kept = λ i l. O.kept i l ∙ A.kept i l;
-            long = long ∙ A.long;
-            same = sym O.same ∙ A.same;
-          }
-
-      pub along-less : r.ok ≡ true → length s - r.next < length s - p.next
-      along-less y = let O = S.accepts y in omega (arith, O.onward, O.within)
-
-      pub along-refused : r.ok ≡ false → (q : Reading) → q.ok ≡ false → Reads unit s before u at n d q
-      along-refused z q e f h = refusal _ s before u at n d q (every s unit at room.within f h ∙ no_end (part_at unit s at) (sym A.same ∙ S.refuses z)) e
-
-    pub along-end : 64 < d → (p.due || ltb 0 p.brackets) ≡ false → Reads unit s before t at n d (record { ok = true; deep = true; next = p.next; count = n })
+    pub along-end : 64 < d → (p.due || ltb 0 p.brackets) ≡ false → Reads unit s before t at n d (Some (record { deep = true; next = p.next; count = n }))
     unfolding marks outward
     along-end deep z f h =
         let ended : p.due ≡ false = or_left p.due (ltb 0 p.brackets) z in
@@ -88,16 +64,13 @@ module _ (s before : List ℕ) (at n d : ℕ) (room : ReaderRoom s before at n d
         (λ i. end_from s (marks t n (none_left i)) (ended i) p.next) in
         let w = an-end (part_at unit s at) p.next (sym A.same ∙ place) in
         record {
-          accepts = λ _. record {
-            tree = w.0;
-            is = every s unit at room.within f h ∙ w.1;
-            stored = λ y. clash true refl y;
-            deeper = sym (too-deep d w.0 deep);
-            kept = A.kept;
-            count = omega arith;
-            onward = A.past ended;
-            within = A.within;
-            short = omega (arith, A.past ended);
-          };
-          refuses = λ y. clash true refl y;
+          tree = w.0;
+          is = every s unit at room.within f h ∙ w.1;
+          stored = λ y. clash true refl y;
+          deeper = sym (too-deep d w.0 deep);
+          kept = A.kept;
+          count = omega arith;
+          onward = A.past ended;
+          within = A.within;
+          short = omega (arith, A.past ended);
         }

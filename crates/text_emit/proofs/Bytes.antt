@@ -2,6 +2,7 @@
 use mathlib.Core.Path.{◌≡◌, refl}
 use mathlib.Core.Bool.{Bool, true, false, cond}
 use mathlib.Core.List.{List, [], ◌∷◌}
+use mathlib.Core.Logic.{◌⊎◌, inl, inr}
 use Prim.Native.Nat.{ℕ, zero, suc, ◌+◌, ◌-◌, ◌≤◌, ◌<◌}
 use native.Mathlib.Omega.{arith}
 use lib.Dec.{eqb}
@@ -21,53 +22,43 @@ last true = refl
 last false = refl
 
 module _ (x y z v : ℕ) where
-  pub number-few : (n : ℕ) → n < 2 → 0 ≡ variable_number (letters n x y z) v
+  pub number-inner : (n : ℕ) → 2 < n → v ≡ z → 2 ≡ variable_number (letters n x y z) v
   unfolding variable_number letters
-  number-few zero h = refl
-  number-few (suc zero) h = last (eqb v x)
-  number-few (suc (suc n)) h = absurd (omega arith)
+  number-inner zero h e = absurd (omega arith)
+  number-inner (suc zero) h e = absurd (omega arith)
+  number-inner (suc (suc zero)) h e = absurd (omega arith)
+  number-inner (suc (suc (suc n))) h e = rw (eq-eqb v z e)
 
-  pub number-middle : (n : ℕ) → n ≡ 2 → v ≡ y → 1 ≡ variable_number (letters n x y z) v
+  pub number-middle : (n : ℕ) → 1 < n → v ≡ y → ((2 < n) × (v ≡ z → ⊥)) ⊎ (n ≤ 2) → 1 ≡ variable_number (letters n x y z) v
   unfolding variable_number letters
-  number-middle n e h = rw (e, eq-eqb v y h)
+  number-middle zero h e d = absurd (omega arith)
+  number-middle (suc zero) h e d = absurd (omega arith)
+  number-middle (suc (suc zero)) h e d = rw (eq-eqb v y e)
+  number-middle (suc (suc (suc n))) h e (inl d) = rw (ne_eqb v z d.1, eq-eqb v y e)
+  number-middle (suc (suc (suc n))) h e (inr d) = absurd (omega arith)
 
-  pub number-outer : (n : ℕ) → n ≡ 2 → (v ≡ y → ⊥) → 0 ≡ variable_number (letters n x y z) v
+  pub number-outer : (n : ℕ) → ((1 < n) × (v ≡ y → ⊥)) ⊎ (n ≤ 1) → ((2 < n) × (v ≡ z → ⊥)) ⊎ (n ≤ 2) → 0 ≡ variable_number (letters n x y z) v
   unfolding variable_number letters
-  number-outer n e h = rw (e, ne_eqb v y h) (last (eqb v x))
-
-  pub three-inner : (n : ℕ) → 2 ≤ n → (n ≡ 2 → ⊥) → v ≡ z → 2 ≡ variable_number (letters n x y z) v
-  unfolding variable_number letters
-  three-inner zero h f e = absurd (omega arith)
-  three-inner (suc zero) h f e = absurd (omega arith)
-  three-inner (suc (suc zero)) h f e = absurd (f refl)
-  three-inner (suc (suc (suc n))) h f e = rw (eq-eqb v z e)
-
-  pub three-middle : (n : ℕ) → 2 ≤ n → (n ≡ 2 → ⊥) → (v ≡ z → ⊥) → v ≡ y → 1 ≡ variable_number (letters n x y z) v
-  unfolding variable_number letters
-  three-middle zero h f g e = absurd (omega arith)
-  three-middle (suc zero) h f g e = absurd (omega arith)
-  three-middle (suc (suc zero)) h f g e = absurd (f refl)
-  three-middle (suc (suc (suc n))) h f g e = rw (ne_eqb v z g, eq-eqb v y e)
-
-  pub three-outer : (n : ℕ) → 2 ≤ n → (n ≡ 2 → ⊥) → (v ≡ z → ⊥) → (v ≡ y → ⊥) → 0 ≡ variable_number (letters n x y z) v
-  unfolding variable_number letters
-  three-outer zero h f g k = absurd (omega arith)
-  three-outer (suc zero) h f g k = absurd (omega arith)
-  three-outer (suc (suc zero)) h f g k = absurd (f refl)
-  three-outer (suc (suc (suc n))) h f g k = rw (ne_eqb v z g, ne_eqb v y k) (last (eqb v x))
+  number-outer zero d g = refl
+  number-outer (suc zero) d g = last (eqb v x)
+  number-outer (suc (suc zero)) (inl d) g = rw (ne_eqb v y d.1) (last (eqb v x))
+  number-outer (suc (suc zero)) (inr d) g = absurd (omega arith)
+  number-outer (suc (suc (suc n))) (inl d) (inl g) = rw (ne_eqb v z g.1, ne_eqb v y d.1) (last (eqb v x))
+  number-outer (suc (suc (suc n))) (inl d) (inr g) = absurd (omega arith)
+  number-outer (suc (suc (suc n))) (inr d) g = absurd (omega arith)
 
 module _ (b : Bound) (v : ℕ) where
-  pub binds-first : b.count ≡ 0 → BindsLetter b v record { count = 1; outer = v; middle = 0; inner = 0 }
+  pub binds-first : b.count ≡ 0 → BindsLetter b v record { count = 1; outer = v; middle = b.middle; inner = b.inner }
   unfolding bound_letters letters
   binds-first e = record { letters-are = λ h. rw e; count-is = λ h. rw e }
 
-  pub binds-second : b.count ≡ 1 → BindsLetter b v record { count = 2; outer = b.outer; middle = v; inner = 0 }
+  pub binds-second : b.count ≡ 1 → BindsLetter b v record { count = 2; outer = b.outer; middle = v; inner = b.inner }
   unfolding bound_letters letters
   binds-second e = record { letters-are = λ h. rw e; count-is = λ h. rw e }
 
-  pub binds-third : (b.count ≡ 0 → ⊥) → (b.count ≡ 1 → ⊥) → BindsLetter b v record { count = 3; outer = b.outer; middle = b.middle; inner = v }
+  pub binds-third : 2 ≤ b.count → BindsLetter b v record { count = 3; outer = b.outer; middle = b.middle; inner = v }
   unfolding bound_letters letters
-  binds-third f g = record {
+  binds-third f = record {
     letters-are = λ h. let e : b.count ≡ 2 = omega arith in rw e;
     count-is = λ h. let e : b.count ≡ 2 = omega arith in rw e;
   }

@@ -1,18 +1,19 @@
 -- The writers of a core's records, by the last record of the tree. Assumes nothing.
 use mathlib.Core.Path.{◌≡◌, refl, sym, ap, ◌∙◌}
-use mathlib.Core.Bool.{Bool, true, false, not}
+use mathlib.Core.Bool.{Bool, true, false, not, true≢false}
 use mathlib.Core.List.{List, ◌∷◌}
+use mathlib.Core.Logic.{◌⊎◌, inl, inr}
 use Prim.Native.Nat.{ℕ, ◌+◌, ◌*◌, ◌-◌, ◌≤◌, ◌<◌}
 use native.Mathlib.Omega.{arith}
-use lib.Dec.{eqb, leb}
+use lib.Dec.{leb}
 use lib.ListN.{length, get_or}
-use borrow.Author.Tests.{eqb-true, leb-false}
+use borrow.Author.Tests.{leb-false, lt-ltb}
 use Rattle.logic.specs.Formula.{Node, none, tree, kind_number}
-use Rattle.logic.proofs.Lists.{or_left, or_right}
+use Rattle.logic.proofs.Lists.{or_left, or_right, or-true-left}
 use Rattle.text_tree.specs.Tree.{Quantifier, forall, exists, Join, conj, disj, imp, rev, iff, Tree, par, bind, join}
-use Rattle.text_tree.specs.inner.Stored.{quantifier_operator, join_operator, Record, Stored, literal_code, JoinAt}
+use Rattle.text_tree.specs.inner.Stored.{quantifier_operator, join_operator, Record, Stored, literal_code}
 use Rattle.text_core.specs.Names.{fourth, Lettered}
-use Rattle.text_core.specs.Core.{alone, inside, joint_node, two, quantifier_node, literal_at, place}
+use Rattle.text_core.specs.Core.{alone, inside, joint_node, quantifier_node, literal_at, place}
 use Rattle.text_tree.proofs.Table.{stored-after, stored-within, on-leaf, on-neg, on-bind, on-join}
 use Rattle.text_tree.proofs.Joins.{join-other, join-no-negation}
 use Rattle.text_core.proofs.Siblings.{place-before}
@@ -30,6 +31,12 @@ use Rattle.text_emit.proofs.Joints.{join-operands, operands-two, above-joint, jo
 pub recorded : (f : Fields) (n : Node) (at parent end : ℕ) (M O : List ℕ) → Shows f n → Written at (field_bytes f parent end) M O
     → Written at (record_of n parent end) M O
 recorded f n at parent end M O s w = rw (← shown f n parent end s) w
+
+-- an operator that is no literal's and no quantifier's or negation's is a join's
+pub join-low : (n : ℕ) → literal_code n ≡ false → (n < 2) ⊎ (5 ≤ n) → 5 ≤ n
+unfolding literal_code
+join-low n h (inl l) = absurd (true≢false (sym (or-true-left _ _ (lt-ltb n 2 l)) ∙ h))
+join-low n h (inr g) = g
 
 -- a literal's record
 module _ (operator payload : ℕ) (sets : List ℕ) (b : Bound) (p : Bool) (parent i : ℕ) (B O : List ℕ) where
@@ -97,10 +104,10 @@ module _ (t : List ℕ) (e : ℕ) (sets : List ℕ) (b : Bound) (p : Bool) (up :
     emits-leaf h L = of-goal L.placed (on-leaf t e Goal through h
         (λ l d q f. L.writes l record { operator-is = d.operator-is; payload-is = d.payload-is; lettered = q }))
 
-    pub emits-neg : get_or t (e - 1) 0 ≡ 2 → (q : Bool) → q ≡ not p → Emits t (e - 2) sets b q up i B O r → Emits t e sets b p up i B O r
+    pub emits-neg : get_or t (e - 1) 0 ≡ 2 → Emits t (e - 2) sets b (not p) up i B O r → Emits t e sets b p up i B O r
     unfolding Lettered fourth place
-    emits-neg h q n E = of-goal E.placed (on-neg t e Goal through h
-        (λ a d l f. rw (← n) (E.writes a record { stored = d; lettered = l; shallow = f })))
+    emits-neg h E = of-goal E.placed (on-neg t e Goal through h
+        (λ a d l f. E.writes a record { stored = d; lettered = l; shallow = f }))
 
     module _ (other : literal_code (get_or t (e - 1) 0) ≡ false) (kept : get_or t (e - 1) 0 ≡ 2 → ⊥) where
       pub emits-full : record_length * r ≤ length B → get_or t (e - 1) 0 < 5 → length B < record_length * (i + 1) → Emits t e sets b p up i B O r
@@ -202,15 +209,6 @@ module _ (t : List ℕ) (m e operator : ℕ) (sets : List ℕ) (b : Bound) (p : 
           let H = rw above at (F.writes rev refl x y X Y) in
           rw (place-before sets (bound_letters b) p (join imp x y) (inside p) (place sets (bound_letters b) p (join rev x y) (inside p) none))
           (records-both _ _ up.number i n r B M O G H same)
-
--- a join's kind is the one above
-pub same-joint : (t : List ℕ) (e : ℕ) (p : Bool) (operator k kind : ℕ) → JoinAt t e → operator ≡ get_or t (e - 1) 0 → operator ≤ 8 → JointIs operator p k → eqb k kind ≡ true
-    → GoesOn t e p kind
-same-joint t e p operator k kind j o l J h = record {
-  join = j;
-  single = omega (arith, o, l);
-  joint = rw (← o, ← eqb-true k kind h) J;
-}
 
 -- the parts of a joint, one after the other: none yet, and one more where the last part goes on with the joint
 module _ (t : List ℕ) (e : ℕ) (sets : List ℕ) (b : Bound) (p : Bool) (up : Up) (i : ℕ) (B : List ℕ) where

@@ -1,6 +1,7 @@
 -- Joints: their kinds, their parts, and where they are merged. Assumes nothing.
 use mathlib.Core.Path.{◌≡◌, refl}
 use mathlib.Core.Bool.{Bool, true, false, not}
+use mathlib.Core.Logic.{◌⊎◌, inl, inr}
 use Prim.Native.Nat.{ℕ, zero, suc, ◌<◌}
 use native.Mathlib.Omega.{arith}
 use Rattle.logic.specs.Formula.{Forest, none, tree, kind_number}
@@ -9,46 +10,33 @@ use Rattle.text_tree.specs.inner.Stored.{join_operator}
 use Rattle.text_core.specs.Core.{Above, alone, inside, joint_node, Part, joint, two, quantifier_node, join_with}
 use Rattle.text_emit.specs.inner.Emits.{above_of, joint_at, left_at, right_at, JointIs, LeftIs, RightIs, row_of}
 
-pub and-kind : (j : Bool) → j ≡ true → 3 ≡ kind_number (joint_node j)
-unfolding kind_number joint_node
-and-kind j h = rw h
-
-pub or-kind : (j : Bool) → j ≡ false → 4 ≡ kind_number (joint_node j)
-unfolding kind_number joint_node
-or-kind j h = rw h
-
 module _ (operator : ℕ) (p : Bool) where
-  pub joint-conj : (r : ℕ) → operator ≡ 5 → r ≡ kind_number (joint_node p) → JointIs operator p r
+  pub joint-kept : (r : ℕ) → (operator ≡ 5) ⊎ (operator ≡ 9) → r ≡ kind_number (joint_node p) → JointIs operator p r
   unfolding JointIs join_operator joint_at
-  joint-conj r h e conj o = e
-  joint-conj r h e disj o = absurd (omega arith)
-  joint-conj r h e imp o = absurd (omega arith)
-  joint-conj r h e rev o = absurd (omega arith)
-  joint-conj r h e iff o = absurd (omega arith)
+  joint-kept r h e conj o = e
+  joint-kept r (inl h) e disj o = absurd (omega arith)
+  joint-kept r (inr h) e disj o = absurd (omega arith)
+  joint-kept r (inl h) e imp o = absurd (omega arith)
+  joint-kept r (inr h) e imp o = absurd (omega arith)
+  joint-kept r (inl h) e rev o = absurd (omega arith)
+  joint-kept r (inr h) e rev o = absurd (omega arith)
+  joint-kept r h e iff o = e
 
-  pub joint-iff : (r : ℕ) → operator ≡ 9 → r ≡ kind_number (joint_node p) → JointIs operator p r
+  pub joint-turned : (r : ℕ) → (operator ≡ 5 → ⊥) → (operator ≡ 9 → ⊥) → r ≡ kind_number (joint_node (not p)) → JointIs operator p r
   unfolding JointIs join_operator joint_at
-  joint-iff r h e conj o = absurd (omega arith)
-  joint-iff r h e disj o = absurd (omega arith)
-  joint-iff r h e imp o = absurd (omega arith)
-  joint-iff r h e rev o = absurd (omega arith)
-  joint-iff r h e iff o = e
+  joint-turned r f g e conj o = absurd (f o)
+  joint-turned r f g e disj o = e
+  joint-turned r f g e imp o = e
+  joint-turned r f g e rev o = e
+  joint-turned r f g e iff o = absurd (g o)
 
-  pub joint-turned : (r : ℕ) (q : Bool) → (operator ≡ 5 → ⊥) → (operator ≡ 9 → ⊥) → q ≡ not p → r ≡ kind_number (joint_node q) → JointIs operator p r
-  unfolding JointIs join_operator joint_at
-  joint-turned r q f g h e conj o = absurd (f o)
-  joint-turned r q f g h e disj o = rw (← h) e
-  joint-turned r q f g h e imp o = rw (← h) e
-  joint-turned r q f g h e rev o = rw (← h) e
-  joint-turned r q f g h e iff o = absurd (g o)
-
-  pub left-turned : (r : Bool) → operator ≡ 7 → r ≡ not p → LeftIs operator p r
+  pub left-turned : operator ≡ 7 → LeftIs operator p (not p)
   unfolding LeftIs join_operator left_at
-  left-turned r h e conj o = absurd (omega arith)
-  left-turned r h e disj o = absurd (omega arith)
-  left-turned r h e imp o = e
-  left-turned r h e rev o = absurd (omega arith)
-  left-turned r h e iff o = absurd (omega arith)
+  left-turned h conj o = absurd (omega arith)
+  left-turned h disj o = absurd (omega arith)
+  left-turned h imp o = refl
+  left-turned h rev o = absurd (omega arith)
+  left-turned h iff o = absurd (omega arith)
 
   pub left-kept : (operator ≡ 7 → ⊥) → LeftIs operator p p
   unfolding LeftIs join_operator left_at
@@ -58,13 +46,13 @@ module _ (operator : ℕ) (p : Bool) where
   left-kept h rev o = refl
   left-kept h iff o = refl
 
-  pub right-turned : (r : Bool) → operator ≡ 8 → r ≡ not p → RightIs operator p r
+  pub right-turned : operator ≡ 8 → RightIs operator p (not p)
   unfolding RightIs join_operator right_at
-  right-turned r h e conj o = absurd (omega arith)
-  right-turned r h e disj o = absurd (omega arith)
-  right-turned r h e imp o = absurd (omega arith)
-  right-turned r h e rev o = e
-  right-turned r h e iff o = absurd (omega arith)
+  right-turned h conj o = absurd (omega arith)
+  right-turned h disj o = absurd (omega arith)
+  right-turned h imp o = absurd (omega arith)
+  right-turned h rev o = refl
+  right-turned h iff o = absurd (omega arith)
 
   pub right_kept : (operator ≡ 8 → ⊥) → RightIs operator p p
   unfolding RightIs join_operator right_at

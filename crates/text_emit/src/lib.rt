@@ -10,14 +10,16 @@ ghost use Rattle.text_emit.specs.inner.Emits.{EmitReady, EmitsLiteral, JointIs, 
 
 use table_format::{Fields, RECORD, put_header, put_record, records_from, table_bytes};
 use text_names::set_number;
-use text_tree::{flip, is_join, is_literal, operator_at, payload_at, place};
+use text_tree::{is_join, is_literal, operator_at, payload_at};
 
-// Operators of the tree's records (crate text_tree, specs/inner/Stored.antt).
+// Operators of the tree's records (crate text_tree, specs/inner/Stored.antt): numbers and no enum, since `literal_code` and the definitions
+// of the stored tree count with them.
 const PORT: u16 = 16;
 
 const SIZE: u16 = 24;
 
-// The letters bound around a place, at most three.
+// The letters bound around a place, at most three. Fields by name are plainer here than an array with a count: each is written
+// once, and read with a test of the count.
 #[derive(Clone, Copy)]
 pub struct Bound {
     pub count: usize,
@@ -37,49 +39,35 @@ pub struct Up {
 fn variable_number(b: Bound, v: u16) -> u8
     ensures { result ≡ variable_number (bound_letters b) v }
 {
-    if b.count < 2 {
-        return 0;
+    if 2 < b.count && v == b.inner {
+        2
+    } else if 1 < b.count && v == b.middle {
+        1
+    } else {
+        0
     }
-    if b.count == 2 {
-        if v == b.middle {
-            return 1;
-        }
-        return 0;
-    }
-    if v == b.inner {
-        return 2;
-    }
-    if v == b.middle {
-        return 1;
-    }
-    0
 }
 
 // Binds one more letter.
 fn with_letter(b: Bound, v: u16) -> Bound
     ensures { BindsLetter b v result }
 {
-    if b.count == 0 {
-        return Bound {
+    match b.count {
+        0 => Bound {
             count: 1,
             outer: v,
-            middle: 0,
-            inner: 0,
-        };
-    }
-    if b.count == 1 {
-        return Bound {
+            ..b
+        },
+        1 => Bound {
             count: 2,
-            outer: b.outer,
             middle: v,
-            inner: 0,
-        };
-    }
-    Bound {
-        count: 3,
-        outer: b.outer,
-        middle: b.middle,
-        inner: v,
+            ..b
+        },
+        _ => Bound {
+            count: 3,
+            inner: v,
+            ..b
+        },
     }
 }
 
@@ -102,48 +90,36 @@ fn low_byte(x: u16) -> u8
 fn relation_at(p: bool, x: u8) -> u8
     ensures { RelationIs p x result }
 {
-    if p {
-        return x;
+    match (p, x) {
+        (true, _) => x,
+        (false, 0 | 1) => x + 4,
+        (false, 2 | 3) => 5 - x,
+        (false, _) => x - 4,
     }
-    if x < 2 {
-        return x + 4;
-    }
-    if x < 4 {
-        return 5 - x;
-    }
-    x - 4
 }
 
 // "for all" of the text's tree has operator 3, "exists" 4.
 fn quantifier_kind(p: bool, operator: u16) -> u8
     ensures { QuantifierIs p operator result }
 {
-    if p {
-        if operator == 3 {
-            return 1;
-        }
-        return 2;
+    match (p, operator) {
+        (true, 3) => 1,
+        (true, _) => 2,
+        (false, 3) => 2,
+        (false, _) => 1,
     }
-    if operator == 3 {
-        return 2;
-    }
-    1
 }
 
 // `x:S` has operator 0, `x/S` 1.
 fn member_kind(p: bool, operator: u16) -> u8
     ensures { MemberIs p operator result }
 {
-    if p {
-        if operator == 0 {
-            return 5;
-        }
-        return 6;
+    match (p, operator) {
+        (true, 0) => 5,
+        (true, _) => 6,
+        (false, 0) => 6,
+        (false, _) => 5,
     }
-    if operator == 0 {
-        return 6;
-    }
-    5
 }
 
 // The own bytes of a literal's node, from the literal's record.
@@ -154,28 +130,25 @@ fn literal_fields(operator: u16, x: u16, sets: &[u8], bound: Bound, p: bool) -> 
     let v = x / 256;
     let s = x % 256;
     let relation = relation_at(p, low_byte(operator % 8));
-    if SIZE <= operator {
-        return Fields {
+    match operator {
+        SIZE.. => Fields {
             kind: 8,
-            relation: relation,
+            relation,
             a: set_byte(sets, v),
             b: low_byte(x),
-        };
-    }
-    let a = variable_number(bound, v);
-    if PORT <= operator {
-        return Fields {
+        },
+        PORT.. => Fields {
             kind: 7,
-            relation: relation,
-            a: a,
+            relation,
+            a: variable_number(bound, v),
             b: variable_number(bound, s),
-        };
-    }
-    Fields {
-        kind: member_kind(p, operator),
-        relation: 0,
-        a: a,
-        b: set_byte(sets, s),
+        },
+        _ => Fields {
+            kind: member_kind(p, operator),
+            relation: 0,
+            a: variable_number(bound, v),
+            b: set_byte(sets, s),
+        },
     }
 }
 
@@ -184,7 +157,7 @@ fn plain(kind: u8) -> Fields
     ensures { (result.kind ≡ kind) × (result.relation ≡ 0) × (result.a ≡ 0) × (result.b ≡ 0) }
 {
     Fields {
-        kind: kind,
+        kind,
         relation: 0,
         a: 0,
         b: 0,
@@ -192,6 +165,7 @@ fn plain(kind: u8) -> Fields
 }
 
 // Writes the record of a literal's node as node i, if there is room; says the next number.
+#[tactic(auto, unfolding(table_format::specs::Bytes::record_length))]
 fn put_literal(
     operator: u16,
     x: u16,
@@ -214,50 +188,40 @@ fn put_literal(
 }
 
 // The kind of "and" where j is true, else of "or".
+#[tactic(auto, unfolding(text_core::specs::Core::joint_node, logic::specs::Formula::kind_number))]
 fn joint_node(j: bool) -> u8
     ensures { result ≡ kind_number (joint_node j) }
 {
-    if j {
-        return 3;
-    }
-    4
+    if j { 3 } else { 4 }
 }
 
 // The kind of the joint that an operator makes.
 fn joint_kind(operator: u16, p: bool) -> u8
     ensures { JointIs operator p result }
 {
-    if operator == 5 {
-        return joint_node(p);
+    match operator {
+        5 | 9 => joint_node(p),
+        _ => joint_node(!p),
     }
-    if operator == 9 {
-        return joint_node(p);
-    }
-    joint_node(flip(p))
 }
 
 // The polarities of an operator's two parts.
 fn left_at(operator: u16, p: bool) -> bool
     ensures { LeftIs operator p result }
 {
-    if operator == 7 {
-        return flip(p);
-    }
-    p
+    if operator == 7 { !p } else { p }
 }
 
 // The polarity of an operator's right part.
 fn right_at(operator: u16, p: bool) -> bool
     ensures { RightIs operator p result }
 {
-    if operator == 8 {
-        return flip(p);
-    }
-    p
+    if operator == 8 { !p } else { p }
 }
 
 // Writes the records of the core of the tree whose records end at e, or of its negation where p is false, below the node
 // `up`, from node i on; says the next number. It is called where the core has few nodes: it visits what it writes.
+#[tactic(auto, unfolding(table_format::specs::Bytes::record_length))]
 #[cycle(emission)]
 fn emit(
     t: &[u16],
@@ -272,10 +236,7 @@ fn emit(
     requires { EmitReady sets.now i out.old }
     ensures { Emits t.now e sets.now bound p up i out.old out.new result }
 {
-    if e < 2 {
-        return i;
-    }
-    if t.len() < e {
+    if e < 2 || t.len() < e {
         return i;
     }
     let operator = operator_at(t, e);
@@ -283,31 +244,34 @@ fn emit(
     if is_literal(operator) {
         return put_literal(operator, x, sets, bound, p, up.number, i, out);
     }
-    if operator == 2 {
-        return emit(t, e - 2, sets, bound, flip(p), up, i, out);
-    }
-    if operator < 5 {
-        if out.len() < RECORD * (i + 1) {
-            return i;
+    match operator {
+        2 => emit(t, e - 2, sets, bound, !p, up, i, out),
+        3 | 4 => {
+            if out.len() < RECORD * (i + 1) {
+                return i;
+            }
+            let kind = quantifier_kind(p, operator);
+            let below = Up {
+                kind,
+                number: i as u16,
+            };
+            let end = emit(t, e - 2, sets, with_letter(bound, x), p, below, i + 1, out);
+            put_record(out, i, plain(kind), up.number, end);
+            end
         }
-        let kind = quantifier_kind(p, operator);
-        let below = Up {
-            kind: kind,
-            number: i as u16,
-        };
-        let end = emit(t, e - 2, sets, with_letter(bound, x), p, below, i + 1, out);
-        put_record(out, i, plain(kind), up.number, end);
-        return end;
+        _ => {
+            let m = usize::from(x);
+            if e - 2 < m {
+                return i;
+            }
+            joined(t, m, e - 2, operator, sets, bound, p, up, i, out)
+        }
     }
-    let m = place(x);
-    if e - 2 < m {
-        return i;
-    }
-    joined(t, m, e - 2, operator, sets, bound, p, up, i, out)
 }
 
 // The same for the two trees whose records end at m and e, joined by an operator. "No "and" is a child of "and"": the joint
 // has no record inside its like.
+#[tactic(auto, unfolding(table_format::specs::Bytes::record_length))]
 #[cycle(emission)]
 fn joined(
     t: &[u16],
@@ -332,7 +296,7 @@ fn joined(
         return i;
     }
     let below = Up {
-        kind: kind,
+        kind,
         number: i as u16,
     };
     let end = operands(t, m, e, operator, sets, bound, p, below, i + 1, out);
@@ -349,14 +313,12 @@ fn goes_on(t: &[u16], e: usize, p: bool, kind: u8) -> bool
         return false;
     }
     let operator = operator_at(t, e);
-    if 8 < operator {
-        return false;
-    }
-    joint_kind(operator, p) == kind
+    operator <= 8 && joint_kind(operator, p) == kind
 }
 
 // What the joint holds: its parts, or for `<->` the joints of `->` and `<-`. A right part that goes on with the joint is taken in
 // the loop, so that a row of siblings costs no stack.
+#[tactic(auto, unfolding(table_format::specs::Bytes::record_length))]
 #[cycle(emission)]
 fn operands(
     t: &[u16],
@@ -382,7 +344,7 @@ fn operands(
     let mut q = right_at(operator, p);
     while goes_on(t, last, q, up.kind) {
         let next = operator_at(t, last);
-        let left = place(payload_at(t, last));
+        let left = usize::from(payload_at(t, last));
         n = emit(t, left, sets, bound, left_at(next, q), up, n, out);
         q = right_at(next, q);
         last -= 2;
@@ -394,6 +356,7 @@ fn operands(
 const NO_PARENT: u16 = 65535;
 
 // Writes the records of a text's core: the root is node 0.
+#[tactic(auto, unfolding(table_format::specs::Bytes::record_length))]
 fn put_core(t: &[u16], e: usize, sets: &[u8], out: &mut [u8])
     requires { EmitReady sets.now 1 out.old }
     ensures { PutsCore t.now e sets.now out.old out.new }

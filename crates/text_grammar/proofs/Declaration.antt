@@ -15,13 +15,13 @@ use Rattle.text_tree.proofs.Sets.{letters-length}
 use Rattle.text_tokens.specs.declared.Token.{Token}
 use Rattle.text_tokens.specs.Tokens.{token_at}
 use Rattle.text_tokens.proofs.Laws.{token-moves}
+use Rattle.std.specs.Prelude.{Some, None}
 use Rattle.text_grammar.specs.declared.Reading.{Reading}
 use Rattle.text_grammar.specs.declared.Letters.{Letters}
-use Rattle.text_grammar.specs.declared.Syntax.{Syntax}
 use Rattle.text_grammar.specs.Grammar.{formula, kind_at, next_at, value_at}
 use Rattle.text_grammar.specs.Parser.{found, test, parse_at, set_at, sets_at, after_sets, failed, read, ended, declared, parsed}
-use Rattle.text_grammar.specs.inner.Contract.{ReaderRoom, Reads, Keeps, LettersRead, Lent, Parsed}
-use Rattle.text_grammar.proofs.Readers.{clash, kind-of, next_of, not-kind, moves}
+use Rattle.text_grammar.specs.inner.Contract.{ReaderRoom, Accepted, Reads, Keeps, LettersRead, Lent, Parsed}
+use Rattle.text_grammar.proofs.Readers.{kind-of, next_of, not-kind, moves}
 
 -- at the end of the text stands no token
 pub end-kind : (s : List ℕ) (i : ℕ) → i ≤ length s → length s ≤ i → kind_at s i ≡ 0
@@ -175,13 +175,7 @@ passed-all s at i L n P z =
       onward = P.onward;
     }
 
-pub passed-end : (s : List ℕ) (at i : ℕ) (L : List ℕ) (n : ℕ) → Passed s at i L n → length s ≤ i → LettersRead s at L (record { count = n; next = i })
-passed-end s at i L n P h = passed-all s at i L n P (no-letter s i P.within h)
-
 -- the whole text
-
-no-syntax : (s after letters : List ℕ) (r : Syntax) → parsed s ≡ failed → r.ok ≡ false → Parsed s after letters r
-no-syntax s after letters r e q = record { accepts = λ y. clash r.ok y q; refuses = λ _. e }
 
 empty : (xs : List Declared) → length xs ≡ 0 → xs ≡ []
 empty [] e = refl
@@ -201,9 +195,9 @@ module _ (s out before letters : List ℕ) (lent : Lent s out before) (same : le
   pub opening-within : opening.next ≤ length s
   opening-within = (moves s 0 opening O (omega arith)).within
 
-  pub whole-unopened : (opening.kind ≡ 1 → ⊥) → (o : List ℕ) (r : Syntax) → r.ok ≡ false → Parsed s o letters r
+  pub whole-unopened : (opening.kind ≡ 1 → ⊥) → Parsed s out letters None
   unfolding parsed
-  whole-unopened z o r q = no-syntax s o letters r (rw (not-kind s 0 opening O 1 z)) q
+  whole-unopened z = rw (not-kind s 0 opening O 1 z)
 
   module _ (y : opening.kind ≡ 1) (sets : Letters) (S : LettersRead s opening.next letters sets) where
     opened : parsed s ≡ declared s (sets_at (length s) s opening.next) sets.next
@@ -217,15 +211,15 @@ module _ (s out before letters : List ℕ) (lent : Lent s out before) (same : le
         ∙ length-take (length letters) (letters_of (sets_at (length s) s opening.next))
         ∙ ap (min (length letters)) (letters-length (sets_at (length s) s opening.next))
 
-    pub whole-unnamed : sets.count ≡ 0 → (o : List ℕ) (r : Syntax) → r.ok ≡ false → Parsed s o letters r
-    whole-unnamed e o r q = no-syntax s o letters r (opened ∙ ap (λ (xs : List Declared). declared s xs sets.next) (empty (sets_at (length s) s opening.next) (omega (arith, count-is, lent.some)))) q
+    pub whole-unnamed : sets.count ≡ 0 → Parsed s out letters None
+    whole-unnamed e = opened ∙ ap (λ (xs : List Declared). declared s xs sets.next) (empty (sets_at (length s) s opening.next) (omega (arith, count-is, lent.some)))
 
     module _ (z : sets.count ≡ 0 → ⊥) (closing : Token) (C : closing ≡ token_at s sets.next) where
       close-step : declared s (sets_at (length s) s opening.next) sets.next ≡ test (eqb (kind_at s sets.next) 2) (λ j. ended s (sets_at (length s) s opening.next) (parse_at (4 * length s + 4) formula s j)) (λ j. failed) (next_at s sets.next)
       close-step = declared-some s (sets_at (length s) s opening.next) sets.next (λ e. z (omega (arith, count-is)))
 
-      pub whole-unclosed : (closing.kind ≡ 2 → ⊥) → (o : List ℕ) (r : Syntax) → r.ok ≡ false → Parsed s o letters r
-      whole-unclosed w o r q = no-syntax s o letters r (opened ∙ close-step ∙ rw (not-kind s sets.next closing C 2 w)) q
+      pub whole-unclosed : (closing.kind ≡ 2 → ⊥) → Parsed s out letters None
+      whole-unclosed w = opened ∙ close-step ∙ rw (not-kind s sets.next closing C 2 w)
 
       module _ (c : closing.kind ≡ 2) where
         closed-step : parsed s ≡ ended s (sets_at (length s) s opening.next) (parse_at (4 * length s + 4) formula s closing.next)
@@ -237,29 +231,26 @@ module _ (s out before letters : List ℕ) (lent : Lent s out before) (same : le
         pub body-room : ReaderRoom s out closing.next 0 0
         body-room = record { within = close-within; room = omega (arith, lent.short); wide = lent.wide; shallow = omega arith }
 
-        module _ (o : List ℕ) (body : Reading) (B : Reads formula s out o closing.next 0 0 body) where
-          pub whole-none : body.ok ≡ false → (r : Syntax) → r.ok ≡ false → Parsed s o letters r
-          whole-none e r q = no-syntax s o letters r (closed-step ∙ ap (ended s (sets_at (length s) s opening.next)) ((B (4 * length s + 4) (omega arith)).refuses e)) q
+        pub whole-none : Reads formula s out out closing.next 0 0 None → Parsed s out letters None
+        whole-none B = closed-step ∙ ap (ended s (sets_at (length s) s opening.next)) (B (4 * length s + 4) (omega arith))
 
-          module _ (e : body.ok ≡ true) (last : Token) (L : last ≡ token_at s body.next) where
-            pub whole-longer : (last.kind ≡ 0 → ⊥) → (r : Syntax) → r.ok ≡ false → Parsed s o letters r
-            whole-longer w r q =
-                let R = (B (4 * length s + 4) (omega arith)).accepts e in
-                no-syntax s o letters r (closed-step ∙ ap (ended s (sets_at (length s) s opening.next)) R.is ∙ ended-more s _ R.tree body.next (not-kind s body.next last L 0 w)) q
+        module _ (o : List ℕ) (body : Reading) (B : Reads formula s out o closing.next 0 0 (Some body)) (last : Token) (L : last ≡ token_at s body.next) where
+          R : Accepted (parse_at (4 * length s + 4) formula s closing.next) s out o closing.next 0 0 body
+          R = B (4 * length s + 4) (omega arith)
 
-            pub whole-read : last.kind ≡ 0 → Parsed s o letters (record { ok = true; deep = body.deep; sets = sets.count; end = body.count })
-            whole-read w =
-                let R = (B (4 * length s + 4) (omega arith)).accepts e in
-                record {
-                  accepts = λ _. record {
-                    sets = sets_at (length s) s opening.next;
-                    tree = R.tree;
-                    is = closed-step ∙ ap (ended s (sets_at (length s) s opening.next)) R.is ∙ ended_here s _ R.tree body.next (kind-of s body.next last L 0 w);
-                    stored = R.stored;
-                    deeper = R.deeper;
-                    few = S.few;
-                    kept = S.kept (length s) (omega arith);
-                    fits = omega (arith, R.short, R.within, lent.short);
-                  };
-                  refuses = λ q. clash true refl q;
-                }
+          pub whole-longer : (last.kind ≡ 0 → ⊥) → Parsed s out letters None
+          whole-longer w =
+              closed-step ∙ ap (ended s (sets_at (length s) s opening.next)) R.is ∙ ended-more s _ R.tree body.next (not-kind s body.next last L 0 w)
+
+          pub whole-read : last.kind ≡ 0 → Parsed s o letters (Some (record { deep = body.deep; sets = sets.count; end = body.count }))
+          whole-read w =
+              record {
+                sets = sets_at (length s) s opening.next;
+                tree = R.tree;
+                is = closed-step ∙ ap (ended s (sets_at (length s) s opening.next)) R.is ∙ ended_here s _ R.tree body.next (kind-of s body.next last L 0 w);
+                stored = R.stored;
+                deeper = R.deeper;
+                few = S.few;
+                kept = S.kept (length s) (omega arith);
+                fits = omega (arith, R.short, R.within, lent.short);
+              }

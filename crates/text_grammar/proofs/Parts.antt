@@ -5,23 +5,51 @@ use mathlib.Core.Bool.{Bool, true, false, ◌||◌}
 use mathlib.Core.Option.{none, some}
 use Prim.Native.Nat.{ℕ, ◌+◌, ◌*◌, ◌-◌, ◌≤◌, ◌<◌}
 use native.Mathlib.Omega.{arith}
+use lib.Dec.{eqb}
 use lib.ListN.{length, get_or, set}
+use borrow.Author.Tests.{eqb-true, eqb-false}
 use Rattle.logic.proofs.Lists.{or_left, or_right}
-use Rattle.text_tree.specs.Tree.{Join, Tree, join, too_deep}
+use Rattle.text_tree.specs.Tree.{Join, conj, disj, Tree, join, too_deep}
 use Rattle.text_tree.specs.inner.Stored.{join_operator}
 use Rattle.text_tree.specs.inner.Links.{Left, Linked, no-link, link, AllStored, none-stored, one-stored, joined_to, JoinsRoom, JoinsWritten, WritesJoins}
 use Rattle.text_tree.proofs.Records.{pushed, stored-kept}
-use Rattle.text_tree.proofs.Links.{linked-from, linked-kept, all-kept, joins_long, joins-kept, joins-stored}
+use Rattle.text_tree.proofs.Links.{linked-from, linked-kept, all-kept, joins-kept, joins-stored}
 use Rattle.text_tokens.specs.declared.Token.{Token}
-use Rattle.text_tokens.specs.Tokens.{token_at}
-use Rattle.text_tokens.proofs.Laws.{Moves}
+use Rattle.text_tokens.specs.Tokens.{token_at, bar, pick, between}
+use Rattle.text_tokens.proofs.Laws.{Moves, between-range}
+use Rattle.std.specs.Prelude.{Option, Some, None}
 use Rattle.text_grammar.specs.declared.Reading.{Reading}
 use Rattle.text_grammar.specs.Grammar.{Level, kind_at, next_at}
 use Rattle.text_grammar.specs.Parser.{Part, missing, found, map_part, join_sign, joined, rank}
-use Rattle.text_grammar.specs.inner.Contract.{ReaderRoom, Accepted, Outcome, Reads, calls, part_at}
-use Rattle.text_grammar.proofs.Signs.{join-sign-some}
-use Rattle.text_grammar.proofs.Readers.{clash, refusal, moves, next_of, same_kind, Joins}
+use Rattle.text_grammar.specs.inner.Contract.{ReaderRoom, Accepted, Outcome, Reads, calls, part_at, level_of, part_of}
+use Rattle.text_grammar.proofs.Signs.{join-sign-some, one-sign, no_sign}
+use Rattle.text_grammar.proofs.Readers.{moves, next_of, same_kind, Joins, joins-conjunction, joins-disjunction}
 use Rattle.text_grammar.proofs.Calls.{rank-range, joined_at, every}
+
+-- the two signs that join rows of parts
+abbrev pub join_of : ℕ → Join
+join_of k = pick (eqb k bar) disj conj
+
+pub record Row (k : ℕ) : Type 0 where
+  pub joins : Joins (level_of k) (part_of k) (level_of k)
+  pub sign : (t : ℕ) → t ≡ k → join_sign (level_of k) t ≡ some (join_of k)
+  pub other : (t : ℕ) → (t ≡ k → ⊥) → join_sign (level_of k) t ≡ none
+  pub operator : k - 3 ≡ join_operator (join_of k)
+
+row-and : Row 8
+unfolding join_operator
+row-and = record { joins = joins-conjunction; sign = λ t e. one-sign 8 t conj e; other = λ t z. no_sign 8 t conj z; operator = refl }
+
+row-or : Row 9
+unfolding join_operator
+row-or = record { joins = joins-disjunction; sign = λ t e. one-sign 9 t disj e; other = λ t z. no_sign 9 t disj z; operator = refl }
+
+pub row : (k : ℕ) → between 8 k 9 ≡ true → Row k
+row k e = go (eqb k 9) refl
+  where
+    go : (b : Bool) → eqb k 9 ≡ b → Row k
+    go true y = let same : k ≡ 9 = eqb-true k 9 y in rw same row-or
+    go false y = let w = between-range 8 k 9 e in let z = eqb-false k 9 y in let same : k ≡ 8 = omega (arith, w.0, w.1) in rw same row-and
 
 or-three : (a b c : Bool) → (a || (b || c)) ≡ ((a || b) || c)
 or-three true b c = refl
@@ -81,22 +109,19 @@ module _ (l m : Level) (J : Joins l m l) (j : Join) (s before : List ℕ) (at n 
       record { within = P.within; room = omega (arith, P.short, P.within, room.room); wide = omega (arith, P.long, room.wide); shallow = omega (arith, room.shallow, P.onward) },
     )
 
-    module _ (o : List ℕ) (a : Reading) (A : Reads m s t o next last d a) where
-      part : Outcome (part_at m s next) s t o next last d a
-      part = let r = rank-range m in A (calls s) (omega (arith, r.1))
+    part : (o : List ℕ) (r : Option Reading) → Reads m s t o next last d r → Outcome (part_at m s next) s t o next last d r
+    part o r A = let k = rank-range m in A (calls s) (omega (arith, k.1))
 
-      -- the part is refused
-      pub parts-refused : a.ok ≡ false → Reads l s before o at n d a
-      parts-refused e f h =
-          let none-there : part_at l s next ≡ missing = joined_at s l m l J next P.within ∙ ap (joined s (join_sign l) (part_at l s)) (part.refuses e) in
-          refusal _ s before o at n d a (every s l at room.within f h ∙ P.same ∙ ap (map_part (joined_to j P.parts)) none-there) e
+    -- the part is refused
+    pub parts-refused : Reads m s t t next last d None → Reads l s before before at n d None
+    parts-refused A f h =
+        let none-there : part_at l s next ≡ missing = joined_at s l m l J next P.within ∙ ap (joined s (join_sign l) (part_at l s)) (part t None A) in
+        every s l at room.within f h ∙ P.same ∙ ap (map_part (joined_to j P.parts)) none-there
 
-      module _ (len : length o ≡ length t) (e : a.ok ≡ true) where
+    module _ (o : List ℕ) (a : Reading) (A : Reads m s t o next last d (Some a)) where
+      module _ (len : length o ≡ length t) where
         R : Accepted (part_at m s next) s t o next last d a
-        R = part.accepts e
-
-        pub part-within : a.next ≤ length s
-        part-within = R.within
+        R = part o (Some a) A
 
         linked-now : Linked o n last P.parts
         linked-now = linked-kept P.linked o len R.kept
@@ -129,26 +154,20 @@ module _ (l m : Level) (J : Joins l m l) (j : Join) (s before : List ℕ) (at n 
             ends-here : join_sign l (kind_at s a.next) ≡ none → joined s (join_sign l) (part_at l s) (found R.tree a.next) ≡ found R.tree a.next
             ends-here z = rw z
 
-            pub joins-same : length u ≡ length before
-            joins-same = rw W.is (joins_long (join_operator j) P.parts o a.count fit ∙ len ∙ P.long)
-
-            pub parts-end : join_sign l k.kind ≡ none → Reads l s before u at n d (record { ok = true; deep = x; next = a.next; count = r })
+            pub parts-end : join_sign l k.kind ≡ none → Reads l s before u at n d (Some (record { deep = x; next = a.next; count = r }))
             parts-end z f h =
                 record {
-                  accepts = λ _. record {
-                    tree = joined_to j P.parts R.tree;
-                    is = every s l at room.within f h ∙ P.same ∙ ap (map_part (joined_to j P.parts)) (rest-is ∙ ends-here (sign-is ∙ z));
-                    stored = λ y.
-                        let q = sym E ∙ y in
-                        rw (W.is, W.ends) (joins-stored j P.parts o n last a.count R.tree linked-now R.count fit (stored-now (or_left deep a.deep q)) (R.stored (or_right deep a.deep q)));
-                    deeper = E ∙ ap (λ (b : Bool). deep || b) R.deeper ∙ sym (P.deeper R.tree);
-                    kept = λ i q. rw W.is (joins-kept (join_operator j) P.parts o a.count fit i (omega (arith, first-kept, R.count)) ∙ R.kept i (omega (arith, first-kept)) ∙ P.kept i q);
-                    count = omega (arith, W.ends, first-kept, R.count);
-                    onward = omega (arith, P.onward, R.onward);
-                    within = R.within;
-                    short = omega (arith, W.ends, P.short, R.short);
-                  };
-                  refuses = λ y. clash true refl y;
+                  tree = joined_to j P.parts R.tree;
+                  is = every s l at room.within f h ∙ P.same ∙ ap (map_part (joined_to j P.parts)) (rest-is ∙ ends-here (sign-is ∙ z));
+                  stored = λ y.
+                      let q = sym E ∙ y in
+                      rw (W.is, W.ends) (joins-stored j P.parts o n last a.count R.tree linked-now R.count fit (stored-now (or_left deep a.deep q)) (R.stored (or_right deep a.deep q)));
+                  deeper = E ∙ ap (λ (b : Bool). deep || b) R.deeper ∙ sym (P.deeper R.tree);
+                  kept = λ i q. rw W.is (joins-kept (join_operator j) P.parts o a.count fit i (omega (arith, first-kept, R.count)) ∙ R.kept i (omega (arith, first-kept)) ∙ P.kept i q);
+                  count = omega (arith, W.ends, first-kept, R.count);
+                  onward = omega (arith, P.onward, R.onward);
+                  within = R.within;
+                  short = omega (arith, W.ends, P.short, R.short);
                 }
 
           -- a sign follows: a link is written, and the next part is to be read

@@ -2,11 +2,10 @@
 // is declared here. Paper 01, section Plan text.
 #![tactic(auto)]
 
-// What a reader tells: whether it read, whether more than 64 stand around a token (ground 4), the position after what it
-// read, and how many numbers stand in the table.
+// What a reader has read: whether more than 64 stand around a token (ground 4), the position after it, and how many numbers
+// stand in the table.
 #[derive(Clone, Copy)]
 pub struct Reading {
-    pub ok: bool,
     pub deep: bool,
     pub next: usize,
     pub count: usize,
@@ -19,11 +18,10 @@ pub struct Letters {
     pub next: usize,
 }
 
-// A text that is read: whether it is in the grammar (else ground 3), whether it is nested too deep (ground 4), how many set
-// letters and how many numbers of the tree stand in the lent tables.
+// A text of the grammar: whether it is nested too deep (ground 4), how many set letters and how many numbers of the tree stand
+// in the lent tables.
 #[derive(Clone, Copy)]
 pub struct Syntax {
-    pub ok: bool,
     pub deep: bool,
     pub sets: usize,
     pub end: usize,

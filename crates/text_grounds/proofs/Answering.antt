@@ -2,12 +2,16 @@
 use mathlib.Core.Path.{◌≡◌, sym, ap, ◌∙◌}
 use mathlib.Core.Bool.{Bool, true, false}
 use mathlib.Core.List.{List, []}
-use Prim.Native.Nat.{ℕ, suc, ◌≤◌, ◌<◌}
+use Prim.Native.Nat.{ℕ, ◌≤◌, ◌<◌}
 use native.Mathlib.Decide.{dec_le}
 use native.Mathlib.Omega.{arith}
 use lib.ListN.{length, take, length-take}
 use lib.Seq.{take_all}
-use borrow.Author.Tests.{lt-ltb, le-ltb, ne_eqb}
+use borrow.Author.Tests.{lt-ltb, le-ltb}
+use Rattle.std.specs.Prelude.{Ok, Err}
+use Rattle.logic.specs.declared.refusal.Refusal.{Refusal}
+use Rattle.logic.specs.declared.refusal.Refusal.TheVariants.{WrongName, ConstantTooLarge, FourthQuantifier, TooManyNodes, TooManyCells}
+use Rattle.logic.specs.Refusal.{refusal_number, answer_number}
 use Rattle.logic.specs.Formula.{node_count}
 use Rattle.logic.specs.Cells.{cell_count}
 use Rattle.logic.specs.Moves.{refusal}
@@ -15,7 +19,7 @@ use Rattle.logic.proofs.Lists.{or-false, or-true-left, or_true_right}
 use Rattle.text_tree.specs.Tree.{Tree, Declared, letters_of}
 use Rattle.text_tree.specs.inner.Stored.{Stored}
 use Rattle.text_names.specs.declared.Faults.{Faults}
-use Rattle.text_grounds.specs.declared.CoreAnswer.{CoreAnswer}
+use Rattle.text_grounds.specs.declared.CoreSize.{CoreSize}
 use Rattle.text_core.specs.Core.{core_of}
 use Rattle.text_core.specs.Names.{misdeclared, misnamed, ground5, ground6, ground7, Lettered}
 use Rattle.text_counts.specs.inner.Counts.{CountsNodes, CountsCells}
@@ -25,17 +29,10 @@ use Rattle.text_core.specs.inner.Refusal.{core_refusal}
 use Rattle.text_grounds.specs.inner.Answered.{Answered, Answers}
 use Rattle.text_names.specs.inner.Faults.{Misdeclares, FindsFaults}
 
--- an answer that gives a ground's number alone
-abbrev Refuses : CoreAnswer → ℕ → Type 0
-Refuses r g = (r.refused ≡ g) × (r.nodes ≡ 0) × (r.cells ≡ 0)
-
 module _ (u : ℕ) (sets : List Declared) (a : Tree) where
-  stop : (r : CoreAnswer) (n : ℕ) → Refuses r (suc n) → core_refusal u sets a ≡ suc n → Answered u sets a r
-  stop r n R h = record {
-    refused-is = R.0 ∙ sym h;
-    nodes-is = rw (h, ne_eqb (suc n) 0 (λ z. omega arith)) R.1;
-    cells_is = rw (h, ne_eqb (suc n) 0 (λ z. omega arith)) R.2;
-  }
+  stop : (g : Refusal) → core_refusal u sets a ≡ refusal_number g → Answered u sets a (Err g)
+  unfolding answer_number
+  stop g h = record { refused-is = sym h; sizes-are = tt }
 
   at_5 : ground5 sets a ≡ true → core_refusal u sets a ≡ 5
   unfolding core_refusal core_grounds refusal
@@ -64,63 +61,62 @@ module _ (u : ℕ) (sets : List Declared) (a : Tree) where
         unfolding core_refusal core_grounds refusal
         at-0 h8 h = rw (h5, h6, h7, le-ltb 512 _ h8, le-ltb 1048576 _ h)
 
-module _ (t : List ℕ) (e : ℕ) (letters : List ℕ) (u : ℕ) (r : CoreAnswer) (m : Bool) (M : Misdeclares letters m) where
-  pub answer-declared : Refuses r 5 → m ≡ true → Answers t e letters u r
-  unfolding Answers Misdeclares ground5
-  answer-declared R h sets a own s l = stop u sets a r 4 R (at_5 u sets a (or-true-left _ _ (sym (M sets own) ∙ h)))
+module _ (t : List ℕ) (e : ℕ) (letters : List ℕ) (u : ℕ) (m : Bool) (M : Misdeclares letters m) where
+  pub answer-declared : m ≡ true → Answers t e letters u (Err WrongName)
+  unfolding refusal_number Answers Misdeclares ground5
+  answer-declared h sets a own s l = stop u sets a WrongName (at_5 u sets a (or-true-left _ _ (sym (M sets own) ∙ h)))
 
   module _ (f : Faults) (F : FindsFaults t e letters f) where
     named : (sets : List Declared) (a : Tree) → letters_of sets ≡ letters → Stored t e a → Lettered a → misnamed (letters_of sets) [] a ≡ f.names
     unfolding FindsFaults
     named sets a own s l = ap (λ (x : List ℕ). misnamed x [] a) own ∙ sym (F a s l).names-is
 
-    pub answer-names : Refuses r 5 → f.names ≡ true → Answers t e letters u r
-    unfolding Answers ground5
-    answer-names R h sets a own s l = stop u sets a r 4 R (at_5 u sets a (or_true_right (misdeclared sets) _ (named sets a own s l ∙ h)))
+    pub answer-names : f.names ≡ true → Answers t e letters u (Err WrongName)
+    unfolding refusal_number Answers ground5
+    answer-names h sets a own s l = stop u sets a WrongName (at_5 u sets a (or_true_right (misdeclared sets) _ (named sets a own s l ∙ h)))
 
     module _ (hd : m ≡ false) (hn : f.names ≡ false) where
       sound-5 : (sets : List Declared) (a : Tree) → letters_of sets ≡ letters → Stored t e a → Lettered a → ground5 sets a ≡ false
       unfolding Misdeclares ground5
       sound-5 sets a own s l = or-false _ _ (sym (M sets own) ∙ hd) (named sets a own s l ∙ hn)
 
-      pub answer-constants : Refuses r 6 → f.constants ≡ true → Answers t e letters u r
-      unfolding Answers FindsFaults
-      answer-constants R h sets a own s l = stop u sets a r 5 R (at-6 u sets a (sound-5 sets a own s l) (sym (F a s l).constants-is ∙ h))
+      pub answer-constants : f.constants ≡ true → Answers t e letters u (Err ConstantTooLarge)
+      unfolding refusal_number Answers FindsFaults
+      answer-constants h sets a own s l = stop u sets a ConstantTooLarge (at-6 u sets a (sound-5 sets a own s l) (sym (F a s l).constants-is ∙ h))
 
       module _ (hc : f.constants ≡ false) where
         sound-6 : (a : Tree) → Stored t e a → Lettered a → ground6 a ≡ false
         unfolding FindsFaults
         sound-6 a s l = sym (F a s l).constants-is ∙ hc
 
-        pub answer-quantifiers : Refuses r 7 → f.quantifiers ≡ true → Answers t e letters u r
-        unfolding Answers FindsFaults
-        answer-quantifiers R h sets a own s l = stop u sets a r 6 R (at_7 u sets a (sound-5 sets a own s l) (sound-6 a s l) (sym (F a s l).quantifiers-is ∙ h))
+        pub answer-quantifiers : f.quantifiers ≡ true → Answers t e letters u (Err FourthQuantifier)
+        unfolding refusal_number Answers FindsFaults
+        answer-quantifiers h sets a own s l = stop u sets a FourthQuantifier (at_7 u sets a (sound-5 sets a own s l) (sound-6 a s l) (sym (F a s l).quantifiers-is ∙ h))
 
         module _ (hq : f.quantifiers ≡ false) (nodes : ℕ) (N : CountsNodes t e nodes) where
           sound-7 : (a : Tree) → Stored t e a → Lettered a → ground7 a ≡ false
           unfolding FindsFaults
           sound-7 a s l = sym (F a s l).quantifiers-is ∙ hq
 
-          pub answer-nodes : Refuses r 8 → 512 < nodes → Answers t e letters u r
-          unfolding Answers CountsNodes
-          answer-nodes R h sets a own s l =
-              stop u sets a r 7 R (at_8 u sets a (sound-5 sets a own s l) (sound-6 a s l) (sound-7 a s l) (omega (arith, N (letters_of sets) a s)))
+          pub answer-nodes : 512 < nodes → Answers t e letters u (Err TooManyNodes)
+          unfolding refusal_number Answers CountsNodes
+          answer-nodes h sets a own s l =
+              stop u sets a TooManyNodes (at_8 u sets a (sound-5 sets a own s l) (sound-6 a s l) (sound-7 a s l) (omega (arith, N (letters_of sets) a s)))
 
           module _ (few : nodes ≤ 512) (cells : ℕ) (C : CountsCells t e u cells) where
-            pub answer-cells : Refuses r 9 → 1048576 < cells → Answers t e letters u r
-            unfolding Answers CountsNodes CountsCells
-            answer-cells R h sets a own s l =
-                stop u sets a r 8 R
+            pub answer-cells : 1048576 < cells → Answers t e letters u (Err TooManyCells)
+            unfolding refusal_number Answers CountsNodes CountsCells
+            answer-cells h sets a own s l =
+                stop u sets a TooManyCells
                 (at_9 u sets a (sound-5 sets a own s l) (sound-6 a s l) (sound-7 a s l) (omega (arith, N (letters_of sets) a s)) (omega (arith, C (letters_of sets) a s)))
 
-            pub answer-counts : r.refused ≡ 0 → r.nodes ≡ nodes → r.cells ≡ cells → cells ≤ 1048576 → Answers t e letters u r
-            unfolding Answers CountsNodes CountsCells
-            answer-counts R n c h sets a own s l =
+            pub answer-counts : (x : CoreSize) → x.nodes ≡ nodes → x.cells ≡ cells → cells ≤ 1048576 → Answers t e letters u (Ok x)
+            unfolding answer_number Answers CountsNodes CountsCells
+            answer-counts x n c h sets a own s l =
                 let z = at-0 u sets a (sound-5 sets a own s l) (sound-6 a s l) (sound-7 a s l) (omega (arith, N (letters_of sets) a s)) (omega (arith, C (letters_of sets) a s)) in
                 record {
-                  refused-is = R ∙ sym z;
-                  nodes-is = rw z (omega (arith, N (letters_of sets) a s));
-                  cells_is = rw z (omega (arith, C (letters_of sets) a s));
+                  refused-is = sym z;
+                  sizes-are = (omega (arith, n, N (letters_of sets) a s), omega (arith, c, C (letters_of sets) a s));
                 }
 
 -- a reader need keep no more than 17 sets of the declaration

@@ -1,14 +1,16 @@
 -- The faults of a stored tree, by its last record. Assumes nothing.
 use mathlib.Core.Path.{◌≡◌, refl, sym, ap, ap₂, ◌∙◌}
-use mathlib.Core.Bool.{Bool, true, false, not, ◌||◌, true≢false, false≢true}
+use mathlib.Core.Bool.{Bool, true, false, ◌||◌, true≢false, false≢true}
 use mathlib.Core.List.{List, [], ◌∷◌}
+use mathlib.Core.Logic.{◌⊎◌, inl, inr}
 use Prim.Native.Nat.{ℕ, suc, ◌+◌, ◌*◌, ◌-◌, ◌≤◌, ◌<◌}
 use native.Mathlib.Numerals.{add-one}
 use native.Mathlib.Omega.{arith}
-use lib.Dec.{leb}
+use lib.Dec.{eqb, leb}
+use Rattle.std.specs.List.{list_any}
 use lib.ListN.{length, get_or, take, drop}
 use lib.Seq.{take_all}
-use borrow.Author.Tests.{leb-false, lt-ltb, le-ltb, not-true, not-false}
+use borrow.Author.Tests.{leb-false, lt-ltb, le-ltb}
 use Rattle.logic.proofs.Lists.{or-true-left, or_true_right}
 use Rattle.text_tree.specs.Tree.{Tree, par, Declared, letters_of}
 use Rattle.text_tree.proofs.Sets.{sets-length}
@@ -18,7 +20,7 @@ use Rattle.text_tree.proofs.Joins.{no-tree, join-other, join-no-negation, next-j
 use Rattle.text_core.specs.Names.{among, declared_twice, misdeclared, misnamed, ground6, fourth, ground7, Variable, Lettered}
 use Rattle.text_names.specs.inner.Faults.{Misdeclares, IsBound, Binds, NamesLiteral, HighLiteral, LiteralFaults, Found, Finds, FindsFaults}
 use Rattle.text_tree.proofs.Table.{stored-after, stored-within, on-leaf, on-neg, on-bind, on-join}
-use Rattle.text_names.proofs.Naming.{no_bits}
+use Rattle.text_names.proofs.Naming.{no_bits, among_contains}
 
 -- the second test counts only where the first fails
 or-when : (a b c d : Bool) → a ≡ c → (c ≡ false → b ≡ d) → (a || b) ≡ (c || d)
@@ -83,26 +85,22 @@ module _ (t : List ℕ) (e : ℕ) (sets : List ℕ) (bound d : ℕ) (r : Faults)
           quantifiers-is = R.2 ∙ ap₂ ◌||◌ f.quantifiers-is g.quantifiers-is;
         })
 
-    pub finds-none : (JoinAt t e → ⊥) → 5 ≤ get_or t (e - 1) 0 → Finds t e sets bound d r
-    unfolding Finds
-    finds-none f h a s l = absurd (no-tree t e f n m h a s)
+  pub finds-none : literal_code (get_or t (e - 1) 0) ≡ false → (JoinAt t e → ⊥) → (get_or t (e - 1) 0 < 2) ⊎ (5 ≤ get_or t (e - 1) 0) → Finds t e sets bound d r
+  unfolding Finds literal_code
+  finds-none n f (inl h) a s l = absurd (true≢false (sym (or-true-left _ _ (lt-ltb _ 2 h)) ∙ n))
+  finds-none n f (inr h) a s l = absurd (no-tree t e f n (λ m. omega arith) h a s)
 
 -- the joins at the end of a tree, taken from the one that stands first: of n, so many are left
-abbrev pub FindsLeft : List ℕ → ℕ → List ℕ → ℕ → ℕ → ℕ → ℕ → Faults → Type 0
-FindsLeft t e sets bound d n left r = (left ≤ n) × Finds t (e - 2 * left) sets bound d r
-
-pub finds-next : (t : List ℕ) (e : ℕ) (sets : List ℕ) (bound d n left : ℕ) (a b r : Faults) → Joins t e n → 0 < left → FindsLeft t e sets bound d n left b
-    → Finds t (get_or t (e - 2 * (left - 1) - 2) 0) sets bound d a
+pub finds-next : (t : List ℕ) (e : ℕ) (sets : List ℕ) (bound d n left : ℕ) (a b r : Faults) → Joins t e n → 0 < left → left ≤ n
+    → Finds t (e - 2 * left) sets bound d b → Finds t (get_or t (e - 2 * (left - 1) - 2) 0) sets bound d a
     → (r.names ≡ (a.names || b.names)) × (r.constants ≡ (a.constants || b.constants)) × (r.quantifiers ≡ (a.quantifiers || b.quantifiers))
-    → FindsLeft t e sets bound d n (left - 1) r
-finds-next t e sets bound d n left a b r J some B A R =
-    let j = next-join t e n left J some B.0 in (
-      (omega (arith, B.0)),
-      finds-join t (e - 2 * (left - 1)) sets bound d r (join-other t _ j) (join-no-negation t _ j) a b j.low A (rw (next-right t e n left J some B.0) B.1) R,
-    )
+    → Finds t (e - 2 * (left - 1)) sets bound d r
+finds-next t e sets bound d n left a b r J some l B A R =
+    let j = next-join t e n left J some l in
+    finds-join t (e - 2 * (left - 1)) sets bound d r (join-other t _ j) (join-no-negation t _ j) a b j.low A (rw (next-right t e n left J some l) B) R
 
-pub finds-done : (t : List ℕ) (e : ℕ) (sets : List ℕ) (bound d n left : ℕ) (r : Faults) → left ≤ 0 → FindsLeft t e sets bound d n left r → Finds t e sets bound d r
-finds-done t e sets bound d n left r h B = rw (none_left e left h) at B.1
+pub finds-done : (t : List ℕ) (e : ℕ) (sets : List ℕ) (bound d left : ℕ) (r : Faults) → left ≤ 0 → Finds t (e - 2 * left) sets bound d r → Finds t e sets bound d r
+finds-done t e sets bound d left r h B = rw (none_left e left h) at B
 
 pub finds-all : (t : List ℕ) (e : ℕ) (sets : List ℕ) (r : Faults) → Finds t e sets 0 0 r → FindsFaults t e sets r
 unfolding Finds FindsFaults ground7
@@ -110,7 +108,7 @@ finds-all t e sets r F a s l =
     let f = F a s l in record { names-is = f.names-is [] no_bits; constants-is = f.constants-is; quantifiers-is = f.quantifiers-is }
 
 -- the declared list
-pub twice-none : (sets : List ℕ) → length sets ≡ 0 → false ≡ declared_twice sets
+pub twice-none : (sets : List ℕ) → length sets < 1 → false ≡ declared_twice sets
 unfolding declared_twice
 twice-none [] h = refl
 twice-none (x ∷ xs) h = absurd (omega arith)
@@ -119,20 +117,14 @@ twice-none (x ∷ xs) h = absurd (omega arith)
 abbrev rest : List ℕ → List ℕ
 rest sets = take (length sets - 1) (drop 1 sets)
 
-twice-step : (sets : List ℕ) → (length sets ≡ 0 → ⊥) → declared_twice sets ≡ (among (rest sets) (get_or sets 0 0) || declared_twice (rest sets))
+-- the first letter again behind it, or a letter twice there
+pub twice-step : (sets : List ℕ) (again : Bool) → 1 ≤ length sets → again ≡ list_any (λ x. eqb x (get_or sets 0 0)) (rest sets)
+    → declared_twice sets ≡ (again || declared_twice (rest sets))
 unfolding declared_twice
-twice-step [] h = absurd (h refl)
-twice-step (x ∷ xs) h =
+twice-step [] again h e = absurd (omega arith)
+twice-step (x ∷ xs) again h e =
     let same : take (suc (length xs) - 1) xs ≡ xs = take_all (suc (length xs) - 1) xs (omega arith) in
-    sym (ap (λ (l : List ℕ). among l x || declared_twice l) same)
-
-module _ (sets : List ℕ) (some : length sets ≡ 0 → ⊥) (x : ℕ) (x-is : x ≡ get_or sets 0 0) (r : Bool) (r-is : r ≡ not (among (rest sets) x)) where
-  pub twice_found : not r ≡ true → true ≡ declared_twice sets
-  twice_found h = sym (twice-step sets some ∙ or-true-left _ _ (ap (among (rest sets)) (sym x-is) ∙ not-false _ (sym r-is ∙ not-true r h)))
-
-  pub twice-on : not r ≡ false → (q : Bool) → q ≡ declared_twice (rest sets) → q ≡ declared_twice sets
-  twice-on h q e =
-      e ∙ sym (twice-step sets some ∙ ap (λ (b : Bool). b || declared_twice (rest sets)) (ap (among (rest sets)) (sym x-is) ∙ not-true _ (sym r-is ∙ not-false r h)))
+    rw (among_contains xs x, e, same)
 
 pub long-list : (sets : List Declared) → 16 < length sets → true ≡ misdeclared sets
 unfolding misdeclared

@@ -1,15 +1,20 @@
 -- Letters: their places, the mask of the bound ones, and the faults of a literal's record. Assumes nothing.
-use mathlib.Core.Path.{◌≡◌, refl, sym, ap, ◌∙◌}
+use mathlib.Core.Path.{◌≡◌, refl, sym, ap, ap₂, ◌∙◌}
 use mathlib.Core.Bool.{Bool, true, false, cond, not, ◌||◌, true≢false, false≢true}
 use mathlib.Core.List.{List, [], ◌∷◌}
 use Prim.Native.Nat.{ℕ, suc, ◌+◌, ◌*◌, ◌-◌, ◌/◌, ◌%◌, ◌^◌, ◌≤◌, ◌<◌}
 use native.Mathlib.Decide.{ℕ_discrete}
 use native.Mathlib.Nat.{zero-div}
 use native.Mathlib.Omega.{arith}
-use lib.Dec.{eqb, leb, ltb}
-use lib.ListN.{length, get_or, drop, drop_of_length-le}
-use lib.Seq.{drop-cons}
-use borrow.Author.Tests.{leb-true, leb-false, le-leb, lt-leb, ne_eqb, eq-eqb}
+use lib.Dec.{eqb, ltb}
+use lib.ListN.{length, get_or}
+use borrow.Author.Tests.{ne_eqb, eq-eqb}
+use Rattle.std.specs.List.{position_or_len, list_any}
+use Rattle.std.specs.Option.{unwrap_or}
+use Rattle.std.specs.Prelude.{Option, Some, None}
+use Rattle.std.proofs.lemmas.Bool.Decides.{nat_tests}
+use Rattle.std.proofs.lemmas.List.Recursion.{is_position_or_len, or_is}
+use Rattle.std.proofs.lemmas.List.Sums.{position_or_len_is}
 use Rattle.logic.specs.Formula.{isin, notin, port, size}
 use Rattle.logic.specs.Configuration.{in_mask}
 use Rattle.logic.specs.inner.Flip.{flip_port}
@@ -21,51 +26,34 @@ use Rattle.text_tree.specs.inner.Stored.{test_operator, test_payload}
 use Rattle.text_core.specs.Names.{among, set_number, misnamed_test, high_constant, Variable, SetLetter, LetteredTest}
 use Rattle.text_names.specs.inner.Faults.{Marks, IsBound, Binds, NamesLiteral, HighLiteral}
 
--- the search for a letter, from place i on
-module _ (sets : List ℕ) (s i : ℕ) where
-  pub number-here : i < length sets → get_or sets i 0 ≡ s → set_number (drop i sets) s ≡ 0
-  unfolding set_number
-  number-here h e = rw (drop-cons sets i 0 h, eq-eqb s (get_or sets i 0) (sym e))
+-- the place of a letter, as the library finds it
+number_place : (sets : List ℕ) (s : ℕ) → set_number sets s ≡ position_or_len (λ x. eqb s x) sets
+unfolding set_number
+number_place sets s = is_position_or_len (λ l. set_number l s) (λ x. eqb s x) refl (λ x l. let e : suc (set_number l s) ≡ 1 + set_number l s = omega arith in ap (cond (eqb s x) 0) e) sets
 
-  pub number-next : i < length sets → (get_or sets i 0 ≡ s → ⊥) → set_number (drop i sets) s ≡ suc (set_number (drop (suc i) sets) s)
-  unfolding set_number
-  number-next h n = rw (drop-cons sets i 0 h, ne_eqb s (get_or sets i 0) (λ e. n (sym e)))
+-- what `position` found, or the length
+pub number_is : (sets : List ℕ) (s : ℕ) (o : Option ℕ)
+    → ((i : ℕ) → o ≡ Some i → (i < length sets) × (eqb s (get_or sets i 0) ≡ true) × ((k : ℕ) → k < i → eqb s (get_or sets k 0) ≡ false))
+    → (o ≡ None → (k : ℕ) → k < length sets → eqb s (get_or sets k 0) ≡ false) → unwrap_or o (length sets) ≡ set_number sets s
+number_is sets s (Some i) here nowhere =
+    let f = here i refl in sym (number_place sets s ∙ position_or_len_is (λ x. eqb s x) sets i 0 (omega (arith, f.0)) f.2 (λ _. f.1))
+number_is sets s None here nowhere =
+    sym (number_place sets s ∙ position_or_len_is (λ x. eqb s x) sets (length sets) 0 (omega arith) (nowhere refl) (λ l. absurd (omega arith)))
 
-  pub number-end : length sets ≤ i → set_number (drop i sets) s ≡ 0
-  unfolding set_number
-  number-end h = rw (drop_of_length-le sets h)
+-- whether a letter is in a list: what `any` and `contains` answer
+pub among_is : (sets : List ℕ) (s : ℕ) (r : Bool) → (r ≡ true → (i : ℕ) × (i < length sets) × (eqb s (get_or sets i 0) ≡ true))
+    → (r ≡ false → (i : ℕ) → i < length sets → eqb s (get_or sets i 0) ≡ false) → r ≡ among sets s
+unfolding among some_of
+among_is sets s r = or_is (λ l. among l s) (λ x. eqb s x) refl (λ x l. refl) sets 0 r
 
-leb-suc : (a b : ℕ) → leb (suc a) (suc b) ≡ leb a b
-leb-suc a b = go (leb a b) refl
-  where
-    go : (t : Bool) → leb a b ≡ t → leb (suc a) (suc b) ≡ t
-    go true h = le-leb (suc a) (suc b) (omega (arith, leb-true a b h))
-    go false h = lt-leb (suc a) (suc b) (omega (arith, leb-false a b h))
-
--- a letter is undeclared if its place is past the list
-pub undeclared-place : (sets : List ℕ) (S : ℕ) → leb (length sets) (set_number sets S) ≡ not (among sets S)
-unfolding set_number among some_of
-undeclared-place [] S = refl
-undeclared-place (x ∷ xs) S = go (eqb S x) (undeclared-place xs S)
-  where
-    go : (b : Bool) → leb (length xs) (set_number xs S) ≡ not (some_of (eqb S) xs)
-        → leb (suc (length xs)) (cond b 0 (suc (set_number xs S))) ≡ not (b || some_of (eqb S) xs)
-    go true h = lt-leb (suc (length xs)) 0 (omega arith)
-    go false h = leb-suc (length xs) (set_number xs S) ∙ h
+pub among_contains : (sets : List ℕ) (s : ℕ) → among sets s ≡ list_any (λ x. eqb x s) sets
+unfolding among some_of
+among_contains [] s = refl
+among_contains (x ∷ xs) s =
+    let e : eqb s x ≡ eqb x s = grind (arith, nat_tests) in
+    ap₂ ◌||◌ e (among_contains xs s)
 
 module _ (bound v : ℕ) where
-  pub bound-not : (r : Bool) → (Variable v → ⊥) → IsBound bound v r
-  unfolding IsBound
-  bound-not r h vars M l = absurd (h l)
-
-  pub bound-bit : (r : Bool) → r ≡ in_mask bound (v - 97) → IsBound bound v r
-  unfolding IsBound Marks
-  bound-bit r h vars M l = h ∙ M v l
-
-  pub binds-not : (r : ℕ) → (Variable v → ⊥) → Binds bound v r
-  unfolding Binds
-  binds-not r h vars M l f = absurd (h l)
-
   pub binds-flip : (r : ℕ) → r ≡ flip_port bound (v - 97) → Binds bound v r
   unfolding Binds Marks among some_of Variable
   binds-flip r h vars M l f x lx = go (ℕ_discrete x v)
@@ -73,14 +61,6 @@ module _ (bound v : ℕ) where
       go : Dec (x ≡ v) → in_mask r (x - 97) ≡ (eqb x v || some_of (eqb x) vars)
       go (yes e) = rw (h, e) (in-flip-same bound (v - 97) ∙ ap not (M v l ∙ f) ∙ sym (or-true-left _ _ (eq-eqb v v refl)))
       go (no n) = rw h (in-flip-other bound (v - 97) (x - 97) (λ e. n (omega arith)) ∙ M x lx ∙ sym (ap (λ (b : Bool). b || some_of (eqb x) vars) (ne_eqb x v n)))
-
-pub low-letter : (v : ℕ) → v < 97 → Variable v → ⊥
-unfolding Variable
-low-letter v h l = omega arith
-
-pub high-letter : (v : ℕ) → 122 < v → Variable v → ⊥
-unfolding Variable
-high-letter v h l = omega arith
 
 pub no_bits : Marks 0 []
 unfolding Marks in_mask among some_of

@@ -5,7 +5,7 @@ use Prim.Native.Nat.{ℕ, zero, suc, ◌≤◌, ◌<◌}
 use native.Mathlib.Omega.{arith}
 use lib.ListN.{length}
 use borrow.Author.Tests.{ne_eqb}
-use Rattle.logic.specs.Formula.{Relation, lt, le, eq, ne, ge, gt, relation_of, isin, notin, port, size, literal_of, Node, or}
+use Rattle.logic.specs.Formula.{Relation, lt, le, eq, ne, ge, gt, relation_of, isin, notin, port, size, literal_of, Node}
 use Rattle.table_format.specs.Bytes.{test_of, node_of}
 use Rattle.table_format.proofs.FieldRules.{literal-node}
 use Rattle.text_tokens.specs.Tokens.{digits_of}
@@ -16,14 +16,14 @@ use Rattle.text_put.proofs.Putting.{puts-more}
 use Rattle.text_node.specs.inner.Nodes.{quantifier_bytes, own_bytes}
 
 -- a relation of number 5 or more
-pub last-relation : (r : ℕ) → (r ≡ 0 → ⊥) → (r ≡ 1 → ⊥) → (r ≡ 2 → ⊥) → (r ≡ 3 → ⊥) → (r ≡ 4 → ⊥) → relation_of r ≡ gt
+pub last-relation : (r : ℕ) → 5 ≤ r → relation_of r ≡ gt
 unfolding relation_of
-last-relation zero a b c d e = absurd (a refl)
-last-relation (suc zero) a b c d e = absurd (b refl)
-last-relation (suc (suc zero)) a b c d e = absurd (c refl)
-last-relation (suc (suc (suc zero))) a b c d e = absurd (d refl)
-last-relation (suc (suc (suc (suc zero)))) a b c d e = absurd (e refl)
-last-relation (suc (suc (suc (suc (suc r))))) a b c d e = refl
+last-relation zero h = absurd (omega arith)
+last-relation (suc zero) h = absurd (omega arith)
+last-relation (suc (suc zero)) h = absurd (omega arith)
+last-relation (suc (suc (suc zero))) h = absurd (omega arith)
+last-relation (suc (suc (suc (suc zero)))) h = absurd (omega arith)
+last-relation (suc (suc (suc (suc (suc r))))) h = refl
 
 -- a relation between spaces has at most four bytes
 pub spaced-few : (r : Relation) → length (spaced (relation_bytes r)) ≤ 4
@@ -75,13 +75,12 @@ module _ (r a b d : ℕ) where
   unfolding own_bytes literal_of
   own-literal kind h = ap (λ (n : Node). own_bytes n d) (literal-node kind r a b h)
 
-  pub own-all : (kind : ℕ) → kind ≡ 1 → own_bytes (node_of kind r a b) d ≡ quantifier_bytes kind d
+  pub own-quantifier : (kind : ℕ) → 1 ≤ kind → kind ≤ 2 → own_bytes (node_of kind r a b) d ≡ quantifier_bytes kind d
   unfolding node_of own_bytes
-  own-all kind e = rw e
-
-  pub own_any : (kind : ℕ) → kind ≡ 2 → own_bytes (node_of kind r a b) d ≡ quantifier_bytes kind d
-  unfolding node_of own_bytes
-  own_any kind e = rw e
+  own-quantifier zero h g = absurd (omega arith)
+  own-quantifier (suc zero) h g = refl
+  own-quantifier (suc (suc zero)) h g = refl
+  own-quantifier (suc (suc (suc k))) h g = absurd (omega arith)
 
   pub own-none : (kind : ℕ) → kind < 5 → (kind ≡ 1 → ⊥) → (kind ≡ 2 → ⊥) → own_bytes (node_of kind r a b) d ≡ []
   unfolding node_of own_bytes

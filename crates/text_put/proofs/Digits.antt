@@ -41,9 +41,9 @@ module _ (at : ℕ) (out : List ℕ) (k n : ℕ) where
   pub put-none : k ≡ 0 → Puts at (digits_of k n) out at out
   put-none e = rw (digits-none k n e) (puts_none at out)
 
-  pub put_one : (end : ℕ) (out' : List ℕ) (b : ℕ) → (k ≡ 0 → ⊥) → n < 10 → b ≡ 48 + n % 10 → Puts at (b ∷ []) out end out' → Puts at (digits_of k n) out end out'
-  put_one end out' b f h e P = rw (digits-one k n f h, ← e) P
+  pub put_one : (end : ℕ) (out' : List ℕ) → (k ≡ 0 → ⊥) → n < 10 → Puts at ((48 + n % 10) ∷ []) out end out' → Puts at (digits_of k n) out end out'
+  put_one end out' f h P = rw (digits-one k n f h) P
 
-  pub put_last : (next : ℕ) (mid : List ℕ) (end : ℕ) (out' : List ℕ) (b : ℕ) → (k ≡ 0 → ⊥) → 10 ≤ n → Puts at (digits_of (k - 1) (n / 10)) out next mid → b ≡ 48 + n % 10
-      → Puts next (b ∷ []) mid end out' → Puts at (digits_of k n) out end out'
-  put_last next mid end out' b f h P e Q = rw (digits_more k n f h, ← e) (puts-more at out (digits_of (k - 1) (n / 10)) (b ∷ []) next end mid out' P Q)
+  pub put_last : (next : ℕ) (mid : List ℕ) (end : ℕ) (out' : List ℕ) → (k ≡ 0 → ⊥) → 10 ≤ n → Puts at (digits_of (k - 1) (n / 10)) out next mid
+      → Puts next ((48 + n % 10) ∷ []) mid end out' → Puts at (digits_of k n) out end out'
+  put_last next mid end out' f h P Q = rw (digits_more k n f h) (puts-more at out (digits_of (k - 1) (n / 10)) ((48 + n % 10) ∷ []) next end mid out' P Q)

@@ -1,7 +1,7 @@
 // Bytes put one behind another into a lent table. What a table has no place for is counted and not put.
 #![tactic(auto)]
 
-ghost use Rattle.std.specs.Prelude.{◌≡◌, [], ◌∷◌, ◌+◌, ◌%◌, ◌≤◌, ◌<◌, length};
+ghost use Rattle.std.specs.Prelude.{◌≡◌, [], ◌∷◌, ◌+◌, ◌≤◌, ◌<◌, length};
 ghost use Rattle.text_tokens.specs.Tokens.{digits_of};
 ghost use Rattle.text_put.specs.inner.Puts.{Puts, most_places};
 
@@ -10,12 +10,10 @@ pub fn put_byte(out: &mut [u8], at: usize, b: u8) -> usize
     requires { at < most_places }
     ensures { Puts at (b ∷ []) out.old result out.new }
 {
-    let next = at + 1;
-    if out.len() <= at {
-        return next;
+    if at < out.len() {
+        out[at] = b;
     }
-    out[at] = b;
-    next
+    at + 1
 }
 
 // Puts bytes from a place on: where they end.
@@ -23,22 +21,15 @@ pub fn put_bytes(out: &mut [u8], at: usize, bytes: &[u8]) -> usize
     requires { at + length bytes.now ≤ most_places }
     ensures { Puts at bytes.now out.old result out.new }
 {
-    let mut i = 0;
-    while i < bytes.len() {
-        put_byte(out, at + i, bytes[i]);
-        i += 1;
+    let mut next = at;
+    for &b in bytes {
+        next = put_byte(out, next, b);
     }
-    at + i
+    next
 }
 
-// The last digit of a number.
-fn last_digit(n: u32) -> u8
-    ensures { result ≡ 48 + n % 10 }
-{
-    48 + (n % 10) as u8
-}
-
-// Puts a number of at most k digits from a place on: where it ends.
+// Puts a number of at most k digits from a place on: where it ends. No `write!`: clauses know what it prints into a `String`,
+// which needs a heap, and not into a lent table.
 pub fn put_digits(out: &mut [u8], at: usize, n: u32, k: usize) -> usize
     requires { at + k ≤ most_places }
     ensures { Puts at (digits_of k n) out.old result out.new }
@@ -46,9 +37,10 @@ pub fn put_digits(out: &mut [u8], at: usize, n: u32, k: usize) -> usize
     if k == 0 {
         return at;
     }
-    if n < 10 {
-        return put_byte(out, at, last_digit(n));
-    }
-    let next = put_digits(out, at, n / 10, k - 1);
-    put_byte(out, next, last_digit(n))
+    let next = if n < 10 {
+        at
+    } else {
+        put_digits(out, at, n / 10, k - 1)
+    };
+    put_byte(out, next, b'0' + (n % 10) as u8)
 }

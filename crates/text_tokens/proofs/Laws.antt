@@ -11,8 +11,14 @@ use lib.ListN.{length, get_or, drop, drop_of_length-le, length-drop, get_or-eq_d
 use lib.Seq.{drop-cons}
 use lib.Dec.{eqb, leb, ltb}
 use borrow.Author.Tests.{eqb-true, leb-true, leb-false}
+use Rattle.std.specs.Prelude.{take_while, cond}
+use Rattle.std.specs.List.{list_any}
+use Rattle.std.specs.Char.{is_ascii_alphanumeric}
+use Rattle.std.proofs.Common.{nat_eq}
+use Rattle.std.proofs.lemmas.Bool.Decides.{nat_tests}
+use Rattle.std.proofs.lemmas.List.Sums.{take_while-cons}
 use Rattle.logic.proofs.Lists.{and_left, and_right}
-use Rattle.text_tokens.specs.Tokens.{pick, between, is_digit, is_set, is_variable, blank, blanks, after_blanks, one_or_two, sign, sign_of, digits, number_of, run_at, run_token, here_at, token_at, among, known_byte, known_bytes}
+use Rattle.text_tokens.specs.Tokens.{pick, between, is_digit, is_set, is_variable, blank, blanks, after_blanks, one_or_two, sign, sign_of, digits, number_of, run_at, run_token, here_at, token_at, among, blanks_and_signs, known_byte}
 use Rattle.text_tokens.specs.declared.Token.{Token}
 use Rattle.text_tokens.specs.declared.Sign.{Sign}
 
@@ -24,11 +30,10 @@ when P false f g = g refl
 pub between-range : (a b c : ℕ) → between a b c ≡ true → (a ≤ b) × (b ≤ c)
 between-range a b c e = (leb-true _ _ (and_left _ (leb b c) e), leb-true _ _ (and_right (leb a b) _ e))
 
--- blanks
+lt-or-le : (a b : ℕ) → (a < b) ⊎ (b ≤ a)
+lt-or-le a b = elim (dec_le b a) [ yes h ↦ inr h | no f ↦ inl (omega arith) ]
 
-pub blanks-end : (s : List ℕ) (i : ℕ) → length s ≤ i → after_blanks s i ≡ i
-unfolding after_blanks blanks
-blanks-end s i h = rw (drop_of_length-le s h) (omega arith)
+-- blanks
 
 pub blanks-stop : (s : List ℕ) (i : ℕ) → i < length s → blank (get_or s i 0) ≡ false → after_blanks s i ≡ i
 unfolding after_blanks blanks
@@ -38,14 +43,24 @@ pub blanks-more : (s : List ℕ) (i : ℕ) → i < length s → blank (get_or s 
 unfolding after_blanks blanks
 blanks-more s i h e = rw (drop-cons s i 0 h, add-one, e) (omega arith)
 
+-- the count of the program
+pub blanks_count : (s : List ℕ) → length (take_while blank s) ≡ blanks s
+unfolding blanks
+blanks_count [] = refl
+blanks_count (b ∷ s) = rw (take_while-cons blank b s) (by-blank (blank b) (blanks_count s))
+  where
+    by-blank : (t : Bool) → length (take_while blank s) ≡ blanks s → length (cond t (b ∷ take_while blank s) []) ≡ pick t (suc (blanks s)) 0
+    by-blank true h = ap suc h
+    by-blank false h = refl
+
 blanks-le : (s : List ℕ) → blanks s ≤ length s
 unfolding blanks
 blanks-le [] = omega arith
 blanks-le (b ∷ s) = let h = blanks-le s in when (λ (n : ℕ). n ≤ suc (length s)) (blank b) (λ _. omega arith) (λ _. omega arith)
 
-pub blanks-within : (s : List ℕ) (at : ℕ) → at ≤ length s → after_blanks s at ≤ length s
+pub blanks_within : (s : List ℕ) (at : ℕ) → at ≤ length s → after_blanks s at ≤ length s
 unfolding after_blanks
-blanks-within s at h = omega (arith, blanks-le (drop at s), length-drop at s)
+blanks_within s at h = omega (arith, blanks-le (drop at s), length-drop at s)
 
 -- digit runs
 
@@ -66,19 +81,10 @@ cut (b ∷ s) v = by-digit (is_digit b) (cut s (10 * min 65 v + (b - 48))) (cut 
     by-digit false p q = omega arith
 
 module _ (s : List ℕ) (i v : ℕ) where
-  pub run_end : length s ≤ i → v ≤ 65 → run_at s i v ≡ record { value = v; end = i }
+  -- no digit stands at i, or the text ends there
+  pub run_stop : is_digit (get_or s i 0) ≡ false → v ≤ 65 → run_at s i v ≡ record { value = v; end = i }
   unfolding run_at digits number_of
-  run_end h l = rw (drop_of_length-le s h) (λ k. record { value = kept k; end = here k })
-    where
-      here : i + 0 ≡ i
-      here = omega arith
-
-      kept : min 65 v ≡ v
-      kept = omega arith
-
-  pub run-stop : i < length s → is_digit (get_or s i 0) ≡ false → v ≤ 65 → run_at s i v ≡ record { value = v; end = i }
-  unfolding run_at digits number_of
-  run-stop h e l = rw (drop-cons s i 0 h, e) (λ k. record { value = kept k; end = here k })
+  run_stop e l = ⊎_elim (λ h. rw (drop-cons s i 0 h, e) (λ k. record { value = kept k; end = here k })) (λ h. rw (drop_of_length-le s h) (λ k. record { value = kept k; end = here k })) (lt-or-le i (length s))
     where
       here : i + 0 ≡ i
       here = omega arith
@@ -131,15 +137,12 @@ module _ (a b c : ℕ) where
       when (Short b c) (eqb a 62) (λ _. short-two 61 20 21 (omega arith)) (λ _.
       when (Short b c) (eqb a 60) (λ _. short-less) (λ _. omega arith))))
 
-lt-or-le : (a b : ℕ) → (a < b) ⊎ (b ≤ a)
-lt-or-le a b = elim (dec_le b a) [ yes h ↦ inr h | no f ↦ inl (omega arith) ]
-
 -- a byte that is not 0 stands before the end
 some_byte : (s : List ℕ) (i : ℕ) → i ≤ length s → min 1 (get_or s i 0) + i ≤ length s
 some_byte s i h = ⊎_elim (λ lt. omega arith) (λ ge. rw (get_or-eq_default s 0 {n = i} ge) (omega arith)) (lt-or-le i (length s))
 
-pub sign-moves : (s : List ℕ) (i : ℕ) (g : Sign) → i < length s → g ≡ sign_of (get_or s i 0) (get_or s (i + 1) 0) (get_or s (i + 2) 0) → (i < i + g.len) × (i + g.len ≤ length s)
-sign-moves s i g h e =
+pub sign_moves : (s : List ℕ) (i : ℕ) (g : Sign) → i < length s → g ≡ sign_of (get_or s i 0) (get_or s (i + 1) 0) (get_or s (i + 2) 0) → (i < i + g.len) × (i + g.len ≤ length s)
+sign_moves s i g h e =
     let k : Short (get_or s (i + 1) 0) (get_or s (i + 2) 0) g = rw e (sign-short (get_or s i 0) (get_or s (i + 1) 0) (get_or s (i + 2) 0)) in (
       omega arith,
       ⊎_elim (λ lt. omega (arith, some_byte s (i + 1) (omega arith), some_byte s (i + 2) (omega arith)))
@@ -169,32 +172,30 @@ here-moves s i h =
     when (Moves s i) (is_variable a) (λ _. omega arith) (λ _.
     when (Moves s i) (is_set a) (λ _. omega arith) (λ _.
     when (Moves s i) (is_digit a) (λ d. run-token-moves s i lt d) (λ _.
-    let w = sign-moves s i g lt refl in omega arith))))
+    let w = sign_moves s i g lt refl in omega arith))))
 
 pub token-moves : (s : List ℕ) (at : ℕ) → at ≤ length s → Moves s at (token_at s at)
 unfolding token_at after_blanks
 token-moves s at h =
-    let k = here-moves s (after_blanks s at) (blanks-within s at h) in
+    let k = here-moves s (after_blanks s at) (blanks_within s at h) in
     record { on = omega (arith, k.on); within = k.within }
 
 -- known bytes
 
-pub among-end : (b : ℕ) (s : List ℕ) (i : ℕ) → length s ≤ i → among b (drop i s) ≡ false
+eqb-turned : (a b : ℕ) → eqb a b ≡ eqb b a
+eqb-turned a b = grind (arith, nat_tests)
+
+among_any : (b : ℕ) (xs : List ℕ) → among b xs ≡ list_any (λ y. nat_eq y b) xs
 unfolding among
-among-end b s i h = rw (drop_of_length-le s h)
+among_any b [] = refl
+among_any b (x ∷ xs) = rw (eqb-turned b x) (ap (λ t. eqb x b || t) (among_any b xs))
 
-pub among-at : (b : ℕ) (s : List ℕ) (i : ℕ) → i < length s → among b (drop i s) ≡ (eqb b (get_or s i 0) || among b (drop (i + 1) s))
-unfolding among
-among-at b s i h = rw (drop-cons s i 0 h, add-one)
+or-or : (p q r t : Bool) → (p || (q || (r || t))) ≡ (((p || q) || r) || t)
+or-or true q r t = refl
+or-or false true r t = refl
+or-or false false r t = refl
 
-pub known-end : (s : List ℕ) (i : ℕ) → length s ≤ i → known_bytes (drop i s) ≡ true
-unfolding known_bytes
-known-end s i h = rw (drop_of_length-le s h)
-
-pub known-stop : (s : List ℕ) (i : ℕ) → i < length s → known_byte (get_or s i 0) ≡ false → known_bytes (drop i s) ≡ false
-unfolding known_bytes
-known-stop s i h e = rw (drop-cons s i 0 h, e)
-
-pub known_more : (s : List ℕ) (i : ℕ) → i < length s → known_byte (get_or s i 0) ≡ true → known_bytes (drop (i + 1) s) ≡ known_bytes (drop i s)
-unfolding known_bytes
-known_more s i h e = rw (drop-cons s i 0 h, add-one, e)
+-- the test of the program
+pub known_test : (b : ℕ) → known_byte b ≡ (is_ascii_alphanumeric b || list_any (λ y. nat_eq y b) blanks_and_signs)
+unfolding known_byte
+known_test b = ap (λ t. is_digit b || (is_set b || (is_variable b || t))) (among_any b blanks_and_signs) ∙ or-or (is_digit b) (is_set b) (is_variable b) (list_any (λ y. nat_eq y b) blanks_and_signs)

@@ -1,5 +1,6 @@
 -- The tokens of a plan's text: paper 01, section Plan text. A text is a list of bytes.
 use Rattle.std.specs.Prelude.{List, [], ◌∷◌, ◌++◌, Bool, true, false, ◌&&◌, ◌||◌, ℕ, zero, suc, ◌+◌, ◌-◌, ◌*◌, ◌/◌, ◌%◌, min, length, get_or, drop, ltb, leb, eqb}
+use Rattle.std.specs.List.{list_all}
 use Rattle.text_tokens.specs.declared.Token.{Token}
 use Rattle.text_tokens.specs.declared.Sign.{Sign}
 use Rattle.text_tokens.specs.declared.Run.{Run}
@@ -191,5 +192,4 @@ unfoldable pub known_byte : ℕ → Bool
 known_byte b = is_digit b || (is_set b || (is_variable b || among b blanks_and_signs))
 
 unfoldable pub known_bytes : List ℕ → Bool
-known_bytes [] = true
-known_bytes (b ∷ s) = known_byte b && known_bytes s
+known_bytes s = list_all known_byte s

@@ -1,11 +1,13 @@
 // The tokens of a plan's text, and the reading position. Paper 01, section Plan text; ground 2.
 #![tactic(auto)]
 
-ghost use Rattle.std.specs.Prelude.{◌≡◌, true, ◌+◌, ◌-◌, ◌*◌, ◌≤◌, ◌<◌, min, length, get_or};
-ghost use Rattle.text_tokens.specs.Tokens.{between, is_digit, after_blanks, single_kind, one_or_two, sign_of, run_at, run_token, here_at, token_at, among, known_byte, known_bytes};
+ghost use Rattle.std.specs.Prelude.{◌≡◌, true, ◌+◌, ◌-◌, ◌*◌, ◌≤◌, ◌<◌, min, length, take_while, get_or};
+ghost use Rattle.text_tokens.specs.Tokens.{is_digit, blank, after_blanks, single_kind, sign_of, run_at, run_token, here_at, token_at, known_byte, known_bytes};
 
 // The kinds of tokens. `-` and `!` alone and a digit run such as 064 are bad, and so is a byte of no token. The six
 // relations stand in the order of their numbers in the plan table.
+// Numbers and no enum: specs/Tokens.antt (`single_kind`, `sign_of`, `here_at`) and `kind_at`, `stands_for`, `relation_kind` of crate
+// text_grammar count with a token's kind, and the theorems of both speak of it as a number.
 pub const END: u8 = 0;
 
 pub const LEFT_SQUARE: u8 = 1;
@@ -80,18 +82,20 @@ pub struct Run {
     pub end: usize,
 }
 
-// Whether b is one of the bytes from first to last.
-pub fn within(first: u8, b: u8, last: u8) -> bool
-    ensures { result ≡ between first b last }
-{
-    if first <= b { b <= last } else { false }
-}
-
 // The byte at i, or 0 past the end.
 fn byte(text: &[u8], i: usize) -> u8
     ensures { result ≡ get_or text.now i 0 }
 {
-    if i < text.len() { text[i] } else { 0 }
+    text.get(i).copied().unwrap_or(0)
+}
+
+// How many blanks stand in front.
+fn blanks(text: &[u8]) -> usize
+    ensures { result ≡ length (take_while blank text.now) }
+{
+    text.iter()
+        .take_while(|b| **b == b' ' || **b == b'\n')
+        .count()
 }
 
 // The first position at or after `at` with no space and no line end.
@@ -99,20 +103,11 @@ fn after_blanks(text: &[u8], at: usize) -> usize
     requires { at ≤ length text.now }
     ensures { result ≡ after_blanks text.now at }
 {
-    let mut i = at;
-    while i < text.len() {
-        let b = text[i];
-        if b != b' ' {
-            if b != b'\n' {
-                return i;
-            }
-        }
-        i += 1;
-    }
-    i
+    at + blanks(&text[at..])
 }
 
 // The kind of a sign of one byte that begins no longer one; bad where there is none.
+#[tactic(auto, unfolding(crate::specs::Tokens::single_kind))]
 fn single(a: u8) -> u8
     ensures { result ≡ single_kind a }
 {
@@ -134,51 +129,23 @@ fn single(a: u8) -> u8
     }
 }
 
-// A sign of two bytes where b is its second, else one of one byte.
-fn one_or_two(b: u8, second: u8, long: u8, short: u8) -> Sign
-    ensures { result ≡ one_or_two b second long short }
-{
-    if b == second {
-        return Sign { kind: long, len: 2 };
-    }
-    Sign {
-        kind: short,
-        len: 1,
-    }
-}
-
 // The sign that the bytes a, b, c begin with, the longest; bad where there is none.
+#[tactic(auto, unfolding(crate::specs::Tokens::sign_of, crate::specs::Tokens::single_kind))]
 fn sign_at(a: u8, b: u8, c: u8) -> Sign
     ensures { result ≡ sign_of a b c }
 {
-    if a == b'-' {
-        return one_or_two(b, b'>', RIGHT_ARROW, BAD);
-    }
-    if a == b'!' {
-        return one_or_two(b, b'=', UNEQUAL, BAD);
-    }
-    if a == b'>' {
-        return one_or_two(b, b'=', AT_LEAST, GREATER);
-    }
-    if a != b'<' {
-        return Sign {
-            kind: single(a),
-            len: 1,
-        };
-    }
-    if b != b'-' {
-        return one_or_two(b, b'=', AT_MOST, LESS);
-    }
-    if c == b'>' {
-        return Sign {
-            kind: DOUBLE_ARROW,
-            len: 3,
-        };
-    }
-    Sign {
-        kind: LEFT_ARROW,
-        len: 2,
-    }
+    let (kind, len) = match (a, b, c) {
+        (b'-', b'>', _) => (RIGHT_ARROW, 2),
+        (b'!', b'=', _) => (UNEQUAL, 2),
+        (b'>', b'=', _) => (AT_LEAST, 2),
+        (b'>', _, _) => (GREATER, 1),
+        (b'<', b'-', b'>') => (DOUBLE_ARROW, 3),
+        (b'<', b'-', _) => (LEFT_ARROW, 2),
+        (b'<', b'=', _) => (AT_MOST, 2),
+        (b'<', _, _) => (LESS, 1),
+        _ => (single(a), 1),
+    };
+    Sign { kind, len }
 }
 
 // The number v with the digit b written behind it, cut at 65.
@@ -186,41 +153,39 @@ fn with_digit(v: u8, b: u8) -> u8
     requires { (v ≤ 65) × (is_digit b ≡ true) }
     ensures { result ≡ min 65 (10 * v + (b - 48)) }
 {
-    let w = 10 * (v as u16) + ((b - b'0') as u16);
-    if w < 65 { w as u8 } else { 65 }
+    let w = 10 * u16::from(v) + u16::from(b - b'0');
+    w.min(65) as u8
 }
 
 // The digit run at `at`.
 fn run_at(text: &[u8], at: usize) -> Run
     ensures { result ≡ run_at text.now at 0 }
 {
-    let mut i = at;
-    let mut v: u8 = 0;
-    while i < text.len() {
-        let b = text[i];
-        if !within(b'0', b, b'9') {
-            return Run { value: v, end: i };
-        }
-        v = with_digit(v, b);
-        i += 1;
+    let mut run = Run { value: 0, end: at };
+    while let Some(&b) = text.get(run.end)
+        && b.is_ascii_digit()
+    {
+        run = Run {
+            value: with_digit(run.value, b),
+            end: run.end + 1,
+        };
     }
-    Run { value: v, end: i }
+    run
 }
 
 // The digit run at i as a token: bad where it begins with 0 and is longer.
+#[tactic(auto, unfolding(crate::specs::Tokens::run_token))]
 fn number_at(text: &[u8], i: usize) -> Token
     requires { i < length text.now }
     ensures { result ≡ run_token (get_or text.now i 0) i (run_at text.now i 0) }
 {
     let run = run_at(text, i);
-    if text[i] == b'0' {
-        if i + 1 < run.end {
-            return Token {
-                kind: BAD,
-                value: 0,
-                next: run.end,
-            };
-        }
+    if text[i] == b'0' && i + 1 < run.end {
+        return Token {
+            kind: BAD,
+            value: 0,
+            next: run.end,
+        };
     }
     Token {
         kind: NUMBER,
@@ -230,50 +195,48 @@ fn number_at(text: &[u8], i: usize) -> Token
 }
 
 // The token at i, where no blank stands.
+#[tactic(auto, using(crate::proofs::Laws::sign_moves), unfolding(crate::specs::Tokens::here_at))]
 fn token_here(text: &[u8], i: usize) -> Token
     requires { i ≤ length text.now }
     ensures { result ≡ here_at text.now i }
 {
-    if text.len() <= i {
+    let Some(&a) = text.get(i) else {
         return Token {
             kind: END,
             value: 0,
             next: i,
         };
-    }
-    let a = text[i];
-    if within(b'a', a, b'z') {
-        return Token {
+    };
+    match a {
+        b'a'..=b'z' => Token {
             kind: VARIABLE,
             value: a,
             next: i + 1,
-        };
-    }
-    if within(b'A', a, b'Z') {
-        return Token {
+        },
+        b'A'..=b'Z' => Token {
             kind: SET,
             value: a,
             next: i + 1,
-        };
-    }
-    if within(b'0', a, b'9') {
-        return number_at(text, i);
-    }
-    let sign = sign_at(a, byte(text, i + 1), byte(text, i + 2));
-    Token {
-        kind: sign.kind,
-        value: 0,
-        next: i + sign.len,
+        },
+        b'0'..=b'9' => number_at(text, i),
+        _ => {
+            let sign = sign_at(a, byte(text, i + 1), byte(text, i + 2));
+            Token {
+                kind: sign.kind,
+                value: 0,
+                next: i + sign.len,
+            }
+        }
     }
 }
 
 // The next token at or after `at`, by value.
+#[tactic(auto, using(crate::proofs::Laws::blanks_within), unfolding(crate::specs::Tokens::token_at))]
 fn token_from(text: &[u8], at: usize) -> Token
     requires { at ≤ length text.now }
     ensures { result ≡ token_at text.now at }
 {
-    let i = after_blanks(text, at);
-    token_here(text, i)
+    token_here(text, after_blanks(text, at))
 }
 
 // The reading position, which moves over the text.
@@ -283,7 +246,7 @@ pub struct Position {
 }
 
 // The next token; the position moves past it.
-pub fn next_token<'t, 'p>(text: &'t [u8], position: &'p mut Position) -> Token
+pub fn next_token(text: &[u8], position: &mut Position) -> Token
     requires { position.old.at ≤ length text.now }
     ensures { (result ≡ token_at text.now position.old.at) × (position.new.at ≡ (token_at text.now position.old.at).next) }
 {
@@ -297,50 +260,20 @@ pub fn token_at(text: &[u8], at: usize) -> Token
     requires { at ≤ length text.now }
     ensures { result ≡ token_at text.now at }
 {
-    let mut position = Position { at: at };
-    next_token(text, &mut position)
-}
-
-// Whether b is one of the bytes.
-fn occurs(b: u8, bytes: &[u8]) -> bool
-    ensures { result ≡ among b bytes.now }
-{
-    let mut i = 0;
-    while i < bytes.len() {
-        if bytes[i] == b {
-            return true;
-        }
-        i += 1;
-    }
-    false
+    next_token(text, &mut Position { at })
 }
 
 // Whether b occurs in a token, or is a space or a line end.
 fn known_byte(b: u8) -> bool
     ensures { result ≡ known_byte b }
 {
-    if within(b'0', b, b'9') {
-        return true;
-    }
-    if within(b'A', b, b'Z') {
-        return true;
-    }
-    if within(b'a', b, b'z') {
-        return true;
-    }
-    occurs(b, b" \n[]()@?~&|-<>:/#=!")
+    b.is_ascii_alphanumeric() || b" \n[]()@?~&|-<>:/#=!".contains(&b)
 }
 
 // Ground 2 does not apply: every byte of the text is known.
+#[tactic(auto, unfolding(crate::specs::Tokens::known_bytes))]
 pub fn known_bytes(text: &[u8]) -> bool
     ensures { result ≡ known_bytes text.now }
 {
-    let mut i = 0;
-    while i < text.len() {
-        if !known_byte(text[i]) {
-            return false;
-        }
-        i += 1;
-    }
-    true
+    text.iter().all(|b| known_byte(*b))
 }

@@ -3,11 +3,8 @@ use mathlib.Core.Path.{◌≡◌}
 use mathlib.Core.Bool.{true, false, false≢true}
 use mathlib.Core.List.{List}
 use Prim.Native.Nat.{ℕ, ◌+◌, ◌*◌, ◌-◌, ◌≤◌, ◌<◌}
-use native.Mathlib.Decide.{dec_lt}
 use native.Mathlib.Omega.{arith}
-use lib.Dec.{leb}
-use lib.ListN.{length, get_or}
-use borrow.Author.Tests.{leb-true, leb-false}
+use lib.ListN.{get_or}
 use Rattle.text_tree.specs.Tree.{Join, Tree}
 use Rattle.text_tree.specs.inner.Stored.{join_operator, Stored, literal_code, JoinAt, Joins}
 use Rattle.text_tree.proofs.Table.{stored-after, stored-within, join-range, other-code, on-join}
@@ -16,41 +13,10 @@ use Rattle.text_tree.proofs.Table.{stored-after, stored-within, join-range, othe
 pub no_join : {t : List ℕ} {e : ℕ} → (JoinAt t e → ⊥) → (false ≡ true → JoinAt t e) × (false ≡ false → JoinAt t e → ⊥)
 no_join f = ((λ h. absurd (false≢true h)), λ h. f)
 
--- what is told of a record that is a join if its left part ends before it
-pub join-tested : (t : List ℕ) (e operator left : ℕ) → 2 ≤ e → e ≤ length t → operator ≡ get_or t (e - 1) 0 → left ≡ get_or t (e - 2) 0
-    → 5 ≤ operator → operator ≤ 9 → (leb left (e - 2) ≡ true → JoinAt t e) × (leb left (e - 2) ≡ false → JoinAt t e → ⊥)
-join-tested t e operator left a w o x low high = (
-  (λ h. record {
-    after = a;
-    within = w;
-    low = rw (← o) low;
-    high = rw (← o) high;
-    left = rw (← x) (leb-true left (e - 2) h);
-  }),
-  (λ h j. omega (arith, leb-false left (e - 2) h, j.left, x)),
-)
-
 -- n joins are met, down to place `at`
 pub record JoinsMet (t : List ℕ) (e n at : ℕ) : Type 0 where
   pub at-is : at + 2 * n ≡ e
   pub each : (i : ℕ) → i < n → JoinAt t (e - 2 * i)
-
-pub none-met : (t : List ℕ) (e : ℕ) → JoinsMet t e 0 e
-none-met t e = record { at-is = omega arith; each = λ i h. absurd (omega arith) }
-
-pub one-met : (t : List ℕ) (e n at : ℕ) → JoinsMet t e n at → JoinAt t at → JoinsMet t e (n + 1) (at - 2)
-one-met t e n at m j = record { at-is = omega (arith, m.at-is, j.after); each = λ i h. go i h (dec_lt i n) }
-  where
-    go : (i : ℕ) → i < n + 1 → Dec (i < n) → JoinAt t (e - 2 * i)
-    go i h (yes l) = m.each i l
-    go i h (no l) = let same : at ≡ e - 2 * i = omega (arith, m.at-is) in rw (← same) j
-
-pub all-met : (t : List ℕ) (e n at : ℕ) → JoinsMet t e n at → (JoinAt t at → ⊥) → Joins t e n
-all-met t e n at m f = record {
-  fit = omega (arith, m.at-is);
-  each = m.each;
-  last = let same : e - 2 * n ≡ at = omega (arith, m.at-is) in rw same f;
-}
 
 -- no tree ends with an operator from 5 on that is no join
 pub no-tree : (t : List ℕ) (e : ℕ) → (JoinAt t e → ⊥) → literal_code (get_or t (e - 1) 0) ≡ false → (get_or t (e - 1) 0 ≡ 2 → ⊥) → 5 ≤ get_or t (e - 1) 0

@@ -91,8 +91,8 @@ module _ (t u : List ℕ) (n first e operator last end : ℕ) (room : JoinsRoom 
   there = a-link u n last ours.left ours.linked z
 
   -- there is room for one join more
-  pub one-room : (2 ≤ last) × (last ≤ end) × (end + 2 ≤ 8192) × (8192 ≤ length u) × (get_or u (last - 2) 0 < last)
-  one-room =
+  pub one_room : (2 ≤ last) × (last ≤ end) × (end + 2 ≤ 8192) × (8192 ≤ length u) × (get_or u (last - 2) 0 < last)
+  one_room =
       let some : length ours.left ≡ length (there.part ∷ there.others) = ap length there.are in
       let fits : end + 2 ≤ 8192 = omega (arith, some, ours.ends, room.room) in
       (there.low, ours.behind, fits, omega (arith, ours.long, room.wide), omega (arith, there.back, there.low))
@@ -102,7 +102,7 @@ module _ (t u : List ℕ) (n first e operator last end : ℕ) (room : JoinsRoom 
   writing-on u' w back E parts L =
       let R = W parts L in
       let B = a-link u n last R.left R.linked z in
-      let U = pushed u u' end (last - 2) operator (omega (arith, one-room)) w in
+      let U = pushed u u' end (last - 2) operator (omega (arith, one_room)) w in
       let some : length R.left ≡ length (B.part ∷ B.others) = ap length B.are in
       let one : with_joins operator (B.part ∷ B.others) u end ≡ with_joins operator B.others u' (end + 2) =
       ap (λ (x : ℕ). with_joins operator B.others (set (set u end x) (end + 1) operator) (end + 2)) B.ends ∙ ap (λ (x : List ℕ). with_joins operator B.others x (end + 2)) (sym w) in

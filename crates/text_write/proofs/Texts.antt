@@ -7,7 +7,7 @@ use native.Mathlib.Numerals.{add-one}
 use native.Mathlib.Omega.{arith}
 use lib.ListN.{length}
 use Rattle.logic.specs.Formula.{root, Forest, Plan, kind_number, node_count, child_depth}
-use Rattle.table_format.specs.Bytes.{record_length, records}
+use Rattle.table_format.specs.Bytes.{record_length}
 use Rattle.table_format.specs.Rules.{tree_count}
 use Rattle.table_format.specs.inner.Tests.{below_root}
 use Rattle.table_format.proofs.Encoding.{length-records, decode-sound, one-plan}
@@ -42,9 +42,6 @@ unfolding set_byte
 puts-letter at out m o s end P Q =
     let n : end ≡ at + (s + 1) = omega (arith, Q.end_is) in
     rw (add-one s, letters-more 65 s, ← add-one s, ← n) (puts-more at out (letters s) ((65 + s) ∷ []) (at + s) end m o P Q)
-
-pub all-letters : (at : ℕ) (out o : List ℕ) (s sets end : ℕ) → s ≤ sets → sets ≤ s → Puts at (letters s) out end o → Puts at (letters sets) out end o
-all-letters at out o s sets end h k P = let e : s ≡ sets = omega arith in subst (λ (n : ℕ). Puts at (letters n) out end o) e P
 
 -- what a root over c is written as
 rooted-text : (u n : ℕ) (c : Forest) → plan_text (rooted u n c) ≡ (91 ∷ []) ++ (letters n ++ ((93 ∷ 32 ∷ []) ++ tree_bytes (children_tree root c 0)))

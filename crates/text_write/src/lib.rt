@@ -1,7 +1,7 @@
 // Forms the text of a plan in a lent table, by recursion over the plan's records. Paper 02, request 2026-02.
 #![tactic(auto)]
 
-ghost use Rattle.std.specs.Prelude.{◌≡◌, ◌||◌, ◌≤◌};
+ghost use Rattle.std.specs.Prelude.{◌≤◌};
 ghost use Rattle.text_tree.specs.Tree.{letters_of};
 ghost use Rattle.text_form.specs.Form.{set_byte, sets_from};
 ghost use Rattle.text_put.specs.inner.Puts.{Puts};
@@ -19,22 +19,13 @@ pub struct Extent {
     pub deep: bool,
 }
 
-// Whether either holds.
-fn either(a: bool, b: bool) -> bool
-    ensures { result ≡ (a || b) }
-{
-    if a {
-        return true;
-    }
-    b
-}
-
 // Puts what a part's first node writes before its children: its bracket, if it stands in brackets, and its own bytes.
+#[tactic(auto, unfolding(table_format::specs::Bytes::record_length))]
 fn open_node(part: &[u8], depth: usize, bracket: bool, at: usize, out: &mut [u8]) -> usize
     requires { NodePlaced part.now depth at }
     ensures { Puts at (open_bytes part.now depth bracket) out.old result out.new }
 {
-    let own = put_if(out, at, 40, bracket);
+    let own = put_if(out, at, b'(', bracket);
     put_own(
         out,
         own,
@@ -48,6 +39,7 @@ fn open_node(part: &[u8], depth: usize, bracket: bool, at: usize, out: &mut [u8]
 
 // Puts the text of some trees below a node of the kind above, from a place on. The part gets shorter at each call: first the children
 // of the first tree, which stand between its own bytes and its closing bracket, then its later siblings.
+#[tactic(auto, unfolding(table_format::specs::Bytes::record_length))]
 fn form_trees(
     part: &[u8],
     i: usize,
@@ -74,18 +66,15 @@ fn form_trees(
     let below = child_depth(kind, depth);
     let around = nest_below(kind, bracket, nest);
     let c = form_trees(&part[RECORD..span], i + 1, kind, below, around, inner, out);
-    let closed = put_if(out, c.end, 41, bracket);
+    let closed = put_if(out, c.end, b')', bracket);
     if part.len() <= span {
-        return Extent {
-            end: closed,
-            deep: c.deep,
-        };
+        return Extent { end: closed, ..c };
     }
     let next = put_join(out, closed, above);
     let s = form_trees(&part[span..], end, above, depth, nest, next, out);
     Extent {
-        end: s.end,
-        deep: either(c.deep, s.deep),
+        deep: c.deep || s.deep,
+        ..s
     }
 }
 
@@ -94,12 +83,10 @@ fn put_letters(out: &mut [u8], at: usize, sets: usize) -> usize
     requires { (at ≤ 1) × (sets ≤ 16) }
     ensures { Puts at (letters_of (sets_from (set_byte 0) sets)) out.old result out.new }
 {
-    let mut s = 0;
-    while s < sets {
-        put_byte(out, at + s, 65 + s as u8);
-        s += 1;
+    for s in 0..sets {
+        put_byte(out, at + s, b'A' + s as u8);
     }
-    at + s
+    at + sets
 }
 
 // Forms the text of a plan whose table is sound: its declaration, then what stands below the root.
@@ -107,7 +94,7 @@ pub fn form_text(table: &[u8], sets: usize, nodes: usize, out: &mut [u8]) -> Ext
     requires { FormReady table.now sets nodes }
     ensures { FormsPlan table.now out.old out.new result }
 {
-    let from = put_byte(out, 0, 91);
+    let from = put_byte(out, 0, b'[');
     let letters = put_letters(out, from, sets);
     let at = put_bytes(out, letters, b"] ");
     let below = below_root(table, nodes);

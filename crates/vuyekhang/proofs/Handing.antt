@@ -3,16 +3,17 @@ use mathlib.Core.Path.{◌≡◌, refl, sym, ap, subst, ◌∙◌}
 use mathlib.Core.List.{List}
 use Prim.Native.Nat.{ℕ}
 use lib.ListN.{length, set}
+use Rattle.std.specs.Prelude.{Result}
 use Rattle.logic.specs.declared.Move.{Move}
+use Rattle.logic.specs.declared.refusal.Refusal.{Refusal}
 use Rattle.table_format.specs.Decode.{Decoded}
-use Rattle.contracts.specs.declared.Answer.{Answer}
+use Rattle.contracts.specs.declared.Read.{Read}
 use Rattle.contracts.specs.Read.{ReadValues, read_values, ReadPromise}
 use Rattle.contracts.specs.declared.Loaded.{Loaded}
 use Rattle.contracts.specs.State.{State}
 use Rattle.contracts.specs.Journal.{newest, count_after, count_taken}
 use Rattle.contracts.specs.declared.Moved.{Moved}
 use Rattle.contracts.specs.declared.Improved.{Improved}
-use Rattle.contracts.specs.declared.Counted.{Counted}
 use Rattle.contracts.specs.Load.{LoadValues, load_values, LoadPromise}
 use Rattle.contracts.specs.MoveCall.{MoveValues, move_values, MovedAs, MadeAs, moves, moves_journaled, MovePromise}
 use Rattle.contracts.specs.TrialCall.{ScratchAfter}
@@ -33,18 +34,18 @@ use Rattle.answers.specs.Boundary.{ReadFields, ReadGives, LoadFields, LoadGives,
 use Rattle.answers.specs.Moving.{MoveFields, MoveGives, TestGives, TrialGives, ImproveFields, ImproveGives, ListGives}
 
 -- an answer handed on field by field
-pub read-gives : (a : Answer) (t : List ℕ) (given : ReadValues × List ℕ) (r : ReadAnswer)
+pub read-gives : (a : Result Read Refusal) (t : List ℕ) (given : ReadValues × List ℕ) (r : ReadAnswer)
     → ReadPromise given a t → ReadFields (read_values a) r → ReadGives given r t
 read-gives a t given r p f = record { fields = subst (λ (v : ReadValues). ReadFields v r) p.values-are f; table_is = p.table_is }
 
-pub write-gives : (given : CountValues × List ℕ) (a : Counted) (t : List ℕ) (r : CountAnswer) → WritePromise given a t → CountFields (count_values a) r → WriteGives given r t
+pub write-gives : (given : CountValues × List ℕ) (a : Result ℕ Refusal) (t : List ℕ) (r : CountAnswer) → WritePromise given a t → CountFields (count_values a) r → WriteGives given r t
 write-gives given a t r p f = record { fields = subst (λ (v : CountValues). CountFields v r) p.values-are f; text-is = p.text-is }
 
-pub load_gives : (given : LoadValues × State) (a : Loaded) (s' : State) (r : LoadAnswer) → LoadPromise given a s' → LoadFields (load_values a) r → LoadGives given r s'
+pub load_gives : (given : LoadValues × State) (a : Result Loaded Refusal) (s' : State) (r : LoadAnswer) → LoadPromise given a s' → LoadFields (load_values a) r → LoadGives given r s'
 load_gives given a s' r p f = record { fields = subst (λ (v : LoadValues). LoadFields v r) p.values-are f; tables-are = p.tables-are }
 
 -- a call with a journal, the record put
-pub move_gives : (d : Decoded) (m : Move) (s s' : State) (records records' : List Move) (count count' : ℕ) (a : Moved) (r : MoveAnswer)
+pub move_gives : (d : Decoded) (m : Move) (s s' : State) (records records' : List Move) (count count' : ℕ) (a : Result Moved Refusal) (r : MoveAnswer)
     → MovePromise count_after (moves d m s (length records) count) count a s' count'
     → records' ≡ set records (place_of count count' (length records)) m → MoveFields (move_values a) r
     → MoveGives (moves_journaled d m (held s records count)) r (held s' records' count')
@@ -55,18 +56,18 @@ move_gives d m s s' records records' count count' a r p e f =
       lent-are = ap (λ (xs : List Move). held s' xs count') e ∙ q.1;
     }
 
-pub undo-gives : (d : Decoded) (m : Move) (s s' : State) (records : List Move) (count count' : ℕ) (a : Moved) (r : MoveAnswer)
+pub undo-gives : (d : Decoded) (m : Move) (s s' : State) (records : List Move) (count count' : ℕ) (a : Result Moved Refusal) (r : MoveAnswer)
     → m ≡ newest (journal records count) → MovePromise count_taken (undoes d m s (length records) count) count a s' count' → MoveFields (move_values a) r
     → MoveGives (undoes_journaled d (held s records count)) r (held s' records count')
 undo-gives d m s s' records count count' a r e p f =
     let q = undo-held d s s' records (length records) count count' refl m a (sym e) p in
     record { fields = subst (λ (v : MoveValues). MoveFields v r) q.0 f; lent-are = q.1 }
 
-pub test-gives : (given : MoveValues × State) (a : Moved) (s' : State) (r : MoveAnswer) → MadeAs given a s' → MoveFields (move_values a) r → TestGives given r s'
+pub test-gives : (given : MoveValues × State) (a : Result Moved Refusal) (s' : State) (r : MoveAnswer) → MadeAs given a s' → MoveFields (move_values a) r → TestGives given r s'
 test-gives given a s' r p f = record { fields = subst (λ (v : MoveValues). MoveFields v r) p.answers.values-are f; tables-are = p.tables-are }
 
 -- the number that scratch is held to is the struct's own
-pub trial-gives : (d : Decoded) (given : MoveValues) (scratch scratch' : List ℕ) (a : Moved) (r : MoveAnswer)
+pub trial-gives : (d : Decoded) (given : MoveValues) (scratch scratch' : List ℕ) (a : Result Moved Refusal) (r : MoveAnswer)
     → MovedAs given a → ScratchAfter d (move_values a).number scratch scratch' → MoveFields (move_values a) r → TrialGives d given r scratch scratch'
 trial-gives d given scratch scratch' a r p w f =
     record {
@@ -74,7 +75,7 @@ trial-gives d given scratch scratch' a r p w f =
       scratch-is = subst (λ (x : ℕ). ScratchAfter d x scratch scratch') (sym f.number_is) w;
     }
 
-pub improve-gives : (d : Decoded) (kinds : ℕ) (m : Move) (s s' : State) (scratch scratch' : List ℕ) (records records' : List Move) (count count' : ℕ) (a : Improved) (r : ImproveAnswer)
+pub improve-gives : (d : Decoded) (kinds : ℕ) (m : Move) (s s' : State) (scratch scratch' : List ℕ) (records records' : List Move) (count count' : ℕ) (a : Result Improved Refusal) (r : ImproveAnswer)
     → ImprovePromise (improves d kinds s (length scratch) (length records) count) count a s' count'
     → m ≡ (improve_values a).chosen → records' ≡ set records (place_of count count' (length records)) m
     → ScratchAfter d (improve_values a).number scratch scratch' → ImproveFields (improve_values a) r
@@ -87,7 +88,7 @@ improve-gives d kinds m s s' scratch scratch' records records' count count' a r 
       scratch-is = subst (λ (x : ℕ). ScratchAfter d x scratch scratch') (sym f.number_is) w;
     }
 
-pub list-gives : (d : Decoded) (given : Listing) (list list' : List (List ℕ)) (scratch scratch' : List ℕ) (a : Counted) (r : CountAnswer)
+pub list-gives : (d : Decoded) (given : Listing) (list list' : List (List ℕ)) (scratch scratch' : List ℕ) (a : Result ℕ Refusal) (r : CountAnswer)
     → ListPromise given a list list' → ScratchAfter d (count_values a).number scratch scratch' → CountFields (count_values a) r
     → ListGives d given r list list' scratch scratch'
 list-gives d given list list' scratch scratch' a r p w f =

@@ -1,14 +1,19 @@
-use Rattle.answers.proofs.Fields.{fields_made, fields-none, fields-refused}
+use borrow.Author.Rules.{rules}
+use Rattle.contracts.specs.MoveCall.{move_accepted}
+use Rattle.contracts.specs.ImproveCall.{improve_refused, improve_made, no_better, improve_values}
 use Rattle.answers.proofs.improve_fields.Goals as goal
 
-pub returns-in-Made : goal.returns-in-Made
-returns-in-Made c =
-    fields_made _ _ _ _ _ c.in-Made.is
+pub returns-in-Ok-Made : goal.returns-in-Ok-Made
+unfolding improve_refused improve_made no_better move_accepted improve_values
+returns-in-Ok-Made c =
+    search rules
 
-pub returns-in-NoBetter : goal.returns-in-NoBetter
-returns-in-NoBetter c =
-    fields-none _ _ _ c.in-NoBetter.is c.no_move.ensures
+pub returns-in-Ok-NoBetter : goal.returns-in-Ok-NoBetter
+unfolding improve_refused improve_made no_better move_accepted improve_values
+returns-in-Ok-NoBetter c =
+    search rules
 
-pub returns-in-Refused : goal.returns-in-Refused
-returns-in-Refused c =
-    fields-refused _ _ _ c.in-Refused.is c.no_move-in-Refused.ensures
+pub returns-in-Err : goal.returns-in-Err
+unfolding improve_refused improve_made no_better move_accepted improve_values
+returns-in-Err c =
+    search rules

@@ -2,12 +2,12 @@ use borrow.Author.Rules.{rules}
 use Rattle.contracts.specs.Read.{read_refused, read_values}
 use Rattle.answers.proofs.read_fields.Goals as goal
 
-pub returns-in-Accepted : goal.returns-in-Accepted
+pub returns-in-Ok : goal.returns-in-Ok
 unfolding read_refused read_values
-returns-in-Accepted c =
+returns-in-Ok c =
     search rules
 
-pub returns-in-Refused : goal.returns-in-Refused
+pub returns-in-Err : goal.returns-in-Err
 unfolding read_refused read_values
-returns-in-Refused c =
+returns-in-Err c =
     search rules

@@ -1,4 +1,8 @@
-use mathlib.Core.Path.{sym, ◌∙◌}
+use Rattle.table_check.proofs.Blank.{blank-room}
+use mathlib.Core.Path.{◌≡◌, refl, sym, ◌∙◌}
+use borrow.Author.Rules.{rules}
+use Rattle.std.specs.Prelude.{Err}
+use Rattle.logic.specs.Refusal.{answer_number}
 use native.Mathlib.Omega.{arith}
 use lib.ListN.{length}
 use borrow.Author.Tests.{not-true, not-false}
@@ -16,14 +20,18 @@ use Rattle.move_best.proofs.Answering.{chosen-candidate}
 use Rattle.call_improve.proofs.Improving.{improve-shut, improve-unknown, improve-none, improve-full, improve-made, root-now}
 use Rattle.call_improve.proofs.improve.Goals as goal
 
+pub open_tables-requires : goal.open_tables-requires
+open_tables-requires c =
+    blank-room _ c.new-index.ensures
+
 pub best_move-c-requires : goal.best_move-c-requires
 unfolding CellsFit modulus
 best_move-c-requires c =
-    let l = lent-most _ _ _ _ c.cells_lent.ensures in record { tables-open = record { opened = open-longer _ _ _ _ _ _ _ _ _ (c.open_tables-o.ensures.opens c.if-o-ne0.false) (omega (arith, l, c.lesser-shortest.ensures)); cells_fit = (λ j. omega (arith, c.slice_known-2-1.given j)) }; cells-own = c.open_tables-o.ensures.cells_are c.if-o-ne0.false }
+    let l = lent-most _ _ _ _ c.cells_lent.ensures in record { tables-open = record { opened = open-longer _ _ _ _ _ _ _ _ _ (c.in_ok-o.ensures.opens _ refl) (omega (arith, l, c.min-shortest.ensures)); cells_fit = (λ j. omega (arith, c.slice_known-2-1.given j)) }; cells-own = c.in_ok-o.ensures.cells_are _ refl }
 
 pub bounds-cells-0 : goal.bounds-cells-0
 bounds-cells-0 c =
-    let l = lent-most _ _ _ _ c.cells_lent.ensures in let o = c.open_tables-o.ensures.opens c.if-o-ne0.false in omega (arith, l, c.lesser-shortest.ensures, o.own-cells, root-cell _ o.plan o.decodes)
+    let l = lent-most _ _ _ _ c.cells_lent.ensures in let o = c.in_ok-o.ensures.opens _ refl in omega (arith, l, c.min-shortest.ensures, o.own-cells, root-cell _ o.plan o.decodes)
 
 pub overflow_add-count : goal.overflow_add-count
 unfolding most_records
@@ -33,27 +41,29 @@ overflow_add-count c =
 pub carry-requires : goal.carry-requires
 unfolding CellsFit modulus Chooses own_tables
 carry-requires c =
-    let l = lent-most _ _ _ _ c.cells_lent.ensures in let o = open-longer _ _ _ _ _ (length c.args.cells.now) _ _ _ (c.open_tables-o.ensures.opens c.if-o-ne0.false) (omega (arith, l, c.lesser-shortest.ensures)) in record { tables-open = record { opened = o; cells_fit = (λ j. omega (arith, c.slice_known-2-1.given j)) }; is-legal = (chosen-candidate o.plan (own_tables o.plan (tables c.args.masks.now c.args.cells.now)) _ _ (root-now _ o.plan o.decodes c.args.masks.now _) _ (c.best_move-c.ensures o.plan o.decodes) (sym c.lowers.ensures ∙ not-false _ c.if-not-lowers.false-raw)).is-legal }
+    let l = lent-most _ _ _ _ c.cells_lent.ensures in let o = open-longer _ _ _ _ _ (length c.args.cells.now) _ _ _ (c.in_ok-o.ensures.opens _ refl) (omega (arith, l, c.min-shortest.ensures)) in record { tables-open = record { opened = o; cells_fit = (λ j. omega (arith, c.slice_known-2-1.given j)) }; is-legal = (chosen-candidate o.plan (own_tables o.plan (tables c.args.masks.now c.args.cells.now)) _ _ (root-now _ o.plan o.decodes c.args.masks.now _) _ (c.best_move-c.ensures o.plan o.decodes) (sym c.lowers.ensures ∙ not-false _ c.if-not-lowers.false-raw)).is-legal }
 
-pub returns-then-o-ne0 : goal.returns-then-o-ne0
-returns-then-o-ne0 c =
-    record { answer = improve-shut _ _ _ _ _ _ _ _ c.if-o-ne0.true (rw c.lesser-shortest.ensures at (rw c.cells_lent.ensures at c.open_tables-o.ensures.number_is)); lent = scratch-kept _ _ _ }
+pub returns-in_err-o : goal.returns-in_err-o
+unfolding answer_number
+returns-in_err-o c =
+    let e : c.from_residual.result ≡ Err c.in_err-o.field-0.0 = search rules in rw e record { answer = improve-shut _ _ _ _ _ _ _ _ (rw c.min-shortest.ensures at (rw c.cells_lent.ensures at c.in_err-o.ensures.number_is)); lent = scratch-kept _ _ _ }
 
 pub returns-then-not-kinds_known : goal.returns-then-not-kinds_known
+unfolding answer_number
 returns-then-not-kinds_known c =
-    let o = c.open_tables-o.ensures.opens c.if-o-ne0.false in record { answer = improve-unknown _ _ _ _ _ _ _ o.plan o.decodes (sym (rw c.lesser-shortest.ensures at (rw c.cells_lent.ensures at c.open_tables-o.ensures.number_is)) ∙ c.if-o-ne0.false) (sym c.kinds_known.ensures ∙ not-true _ c.if-not-kinds_known.true-raw); lent = scratch-kept _ _ _ }
+    let o = c.in_ok-o.ensures.opens _ refl in record { answer = improve-unknown _ _ _ _ _ _ _ o.plan o.decodes (sym (rw c.min-shortest.ensures at (rw c.cells_lent.ensures at c.in_ok-o.ensures.number_is))) (sym c.kinds_known.ensures ∙ not-true _ c.if-not-kinds_known.true-raw); lent = scratch-kept _ _ _ }
 
 pub returns-then-not-lowers : goal.returns-then-not-lowers
-unfolding Chooses
+unfolding Chooses answer_number
 returns-then-not-lowers c =
-    let o = c.open_tables-o.ensures.opens c.if-o-ne0.false in record { answer = improve-none _ _ _ _ _ _ _ o.plan o.decodes (sym (rw c.lesser-shortest.ensures at (rw c.cells_lent.ensures at c.open_tables-o.ensures.number_is)) ∙ c.if-o-ne0.false) (sym c.kinds_known.ensures ∙ not-false _ c.if-not-kinds_known.false-raw) _ (c.best_move-c.ensures o.plan o.decodes) _ (root-now _ o.plan o.decodes _ _) (sym c.lowers.ensures ∙ not-true _ c.if-not-lowers.true-raw); lent = scratch-kept _ _ _ }
+    let o = c.in_ok-o.ensures.opens _ refl in record { answer = improve-none _ _ _ _ _ _ _ o.plan o.decodes (sym (rw c.min-shortest.ensures at (rw c.cells_lent.ensures at c.in_ok-o.ensures.number_is))) (sym c.kinds_known.ensures ∙ not-false _ c.if-not-kinds_known.false-raw) _ (c.best_move-c.ensures o.plan o.decodes) _ (root-now _ o.plan o.decodes _ _) (sym c.lowers.ensures ∙ not-true _ c.if-not-lowers.true-raw); lent = scratch-kept _ _ _ }
 
 pub returns-then-is_full : goal.returns-then-is_full
-unfolding Chooses
+unfolding Chooses answer_number
 returns-then-is_full c =
-    let o = c.open_tables-o.ensures.opens c.if-o-ne0.false in record { answer = improve-full _ _ _ _ _ _ _ o.plan o.decodes (sym (rw c.lesser-shortest.ensures at (rw c.cells_lent.ensures at c.open_tables-o.ensures.number_is)) ∙ c.if-o-ne0.false) (sym c.kinds_known.ensures ∙ not-false _ c.if-not-kinds_known.false-raw) _ (c.best_move-c.ensures o.plan o.decodes) _ (root-now _ o.plan o.decodes _ _) (sym c.lowers.ensures ∙ not-false _ c.if-not-lowers.false-raw) (sym c.is_full.ensures ∙ c.if-is_full.true); lent = scratch-kept _ _ _ }
+    let o = c.in_ok-o.ensures.opens _ refl in record { answer = improve-full _ _ _ _ _ _ _ o.plan o.decodes (sym (rw c.min-shortest.ensures at (rw c.cells_lent.ensures at c.in_ok-o.ensures.number_is))) (sym c.kinds_known.ensures ∙ not-false _ c.if-not-kinds_known.false-raw) _ (c.best_move-c.ensures o.plan o.decodes) _ (root-now _ o.plan o.decodes _ _) (sym c.lowers.ensures ∙ not-false _ c.if-not-lowers.false-raw) (sym c.is_full.ensures ∙ c.if-is_full.true); lent = scratch-kept _ _ _ }
 
 pub returns : goal.returns
-unfolding Chooses Carries
+unfolding Chooses Carries answer_number
 returns c =
-    let o = c.open_tables-o.ensures.opens c.if-o-ne0.false in rw c.made.ensures record { answer = improve-made _ _ _ _ _ _ _ o.plan o.decodes (sym (rw c.lesser-shortest.ensures at (rw c.cells_lent.ensures at c.open_tables-o.ensures.number_is)) ∙ c.if-o-ne0.false) (sym c.kinds_known.ensures ∙ not-false _ c.if-not-kinds_known.false-raw) _ (c.best_move-c.ensures o.plan o.decodes) _ (root-now _ o.plan o.decodes _ _) (sym c.lowers.ensures ∙ not-false _ c.if-not-lowers.false-raw) (sym c.is_full.ensures ∙ c.if-is_full.false) _ _ _ _ (c.carry.ensures o.plan o.decodes) (omega arith); lent = scratch-kept _ _ _ }
+    let o = c.in_ok-o.ensures.opens _ refl in rw c.made.ensures record { answer = improve-made _ _ _ _ _ _ _ o.plan o.decodes (sym (rw c.min-shortest.ensures at (rw c.cells_lent.ensures at c.in_ok-o.ensures.number_is))) (sym c.kinds_known.ensures ∙ not-false _ c.if-not-kinds_known.false-raw) _ (c.best_move-c.ensures o.plan o.decodes) _ (root-now _ o.plan o.decodes _ _) (sym c.lowers.ensures ∙ not-false _ c.if-not-lowers.false-raw) (sym c.is_full.ensures ∙ c.if-is_full.false) _ _ _ _ (c.carry.ensures o.plan o.decodes) (omega arith); lent = scratch-kept _ _ _ }

@@ -61,33 +61,33 @@ pub slice_bounds-work_one-end-in-loop-from : goal.slice_bounds-work_one-end-in-l
 slice_bounds-work_one-end-in-loop-from c =
     omega arith
 
-pub work_one-one-requires : goal.work_one-one-requires
-work_one-one-requires c =
+pub work_one-requires : goal.work_one-requires
+work_one-requires c =
     let f = (fits-true _ _ _ _ c.loop-from-test.true c.next_fits.ensures) in one-ready _ _ _ _ _ c.loop-from.invariant f.0 f.1
 
-pub shape_of-masks-then-not-one : goal.shape_of-masks-then-not-one
-shape_of-masks-then-not-one c =
-    c.work_one-one.auto.masks ∙ c.loop-from.invariant.masks-length
+pub shape_of-masks-in_default : goal.shape_of-masks-in_default
+shape_of-masks-in_default c =
+    c.work_one.auto.masks ∙ c.loop-from.invariant.masks-length
 
-pub shape_of-cells-then-not-one : goal.shape_of-cells-then-not-one
-shape_of-cells-then-not-one c =
-    c.work_one-one.auto.cells ∙ c.loop-from.invariant.cells-length
+pub shape_of-cells-in_default : goal.shape_of-cells-in_default
+shape_of-cells-in_default c =
+    c.work_one.auto.cells ∙ c.loop-from.invariant.cells-length
 
-pub shape_of-scratch-then-not-one : goal.shape_of-scratch-then-not-one
-shape_of-scratch-then-not-one c =
-    c.work_one-one.auto.scratch ∙ same-scratch _ _ _ _ _ c.loop-from.invariant
+pub shape_of-scratch-in_default : goal.shape_of-scratch-in_default
+shape_of-scratch-in_default c =
+    c.work_one.auto.scratch ∙ same-scratch _ _ _ _ _ c.loop-from.invariant
 
-pub shape_of-journal-then-not-one : goal.shape_of-journal-then-not-one
-shape_of-journal-then-not-one c =
+pub shape_of-journal-in_default : goal.shape_of-journal-in_default
+shape_of-journal-in_default c =
     c.loop-from.invariant.journal-length
 
-pub shape_of-list-then-not-one : goal.shape_of-list-then-not-one
-shape_of-list-then-not-one c =
-    c.work_one-one.auto.list ∙ c.loop-from.invariant.list_length
+pub shape_of-list-in_default : goal.shape_of-list-in_default
+shape_of-list-in_default c =
+    c.work_one.auto.list ∙ c.loop-from.invariant.list_length
 
-pub shape_of-answers-then-not-one : goal.shape_of-answers-then-not-one
-shape_of-answers-then-not-one c =
-    answers-there _ _ _ _ _ c.loop-from.invariant _ (fits-true _ _ _ _ c.loop-from-test.true c.next_fits.ensures) (none-at _ _ _ _ _ _ _ _ _ _ _ _ _ _ _ _ _ c.work_one-one.ensures refl c.record_at-newest.ensures c.newest_place.ensures (not-true _ c.if-not-one.true))
+pub shape_of-answers-in_default : goal.shape_of-answers-in_default
+shape_of-answers-in_default c =
+    answers-there _ _ _ _ _ c.loop-from.invariant _ (fits-true _ _ _ _ c.loop-from-test.true c.next_fits.ensures) (none-at _ _ _ _ _ _ _ _ _ _ _ _ _ _ _ _ refl c.record_at-newest.ensures c.newest_place.ensures c.in_default.ensures)
 
 pub record_place-requires : goal.record_place-requires
 record_place-requires c =
@@ -107,7 +107,7 @@ loop-from-smaller c =
 
 pub loop-from-preserved : goal.loop-from-preserved
 loop-from-preserved c =
-    goes_on _ _ _ _ _ c.loop-from.invariant _ (fits-true _ _ _ _ c.loop-from-test.true c.next_fits.ensures) (worked-at _ _ _ _ _ _ _ _ _ _ _ _ _ _ _ _ _ c.work_one-one.ensures refl c.record_at-newest.ensures c.newest_place.ensures _ _ (not-false _ c.if-not-one.false) c.record_place.ensures c.put_record.ensures) c.work_one-one.auto.masks c.work_one-one.auto.cells c.put_record.auto.journal c.work_one-one.auto.list
+    goes_on _ _ _ _ _ c.loop-from.invariant _ (fits-true _ _ _ _ c.loop-from-test.true c.next_fits.ensures) (worked-at _ _ _ _ _ _ _ _ _ _ _ _ _ _ _ _ refl c.record_at-newest.ensures c.newest_place.ensures _ c.in-Some.ensures _ _ c.record_place.ensures c.put_record.ensures) c.work_one.auto.masks c.work_one.auto.cells c.put_record.auto.journal c.work_one.auto.list
 
 pub shape_of-masks : goal.shape_of-masks
 shape_of-masks c =
@@ -133,9 +133,9 @@ pub shape_of-answers : goal.shape_of-answers
 shape_of-answers c =
     same-answers _ _ _ _ _ c.loop-from.invariant
 
-pub returns-then-not-one : goal.returns-then-not-one
-returns-then-not-one c =
-    record { run = worked-there _ _ _ _ _ c.loop-from.invariant _ (fits-true _ _ _ _ c.loop-from-test.true c.next_fits.ensures) (none-at _ _ _ _ _ _ _ _ _ _ _ _ _ _ _ _ _ c.work_one-one.ensures refl c.record_at-newest.ensures c.newest_place.ensures (not-true _ c.if-not-one.true)); stopped = unknown-there _ _ _ _ _ c.loop-from.invariant _ (fits-true _ _ _ _ c.loop-from-test.true c.next_fits.ensures) (none-at _ _ _ _ _ _ _ _ _ _ _ _ _ _ _ _ _ c.work_one-one.ensures refl c.record_at-newest.ensures c.newest_place.ensures (not-true _ c.if-not-one.true)) }
+pub returns-in_default : goal.returns-in_default
+returns-in_default c =
+    record { run = worked-there _ _ _ _ _ c.loop-from.invariant _ (fits-true _ _ _ _ c.loop-from-test.true c.next_fits.ensures) (none-at _ _ _ _ _ _ _ _ _ _ _ _ _ _ _ _ refl c.record_at-newest.ensures c.newest_place.ensures c.in_default.ensures); stopped = unknown-there _ _ _ _ _ c.loop-from.invariant _ (fits-true _ _ _ _ c.loop-from-test.true c.next_fits.ensures) (none-at _ _ _ _ _ _ _ _ _ _ _ _ _ _ _ _ refl c.record_at-newest.ensures c.newest_place.ensures c.in_default.ensures) }
 
 pub returns : goal.returns
 returns c =

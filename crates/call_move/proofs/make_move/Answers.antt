@@ -9,7 +9,7 @@ use Rattle.call_move.proofs.make_move.Goals as goal
 pub count_made-requires : goal.count_made-requires
 unfolding RoomIfMade most_records
 count_made-requires c =
-    (c.move_with-a.ensures.answers.told, λ h. (not_full _ _ (sym c.is_full.ensures ∙ made-room _ _ _ _ _ _ _ (sym (ap move_made c.move_with-a.ensures.answers.values-are) ∙ h))).1)
+    λ h. (not_full _ _ (sym c.is_full.ensures ∙ made-room _ _ _ _ _ _ _ (sym (ap move_made c.move_with-a.ensures.answers.values-are) ∙ h))).1
 
 pub returns : goal.returns
 returns c =

@@ -7,7 +7,7 @@ unfolding bound_at
 returns-then-i-nodes c =
     rw (lt-ltb _ _ c.if-i-nodes.true) c.wide.ensures.0
 
-pub returns : goal.returns
+pub returns-else-i-nodes : goal.returns-else-i-nodes
 unfolding bound_at
-returns c =
+returns-else-i-nodes c =
     rw (le-ltb _ _ c.if-i-nodes.false)

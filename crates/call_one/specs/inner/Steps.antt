@@ -1,5 +1,5 @@
 -- What working one call of a list gives.
-use Rattle.std.specs.Prelude.{◌≡◌, Bool, true, false, List, ◌++◌, ℕ, ◌-◌, length, get_or, set, drop}
+use Rattle.std.specs.Prelude.{◌≡◌, Option, Some, None, List, ◌++◌, ℕ, ◌-◌, length, get_or, set, drop}
 use Rattle.logic.specs.declared.Move.{Move}
 use Rattle.logic.specs.Moves.{no_move}
 use Rattle.table_format.specs.Decode.{decode}
@@ -8,7 +8,6 @@ use Rattle.journal_rules.specs.inner.Counting.{place_of}
 use Rattle.call_numbers.specs.Encoding.{Encodes, Unknown, answer_numbers, list_one}
 use Rattle.call_one.specs.Scratch.{ScratchOne}
 use Rattle.call_one.specs.Lending.{Lent}
-use Rattle.call_one.specs.declared.One.{One}
 
 -- One call was worked: the numbers say a call, which answered what the ten numbers say and left the tables and the journal as its
 -- definition says.
@@ -25,22 +24,15 @@ pub record NoneWorked (call : List ℕ) (before after : Lent) : Type 0 where
   pub unknown : Unknown call
   pub kept : after ≡ before
 
--- By whether it was worked.
-unfoldable pub OneAfter : Bool → List ℕ → List ℕ → Lent → Lent → Type 0
-OneAfter true bytes call before after = OneWorked bytes call before after
-OneAfter false bytes call before after = NoneWorked call before after
-
 -- What is lent to one call of the journal, by value: its length and its newest record, beside the record count.
 pub record JournalIs (records : List Move) (room count : ℕ) (newest : Move) : Type 0 where
   pub room-is : length records ≡ room
   pub newest-is : get_or records (count - 1) no_move ≡ newest
 
--- One call over every journal that these are of: with the record put where the two counts say.
-unfoldable pub OneOver : One → List ℕ → List ℕ → ℕ → Move → ℕ → (List Move → Lent) → ℕ → (List Move → Lent) → Type 0
-OneOver r bytes call room newest count before count' after =
-    (records : List Move) → JournalIs records room count newest
-    → OneAfter r.known bytes call (before records) (after (set records (place_of count count' room) r.recorded))
-
--- A call that was worked, with what goes into the journal if the count was raised.
-unfoldable pub with_record : Move → One
-with_record m = record { known = true; recorded = m }
+-- One call over every journal that these are of. Of a call that was worked with the record put where the two counts say; of an unknown
+-- tag nothing was written, and no record is put.
+unfoldable pub OneOver : Option Move → List ℕ → List ℕ → ℕ → Move → ℕ → (List Move → Lent) → ℕ → (List Move → Lent) → Type 0
+OneOver (Some m) bytes call room newest count before count' after =
+    (records : List Move) → JournalIs records room count newest → OneWorked bytes call (before records) (after (set records (place_of count count' room) m))
+OneOver None bytes call room newest count before count' after =
+    (records : List Move) → JournalIs records room count newest → NoneWorked call (before records) (after records)

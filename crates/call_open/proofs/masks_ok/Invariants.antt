@@ -7,6 +7,3 @@ use Rattle.call_open.proofs.masks_ok.Given as goal
 
 abbrev pub invariant-loop-s : goal.invariant-loop-s
 invariant-loop-s l = (l.s ≤ l.count) × (l.count ≤ length l.masks) × (l.u ≡ l.ports) × (all_within l.ports (take l.s l.masks) ≡ true)
-
-abbrev pub decreases-loop-s : goal.decreases-loop-s
-decreases-loop-s l = l.count - l.s

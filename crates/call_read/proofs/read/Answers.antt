@@ -21,18 +21,18 @@ pub returns-then-not-known_bytes : goal.returns-then-not-known_bytes
 returns-then-not-known_bytes c =
     read-2 _ _ _ (ports-in _ c.if-u-lt1.false c.if-u-gt64.false) c.if-text-gt4096.false (sym c.known_bytes.ensures ∙ not-true _ c.if-not-known_bytes.true-raw)
 
-pub returns-then-not-s : goal.returns-then-not-s
-returns-then-not-s c =
-    read-3 _ _ _ (ports-in _ c.if-u-lt1.false c.if-u-gt64.false) c.if-text-gt4096.false (sym c.known_bytes.ensures ∙ not-false _ c.if-not-known_bytes.false-raw) (c.parse-s.ensures.refuses (not-true _ c.if-not-s.true))
+pub returns-in_default : goal.returns-in_default
+returns-in_default c =
+    read-3 _ _ _ (ports-in _ c.if-u-lt1.false c.if-u-gt64.false) c.if-text-gt4096.false (sym c.known_bytes.ensures ∙ not-false _ c.if-not-known_bytes.false-raw) c.in_default.ensures
 
 pub returns-then-s : goal.returns-then-s
 returns-then-s c =
-    read-4 _ _ _ (ports-in _ c.if-u-lt1.false c.if-u-gt64.false) c.if-text-gt4096.false (sym c.known_bytes.ensures ∙ not-false _ c.if-not-known_bytes.false-raw) _ _ (c.parse-s.ensures.accepts (not-false _ c.if-not-s.false)).is (sym (c.parse-s.ensures.accepts (not-false _ c.if-not-s.false)).deeper ∙ c.if-s.true)
+    read-4 _ _ _ (ports-in _ c.if-u-lt1.false c.if-u-gt64.false) c.if-text-gt4096.false (sym c.known_bytes.ensures ∙ not-false _ c.if-not-known_bytes.false-raw) _ _ c.in-Some.ensures.is (sym c.in-Some.ensures.deeper ∙ c.if-s.true)
 
 pub finish-requires : goal.finish-requires
 finish-requires c =
-    some-text _ _ _ _ (c.parse-s.ensures.accepts (not-false _ c.if-not-s.false)) c.parse-s.auto.letters c.if-s.false _ c.if-u-lt1.false c.if-u-gt64.false
+    some-text _ _ _ _ c.in-Some.ensures c.parse.auto.letters c.if-s.false _ c.if-u-lt1.false c.if-u-gt64.false
 
 pub returns : goal.returns
 returns c =
-    read-last _ _ _ _ (c.parse-s.ensures.accepts (not-false _ c.if-not-s.false)) c.parse-s.auto.letters c.if-s.false _ _ _ _ c.if-u-lt1.false c.if-u-gt64.false c.if-text-gt4096.false (sym c.known_bytes.ensures ∙ not-false _ c.if-not-known_bytes.false-raw) c.finish.ensures
+    read-last _ _ _ _ c.in-Some.ensures c.parse.auto.letters c.if-s.false _ _ _ _ c.if-u-lt1.false c.if-u-gt64.false c.if-text-gt4096.false (sym c.known_bytes.ensures ∙ not-false _ c.if-not-known_bytes.false-raw) c.finish.ensures

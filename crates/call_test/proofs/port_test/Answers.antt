@@ -1,28 +1,39 @@
-use mathlib.Core.Path.{sym, ◌∙◌}
+use Rattle.table_check.proofs.Blank.{blank-room}
+use mathlib.Core.Path.{◌≡◌, refl, sym, ◌∙◌}
 use native.Mathlib.Omega.{arith}
+use borrow.Author.Rules.{rules}
+use Rattle.std.specs.Prelude.{Err}
+use Rattle.logic.specs.Refusal.{answer_number}
 use Rattle.logic.specs.Change.{modulus}
 use Rattle.cells_walk.specs.inner.Visit.{CellsFit}
 use Rattle.call_open.proofs.Opening.{shut}
 use Rattle.call_test.proofs.Answering.{tries-test, port-asks, number_is, port-ready, test-refused, test-made}
 use Rattle.call_test.proofs.port_test.Goals as goal
 
-pub returns-then-o-ne0 : goal.returns-then-o-ne0
-returns-then-o-ne0 c =
-    test-refused _ _ _ _ _ c.if-o-ne0.true (shut (tries-test _ _ _ _) _ c.if-o-ne0.true c.open_tables-o.ensures.number_is)
+pub open_tables-requires : goal.open_tables-requires
+open_tables-requires c =
+    blank-room _ c.new-index.ensures
 
-pub port_number-ground-requires : goal.port_number-ground-requires
-port_number-ground-requires c =
-    port-asks (c.open_tables-o.ensures.opens c.if-o-ne0.false)
+pub returns-in_err-o : goal.returns-in_err-o
+unfolding answer_number
+returns-in_err-o c =
+    let e : c.from_residual.result ≡ Err c.in_err-o.field-0.0 = search rules in rw e (test-refused _ _ _ _ _ (shut (tries-test _ _ _ _) _ c.in_err-o.ensures.number_is))
 
-pub returns-then-ground-ne0 : goal.returns-then-ground-ne0
-returns-then-ground-ne0 c =
-    let o = c.open_tables-o.ensures.opens c.if-o-ne0.false in test-refused _ _ _ _ _ c.if-ground-ne0.true ((tries-test _ _ _ _).passed o.plan o.decodes (sym c.open_tables-o.ensures.number_is ∙ c.if-o-ne0.false) ∙ sym (number_is o _ _ _ c.port_number-ground.ensures))
+pub port_change-requires : goal.port_change-requires
+port_change-requires c =
+    port-asks (c.in_ok-o.ensures.opens _ refl)
+
+pub returns-in_err-port_change : goal.returns-in_err-port_change
+unfolding answer_number
+returns-in_err-port_change c =
+    let o = c.in_ok-o.ensures.opens _ refl in let e : c.from_residual-in_err-port_change.result ≡ Err c.in_err-port_change.field-0.0 = search rules in rw e (test-refused _ _ _ _ _ ((tries-test _ _ _ _).passed o.plan o.decodes (sym c.in_ok-o.ensures.number_is) ∙ sym (number_is o _ _ _ c.in_err-port_change.ensures)))
 
 pub put_port-requires : goal.put_port-requires
-unfolding CellsFit modulus
+unfolding answer_number CellsFit modulus
 put_port-requires c =
-    port-ready (c.open_tables-o.ensures.opens c.if-o-ne0.false) (λ j. omega (arith, c.slice_known-2-1.given j)) _ _ _ c.port_number-ground.ensures c.if-ground-ne0.false
+    port-ready (c.in_ok-o.ensures.opens _ refl) (λ j. omega (arith, c.slice_known-2-1.given j)) _ _ _ c.in_ok-port_change.ensures refl
 
 pub returns : goal.returns
+unfolding answer_number
 returns c =
-    let o = c.open_tables-o.ensures.opens c.if-o-ne0.false in let f = sym (number_is o _ _ _ c.port_number-ground.ensures) ∙ c.if-ground-ne0.false in rw c.accepted.ensures (test-made _ _ _ o.plan o.decodes _ _ _ _ _ ((tries-test _ _ _ _).passed o.plan o.decodes (sym c.open_tables-o.ensures.number_is ∙ c.if-o-ne0.false) ∙ f) f c.put_port.ensures)
+    let o = c.in_ok-o.ensures.opens _ refl in let f = sym (number_is o _ _ _ c.in_ok-port_change.ensures) in rw c.accepted.ensures (test-made _ _ _ o.plan o.decodes _ _ _ _ _ ((tries-test _ _ _ _).passed o.plan o.decodes (sym c.in_ok-o.ensures.number_is) ∙ f) f c.put_port.ensures)

@@ -1,5 +1,9 @@
-use mathlib.Core.Path.{sym, ◌∙◌}
+use Rattle.table_check.proofs.Blank.{blank-room}
+use mathlib.Core.Path.{◌≡◌, refl, sym, ◌∙◌}
 use native.Mathlib.Omega.{arith}
+use borrow.Author.Rules.{rules}
+use Rattle.std.specs.Prelude.{Err}
+use Rattle.logic.specs.Refusal.{answer_number}
 use Rattle.logic.specs.Change.{modulus}
 use Rattle.cells_walk.specs.inner.Visit.{CellsFit}
 use Rattle.contracts.proofs.Scratch.{scratch-kept}
@@ -7,42 +11,40 @@ use Rattle.call_open.proofs.Opening.{shut}
 use Rattle.call_open.proofs.OpenPlan.{sets-fit}
 use Rattle.move_try.proofs.OpenMove.{move-ready, number_is, legal-move}
 use Rattle.call_trial.proofs.Answering.{tries-trial, trial-refused, trial-made}
-use borrow.Author.Rules.{rules}
 use Rattle.call_trial.proofs.trial.Goals as goal
 
-pub move_number-number-requires : goal.move_number-number-requires
-move_number-number-requires c =
-    move-ready (c.open_tables-o.ensures.opens c.if-o-ne0.false)
+pub open_tables-requires : goal.open_tables-requires
+open_tables-requires c =
+    blank-room _ c.new-index.ensures
+
+pub legal-requires : goal.legal-requires
+legal-requires c =
+    move-ready (c.in_ok-o.ensures.opens _ refl)
 
 pub own_masks-own-requires : goal.own_masks-own-requires
 own_masks-own-requires c =
-    sets-fit (c.open_tables-o.ensures.opens c.if-o-ne0.false)
+    sets-fit (c.in_ok-o.ensures.opens _ refl)
 
 pub slice_bounds-work-end : goal.slice_bounds-work-end
 slice_bounds-work-end c =
-    let h = sets-fit (c.open_tables-o.ensures.opens c.if-o-ne0.false) in omega (arith, h, c.own_masks-own.ensures)
+    let h = sets-fit (c.in_ok-o.ensures.opens _ refl) in omega (arith, h, c.own_masks-own.ensures)
 
 pub try_move-requires : goal.try_move-requires
-unfolding CellsFit modulus
+unfolding answer_number CellsFit modulus
 try_move-requires c =
-    record { legal-move = legal-move (c.open_tables-o.ensures.opens c.if-o-ne0.false) (omega (arith, c.lesser-shortest.ensures)) (λ j. omega (arith, c.shared_slice_known-3-1.given j)) c.move_number-number.ensures c.if-number-ne0.false; work-long = search rules }
+    record { legal-move = legal-move (c.in_ok-o.ensures.opens _ refl) (omega (arith, c.min-shortest.ensures)) (λ j. omega (arith, c.shared_slice_known-3-1.given j)) c.in_ok-legal.ensures refl; work-long = search rules }
 
-pub returns-then-o-ne0 : goal.returns-then-o-ne0
-returns-then-o-ne0 c = record {
-  answer = trial-refused _ _ _ _ _ c.if-o-ne0.true (shut (tries-trial _ _ _ _) _ c.if-o-ne0.true (rw c.lesser-shortest.ensures at c.open_tables-o.ensures.number_is));
-  lent = scratch-kept _ _ _;
-}
+pub returns-in_err-o : goal.returns-in_err-o
+unfolding answer_number
+returns-in_err-o c =
+    let e : c.from_residual.result ≡ Err c.in_err-o.field-0.0 = search rules in rw e record { answer = trial-refused _ _ _ _ _ (shut (tries-trial _ _ _ _) _ (rw c.min-shortest.ensures at c.in_err-o.ensures.number_is)); lent = scratch-kept _ _ _ }
 
-pub returns-then-number-ne0 : goal.returns-then-number-ne0
-returns-then-number-ne0 c =
-    let o = c.open_tables-o.ensures.opens c.if-o-ne0.false in record {
-      answer = trial-refused _ _ _ _ _ c.if-number-ne0.true ((tries-trial _ _ _ _).passed o.plan o.decodes (sym (rw c.lesser-shortest.ensures at c.open_tables-o.ensures.number_is) ∙ c.if-o-ne0.false) ∙ sym (number_is o _ _ c.move_number-number.ensures));
-      lent = scratch-kept _ _ _;
-    }
+pub returns-in_err-legal : goal.returns-in_err-legal
+unfolding answer_number
+returns-in_err-legal c =
+    let o = c.in_ok-o.ensures.opens _ refl in let e : c.from_residual-in_err-legal.result ≡ Err c.in_err-legal.field-0.0 = search rules in rw e record { answer = trial-refused _ _ _ _ _ ((tries-trial _ _ _ _).passed o.plan o.decodes (sym (rw c.min-shortest.ensures at c.in_ok-o.ensures.number_is)) ∙ sym (number_is o _ _ c.in_err-legal.ensures)); lent = scratch-kept _ _ _ }
 
 pub returns : goal.returns
+unfolding answer_number
 returns c =
-    let o = c.open_tables-o.ensures.opens c.if-o-ne0.false in record {
-      answer = rw c.accepted.ensures (trial-made _ _ _ _ o.plan o.decodes _ _ ((tries-trial _ _ _ _).passed o.plan o.decodes (sym (rw c.lesser-shortest.ensures at c.open_tables-o.ensures.number_is) ∙ c.if-o-ne0.false) ∙ sym (sym c.if-number-ne0.false ∙ number_is o _ _ c.move_number-number.ensures)) c.try_move.ensures);
-      lent = scratch-kept _ _ _;
-    }
+    let o = c.in_ok-o.ensures.opens _ refl in record { answer = rw c.accepted.ensures (trial-made _ _ _ _ o.plan o.decodes _ _ ((tries-trial _ _ _ _).passed o.plan o.decodes (sym (rw c.min-shortest.ensures at c.in_ok-o.ensures.number_is)) ∙ sym (number_is o _ _ c.in_ok-legal.ensures)) c.try_move.ensures); lent = scratch-kept _ _ _ }

@@ -1,3 +1,4 @@
+use Rattle.std.proofs.Common.{refl}
 use Rattle.std.proofs.Common.{◌-◌, sym, ◌∙◌, arith}
 use Rattle.cells_both.proofs.Tuples.{node-low, depth_low, ports-low, place-low, digits_low, ready-whole, gives_whole, met, left-low, from_more, port-gives, ports-none, ports-next, ports-done, ports-all, ports-two, from-none}
 use Rattle.cells_both.proofs.+both.Goals as goal
@@ -28,7 +29,7 @@ both_from-port_from-by_q-requires t c =
 
 pub both_from-returns-then-meet : goal.both_from-returns-then-meet
 both_from-returns-then-meet t c =
-    ports-two _ _ _ _ _ _ _ _ _ _ _ _ _ _ _ _ _ _ _ (omega (arith, c.if-level-depth.false, c.requires.within)) _ _ _ _ _ c.uses_at-used.ensures (met _ _ _ _ c.level_of.ensures (sym c.meet.ensures ∙ c.if-meet.true)) c.requires (omega (arith, c.if-left-lacking-2.true, c.missing-lacking.ensures)) c.port_from-by_p.ensures c.port_from-by_q.ensures c.wrapping_add_u32.ensures.value
+    ports-two _ _ _ _ _ _ _ _ _ _ _ _ _ _ _ _ _ _ _ (omega (arith, c.if-level-depth.false, c.requires.within)) _ _ _ _ _ c.uses_at-used.ensures (met _ _ _ _ c.level_of.ensures (sym c.meet.ensures ∙ c.if-meet.true)) c.requires (omega (arith, c.if-left-lacking-2.true, c.missing-lacking.ensures)) c.port_from-by_p.ensures c.port_from-by_q.ensures refl
 
 pub both_from-ports_from-requires : goal.both_from-ports_from-requires
 both_from-ports_from-requires t c =
@@ -76,7 +77,7 @@ ports_from-port_from-more-requires t c =
 
 pub ports_from-loop-x-preserved : goal.ports_from-loop-x-preserved
 ports_from-loop-x-preserved t c =
-    (omega arith, ports-next _ _ _ _ _ _ _ _ _ _ _ _ _ _ _ _ _ _ _ _ _ _ _ c.loop-x.invariant.1 c.port_from-more.ensures c.wrapping_add_u32-sum.ensures.value)
+    (omega arith, ports-next _ _ _ _ _ _ _ _ _ _ _ _ _ _ _ _ _ _ _ _ _ _ _ c.loop-x.invariant.1 c.port_from-more.ensures refl)
 
 pub ports_from-returns : goal.ports_from-returns
 ports_from-returns t c =

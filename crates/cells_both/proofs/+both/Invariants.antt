@@ -12,7 +12,4 @@ abbrev pub decreases-ports_from : goal.decreases-ports_from
 decreases-ports_from l = 3 * (l.depth - l.level) + 1
 
 abbrev pub invariant-ports_from-loop-x : goal.invariant-ports_from-loop-x
-invariant-ports_from-loop-x l = (l.x ≤ l.ports) × PortsGive l.ports l.table l.firsts l.ends l.uses l.masks l.sizes l.cells l.i l.depth l.members l.resized l.p l.q l.level l.place l.digits l.pword l.qword l.x l.sum
-
-abbrev pub decreases-ports_from-loop-x : goal.decreases-ports_from-loop-x
-decreases-ports_from-loop-x l = l.ports - l.x
+invariant-ports_from-loop-x l = (l.x ≤ l.plan.ports) × PortsGive l.plan.ports l.plan.table.now l.plan.index.now.firsts l.plan.index.now.ends l.plan.index.now.uses l.masks l.sizes l.cells l.i l.depth l.members l.resized l.p l.q l.level l.place l.digits l.pword l.qword l.x l.sum

@@ -4,6 +4,3 @@ use Rattle.cells_both.proofs.tested_all.Given as goal
 
 abbrev pub invariant-loop-level : goal.invariant-loop-level
 invariant-loop-level l = (l.level ≤ l.depth) × (l.left ≤ l.depth - l.level) × (l.left ≡ left_of l.used l.members l.level (l.depth - l.level))
-
-abbrev pub decreases-loop-level : goal.decreases-loop-level
-decreases-loop-level l = l.level

@@ -25,8 +25,8 @@ returns-then-block-other c =
     same-cells _ _ _ _ _ c.put_nested-then-block-other.ensures
     (λ t. first_inner c.args.relation _ _ _ c.literal_penalty-less.ensures c.literal_penalty-same.ensures c.literal_penalty-more.ensures (digit_at c.args.ports c.args.block t) (digit_at c.args.ports c.args.other t))
 
-pub returns : goal.returns
-returns c =
+pub returns-else-block-other : goal.returns-else-block-other
+returns-else-block-other c =
     let e : c.args.block ≡ c.args.other = omega arith in
     same-cells _ _ _ _ _ (c.put_run.ensures ∙ from_first _ _ _)
     (λ t. c.literal_penalty-same.ensures ∙ same-port c.args.relation (digit_at c.args.ports c.args.block t) (digit_at c.args.ports c.args.other t) (ap (λ (x : ℕ). digit_at c.args.ports x t) e))

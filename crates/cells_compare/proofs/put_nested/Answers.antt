@@ -1,5 +1,5 @@
 use mathlib.Core.Path.{refl, ◌∙◌}
-use Prim.Native.Nat.{◌-◌, ◌*◌, ◌/◌}
+use Prim.Native.Nat.{◌*◌, ◌/◌}
 use native.Mathlib.Nat.{add-mod_right, add-div_right, zero-mod}
 use native.Mathlib.Omega.{arith}
 use Rattle.cells_runs.specs.inner.Ports.{digit_at, by_order}

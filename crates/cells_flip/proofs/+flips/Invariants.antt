@@ -12,7 +12,7 @@ abbrev pub decreases-flip_trees : goal.decreases-flip_trees
 decreases-flip_trees l = 3 * (512 - l.i) + 2
 
 abbrev pub invariant-flip_trees-loop-j : goal.invariant-flip_trees-loop-j
-invariant-flip_trees-loop-j l = Onward l.table l.firsts l.ends l.uses l.masks l.sizes l.cells l.until l.count l.own l.row l.digits l.word l.add l.initial.j l.initial.out l.j l.out
+invariant-flip_trees-loop-j l = Onward l.plan.table.now l.plan.index.now.firsts l.plan.index.now.ends l.plan.index.now.uses l.masks l.sizes l.cells l.until l.count l.own l.row l.digits l.word l.add l.initial.j l.initial.out l.j l.out
 
 abbrev pub decreases-flip_trees-loop-j : goal.decreases-flip_trees-loop-j
 decreases-flip_trees-loop-j l = l.until - l.j

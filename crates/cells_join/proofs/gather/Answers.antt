@@ -1,28 +1,28 @@
-use Rattle.std.proofs.Common.{◌≡◌, ℕ, ◌+◌, ◌-◌, get_or, take, drop, ap, ◌∙◌, add-zero, arith}
+use Rattle.std.proofs.Common.{get_or, ap, ◌∙◌, zero-add, take_all, arith}
 use Rattle.cells_join.specs.inner.Joined.{unit_of, join_all, LowTwo, Low}
 use Rattle.cells_join.proofs.Prefix.{gather-next, from-unit, unit-low, meet_low}
 use Rattle.cells_join.proofs.Limits.{limit-signed}
 use Rattle.cells_join.proofs.gather.Goals as goal
 
-pub loop-p-init : goal.loop-p-init
+pub loop-cell-init : goal.loop-cell-init
 unfolding join_all
-loop-p-init c =
-    (omega arith, c.unit_of-r.ensures, λ h. rw c.unit_of-r.ensures (unit-low c.args.join h))
+loop-cell-init c =
+    (c.unit_of-r.ensures, λ h. rw c.unit_of-r.ensures (unit-low c.args.join h))
 
 pub meet_of-r-requires : goal.meet_of-r-requires
 unfolding LowTwo Low
 meet_of-r-requires c =
-    λ h. (λ _. rw (limit-signed c.args.join c.requires.3) (c.loop-p.invariant.2 h), c.requires.2 c.loop-p.p (omega arith) h)
+    λ h. (λ _. rw (limit-signed c.args.join c.requires.2) (c.loop-cell.invariant.1 h), rw zero-add at (c.requires.1 c.loop-cell.cell-index c.loop-cell-test.true h))
 
-pub loop-p-preserved : goal.loop-p-preserved
+pub loop-cell-preserved : goal.loop-cell-preserved
 unfolding Low
-loop-p-preserved c = (
-  omega arith,
-  gather-next c.args.join _ c.args.from c.loop-p.p c.loop-p.r c.meet_of-r.result c.args.cells.now (omega (arith, c.requires.1)) c.loop-p.invariant.1 c.meet_of-r.ensures,
-  λ h. rw c.meet_of-r.ensures (meet_low c.args.join c.loop-p.r (get_or c.args.cells.now (c.args.from + c.loop-p.p) 0) 2147483648 h (rw (limit-signed c.args.join c.requires.3) at (c.requires.2 c.loop-p.p (omega arith) h))),
+loop-cell-preserved c = (
+  gather-next c.args.join _ c.loop-cell.cell-index c.loop-cell.r c.meet_of-r.result c.args.cells.now c.loop-cell-test.true c.loop-cell.invariant.0 c.meet_of-r.ensures,
+  λ h. rw c.meet_of-r.ensures (meet_low c.args.join c.loop-cell.r (get_or c.args.cells.now c.loop-cell.cell-index 0) 2147483648 h (rw (zero-add, limit-signed c.args.join c.requires.2) at (c.requires.1 c.loop-cell.cell-index c.loop-cell-test.true h))),
 )
 
 pub returns : goal.returns
 unfolding Low
 returns c =
-    λ x. let e : c.loop-p.p ≡ c.args.s = omega arith in c.loop-p.invariant.1 ∙ ap (λ (m : ℕ). join_all c.args.join (unit_of c.args.join) (take m (drop c.args.from c.args.cells.now))) e ∙ from-unit c.args.join x c.args.from c.args.s c.args.cells.now c.requires.0 c.requires.1 (omega (arith, c.shared_slice_known-1.given c.args.from)) (λ h. rw (add-zero, limit-signed c.args.join c.requires.3) at (c.requires.2 0 (omega (arith, c.requires.0)) h))
+    λ x. c.loop-cell.invariant.0 ∙ ap (join_all c.args.join (unit_of c.args.join)) (take_all c.loop-cell.cell-index c.args.cells.now c.loop-cell-test.false)
+    ∙ from-unit c.args.join x c.args.cells.now c.requires.0 (omega (arith, c.type_inv.cells 0)) (λ h. rw (zero-add, limit-signed c.args.join c.requires.2) at (c.requires.1 0 (omega (arith, c.requires.0)) h))

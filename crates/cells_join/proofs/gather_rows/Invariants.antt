@@ -1,10 +1,7 @@
-use Rattle.std.proofs.Common.{◌≡◌, ◌+◌, ◌-◌, ◌*◌, true}
+use Rattle.std.proofs.Common.{true}
 use Rattle.logic.proofs.Written.{Written}
 use Rattle.cells_join.proofs.Prefix.{joined_at}
 use Rattle.cells_join.proofs.gather_rows.Given as goal
 
 abbrev pub invariant-loop-t : goal.invariant-loop-t
-invariant-loop-t l = Written (joined_at l.join true l.s l.at l.initial.cells) 0 l.over l.initial.cells l.cells l.t × (l.from ≡ l.at + l.t * l.s)
-
-abbrev pub decreases-loop-t : goal.decreases-loop-t
-decreases-loop-t l = l.over - l.t
+invariant-loop-t l = Written (joined_at l.join true l.s l.at l.initial.cells) 0 l.over l.initial.cells l.cells l.t

@@ -1,10 +1,6 @@
-use Rattle.std.proofs.Common.{◌+◌, ◌-◌, ◌≤◌, length}
 use Rattle.logic.proofs.Written.{Written}
 use Rattle.cells_join.proofs.Prefix.{joined_at}
 use Rattle.cells_join.proofs.merge_row.Given as goal
 
 abbrev pub invariant-loop-t : goal.invariant-loop-t
-invariant-loop-t l = Written (joined_at l.join l.first 1 l.at l.initial.cells) 0 l.over l.initial.cells l.cells l.t × (l.over ≤ l.at) × (l.at + l.over ≤ length l.initial.cells)
-
-abbrev pub decreases-loop-t : goal.decreases-loop-t
-decreases-loop-t l = l.over - l.t
+invariant-loop-t l = Written (joined_at l.join l.first 1 l.at l.initial.cells) 0 l.over l.initial.cells l.cells l.t

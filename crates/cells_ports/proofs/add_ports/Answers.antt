@@ -2,11 +2,6 @@ use mathlib.Core.Path.{refl}
 use native.Mathlib.Omega.{arith}
 use Rattle.cells_ports.proofs.Steps.{port-low, over-again}
 use Rattle.cells_ports.proofs.Adding.{over-all}
-use Rattle.cells_ports.proofs.add_ports.Reads as reads
-use Rattle.cells_ports.proofs.add_ports.Lts as lts
-use Rattle.cells_ports.proofs.outer_port.Reads as outer-port-reads
-use Rattle.cells_ports.proofs.own_ports.Reads as own-ports-reads
-use Rattle.cells_ports.proofs.start_at.Reads as start-at-reads
 use Rattle.cells_ports.proofs.add_ports.Goals as goal
 
 pub start_at-first-requires : goal.start_at-first-requires

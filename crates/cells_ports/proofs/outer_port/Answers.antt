@@ -2,16 +2,6 @@ use mathlib.Core.Path.{sym, ◌∙◌}
 use native.Mathlib.Omega.{arith}
 use Rattle.logic.specs.Change.{modulus}
 use Rattle.cells_ports.proofs.Steps.{ports-low, node-low, again, port-low, outer-tested, outer-untested, outer-inside}
-use Rattle.cells_ports.proofs.outer_port.Reads as reads
-use Rattle.cells_ports.proofs.outer_port.Lts as lts
-use Rattle.cells_ports.proofs.port_levels.Reads as port-levels-reads
-use Rattle.cells_ports.proofs.port_row.Reads as port-row-reads
-use Rattle.cells_row.proofs.gather_row.Reads as gather-row-reads
-use Rattle.cells_row.proofs.put_port.Reads as put-port-reads
-use Rattle.cells_touch.proofs.meet.Reads as meet-reads
-use Rattle.cells_walk.proofs.port_at.Reads as port-at-reads
-use Rattle.cells_walk.proofs.uses_at.Reads as uses-at-reads
-use Rattle.logic.proofs.wide.Reads as wide-reads
 use Rattle.cells_ports.proofs.outer_port.Goals as goal
 
 pub uses_at-requires : goal.uses_at-requires

@@ -2,13 +2,6 @@ use mathlib.Core.Path.{sym, ◌∙◌}
 use native.Mathlib.Omega.{arith}
 use Rattle.logic.specs.Change.{modulus}
 use Rattle.cells_ports.proofs.Steps.{ports-low, depth_low, node-low, flip-ready, own-tested, own-untested}
-use Rattle.cells_ports.proofs.own_ports.Reads as reads
-use Rattle.cells_ports.proofs.own_ports.Lts as lts
-use Rattle.cells_flip.proofs.flip_row.Reads as flip-row-reads
-use Rattle.cells_row.proofs.join_row.Reads as join-row-reads
-use Rattle.cells_touch.proofs.level_of.Reads as level-of-reads
-use Rattle.cells_touch.proofs.meet.Reads as meet-reads
-use Rattle.cells_walk.proofs.uses_at.Reads as uses-at-reads
 use Rattle.cells_ports.proofs.own_ports.Goals as goal
 
 pub uses_at-requires : goal.uses_at-requires
@@ -30,9 +23,9 @@ join_row-requires c =
 pub returns-then-meet : goal.returns-then-meet
 unfolding modulus
 returns-then-meet c =
-    own-tested _ _ _ _ _ _ _ _ _ _ _ _ _ _ _ _ c.requires _ _ c.level_of-own.ensures c.uses_at.ensures (λ z. omega (arith, c.shared_slice_known-4-1.given z)) _ _ c.flip_row.ensures c.join_row.ensures
+    own-tested _ _ _ _ _ _ _ _ _ _ _ _ _ _ _ _ c.requires _ _ c.level_of-own.ensures c.uses_at.ensures (λ z. omega (arith, c.shared_slice_known-3-1.given z)) _ _ c.flip_row.ensures c.join_row.ensures
 
 pub returns-else-meet : goal.returns-else-meet
 unfolding modulus
 returns-else-meet c =
-    own-untested _ _ _ _ _ _ _ _ _ _ _ _ _ _ _ _ c.requires _ _ c.level_of-own.ensures c.uses_at.ensures (λ z. omega (arith, c.shared_slice_known-4-1.given z)) (λ z. omega (arith, c.slice_known-1.given z)) (sym c.meet.ensures ∙ c.if-meet.false)
+    own-untested _ _ _ _ _ _ _ _ _ _ _ _ _ _ _ _ c.requires _ _ c.level_of-own.ensures c.uses_at.ensures (λ z. omega (arith, c.shared_slice_known-3-1.given z)) (λ z. omega (arith, c.slice_known-1.given z)) (sym c.meet.ensures ∙ c.if-meet.false)

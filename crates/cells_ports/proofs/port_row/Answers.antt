@@ -1,14 +1,6 @@
 use mathlib.Core.Path.{sym, ◌∙◌}
 use native.Mathlib.Omega.{arith}
 use Rattle.cells_ports.proofs.Steps.{ports-low, depth_low, node-low, flip-ready, both-rows, one-row}
-use Rattle.cells_ports.proofs.port_row.Reads as reads
-use Rattle.cells_ports.proofs.port_row.Lts as lts
-use Rattle.cells_flip.proofs.flip_row.Reads as flip-row-reads
-use Rattle.cells_ports.proofs.port_levels.Reads as port-levels-reads
-use Rattle.cells_row.proofs.put_port.Reads as put-port-reads
-use Rattle.cells_touch.proofs.level_of.Reads as level-of-reads
-use Rattle.cells_touch.proofs.meet.Reads as meet-reads
-use Rattle.cells_walk.proofs.uses_at.Reads as uses-at-reads
 use Rattle.cells_ports.proofs.port_row.Goals as goal
 
 pub overflow_cast-depth : goal.overflow_cast-depth

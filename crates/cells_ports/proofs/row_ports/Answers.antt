@@ -5,15 +5,6 @@ use borrow.Author.Tests.{not-true}
 use Rattle.cells_touch.specs.inner.Hits.{meets}
 use Rattle.cells_ports.proofs.Steps.{ports-low, depth_low, flip-ready, node-low, place-ready, from_low, old-room}
 use Rattle.cells_ports.proofs.Adding.{kept_gives, row-resized, row-kept}
-use Rattle.cells_ports.proofs.row_ports.Reads as reads
-use Rattle.cells_ports.proofs.row_ports.Lts as lts
-use Rattle.cells_flip.proofs.flip_row.Reads as flip-row-reads
-use Rattle.cells_ports.proofs.add_ports.Reads as add-ports-reads
-use Rattle.cells_row.proofs.cells_from.Reads as cells-from-reads
-use Rattle.cells_row.proofs.gather_row.Reads as gather-row-reads
-use Rattle.cells_touch.proofs.meet.Reads as meet-reads
-use Rattle.cells_walk.proofs.place_at.Reads as place-at-reads
-use Rattle.cells_walk.proofs.uses_at.Reads as uses-at-reads
 use Rattle.cells_ports.proofs.row_ports.Goals as goal
 
 pub place_at-requires : goal.place_at-requires

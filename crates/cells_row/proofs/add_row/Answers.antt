@@ -1,4 +1,4 @@
-use Rattle.std.proofs.Common.{◌-◌, true}
+use Rattle.std.proofs.Common.{true}
 use Rattle.logic.specs.Change.{modulus}
 use Rattle.logic.proofs.Written.{start, all_first}
 use Rattle.cells_sum.specs.inner.Walk.{taken}

@@ -1,4 +1,4 @@
-use Rattle.std.proofs.Common.{◌-◌, false}
+use Rattle.std.proofs.Common.{false}
 use Rattle.logic.proofs.Written.{start, all_first}
 use Rattle.cells_sum.specs.inner.Walk.{taken}
 use Rattle.cells_row.specs.inner.Row.{row_of, renewal_at, row_taken}
@@ -12,7 +12,7 @@ loop-x-init c =
 pub loop-x-preserved : goal.loop-x-preserved
 unfolding taken renewal_at
 loop-x-preserved c =
-    taken_more false _ _ _ c.args.new.now c.args.new.now _ _ c.loop-x.invariant c.loop-x-test.true c.requires.1 c.lesser_cell.ensures
+    taken_more false _ _ _ c.args.new.now c.args.new.now _ _ c.loop-x.invariant c.loop-x-test.true c.requires.1 c.min.ensures
 
 pub returns : goal.returns
 unfolding row_of row_taken

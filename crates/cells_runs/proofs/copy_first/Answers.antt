@@ -1,9 +1,9 @@
 use mathlib.Core.Path.{◌∙◌}
-use Prim.Native.Nat.{◌-◌, ◌≤◌}
+use Prim.Native.Nat.{◌≤◌}
 use native.Mathlib.Omega.{arith}
 use lib.ListN.{length}
 use Rattle.logic.proofs.Written.{start, one_more, done, copied}
-use Rattle.cells_runs.proofs.Rounds.{copy_more}
+use Rattle.cells_runs.proofs.Copying.{copy_more}
 use Rattle.cells_runs.proofs.copy_first.Goals as goal
 
 pub loop-i-init : goal.loop-i-init

@@ -1,5 +1,4 @@
 use mathlib.Core.Path.{refl}
-use Prim.Native.Nat.{◌-◌}
 use Rattle.logic.proofs.Written.{start, one_more, done}
 use Rattle.cells_runs.proofs.put_run.Goals as goal
 

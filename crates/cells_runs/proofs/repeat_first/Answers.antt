@@ -1,4 +1,3 @@
-use Prim.Native.Nat.{◌-◌}
 use native.Mathlib.Omega.{arith}
 use Rattle.cells_runs.proofs.Rounds.{repeat-start, repeat-more, repeat-all}
 use Rattle.cells_runs.proofs.repeat_first.Goals as goal
@@ -9,19 +8,19 @@ loop-t-init c =
 
 pub copy_first-requires : goal.copy_first-requires
 copy_first-requires c =
-    (omega (arith, c.lesser-len.ensures), omega (arith, c.lesser-len.ensures, c.loop-t.invariant.is.same_length, c.requires.2))
+    (omega (arith, c.min-len.ensures), omega (arith, c.min-len.ensures, c.loop-t.invariant.is.same_length, c.requires.2))
 
 pub overflow_add-t : goal.overflow_add-t
 overflow_add-t c =
-    omega (arith, c.lesser-len.ensures, c.loop-t.invariant.is.same_length, c.requires.2)
+    omega (arith, c.min-len.ensures, c.loop-t.invariant.is.same_length, c.requires.2)
 
 pub loop-t-smaller : goal.loop-t-smaller
 loop-t-smaller c =
-    omega (arith, c.lesser-len.ensures, c.loop-t.invariant.past, c.requires.0)
+    omega (arith, c.min-len.ensures, c.loop-t.invariant.past, c.requires.0)
 
 pub loop-t-preserved : goal.loop-t-preserved
 loop-t-preserved c =
-    repeat-more _ _ _ _ _ _ _ c.loop-t.invariant c.loop-t-test.true c.requires.2 c.lesser-len.ensures c.copy_first.ensures
+    repeat-more _ _ _ _ _ _ _ c.loop-t.invariant c.loop-t-test.true c.requires.2 c.min-len.ensures c.copy_first.ensures
 
 pub returns : goal.returns
 returns c =

@@ -1,3 +1,4 @@
+use Rattle.std.proofs.Common.{refl}
 use Rattle.std.proofs.Common.{◌-◌, arith}
 use borrow.Author.Tests.{not-true, not-false}
 use Rattle.cells_share.proofs.Sharing.{node-low, gives_none, whole_ready, whole-gives, level-low, level-falls, place-fits, port-asks, port-ready, ports-begun, ports-more, ports-done}
@@ -43,17 +44,9 @@ pub share_over-more-requires : goal.share_over-more-requires
 share_over-more-requires t c =
     (omega (arith, c.decreases, level-falls _ _ _ _ _ _ _ _ _ _ _ _ _ _ _ c.requires c.if-level-depth.false), port-ready _ _ _ _ _ _ _ _ _ _ _ _ _ _ _ c.requires c.if-level-depth.false _ _ _ c.loop-x-test.true c.with_port.ensures c.port_word.ensures)
 
-pub overflow_add-x : goal.overflow_add-x
-overflow_add-x t c =
-    omega (arith, c.loop-x-test.true)
-
-pub loop-x-smaller : goal.loop-x-smaller
-loop-x-smaller t c =
-    omega (arith, c.loop-x-test.true)
-
 pub loop-x-preserved : goal.loop-x-preserved
 loop-x-preserved t c =
-    (omega (arith, c.loop-x-test.true), ports-more _ _ _ _ _ _ _ _ _ _ _ _ _ _ _ (level-low _ _ _ _ _ _ _ _ _ _ _ _ _ _ _ c.requires c.if-level-depth.false) _ _ _ _ _ _ c.loop-x-test.true c.with_port.ensures c.port_word.ensures c.loop-x.invariant.1 c.share_over-more.ensures c.wrapping_add_u32-sum.ensures.value)
+    (omega (arith, c.loop-x-test.true), ports-more _ _ _ _ _ _ _ _ _ _ _ _ _ _ _ (level-low _ _ _ _ _ _ _ _ _ _ _ _ _ _ _ c.requires c.if-level-depth.false) _ _ _ _ _ _ c.loop-x-test.true c.with_port.ensures c.port_word.ensures c.loop-x.invariant.1 c.share_over-more.ensures refl)
 
 pub returns : goal.returns
 returns t c =

@@ -1,11 +1,5 @@
 use Rattle.cells_visit.proofs.Walking.{node-low, cell_room}
 use Rattle.cells_share.proofs.Sharing.{zero-ready, cell-ready, gives-zero, gives-cell}
-use Rattle.cells_share.proofs.share_at.Reads as reads
-use Rattle.cells_share.proofs.share_at.Lts as lts
-use Rattle.cells_sum.proofs.with_difference.Reads as with-difference-reads
-use Rattle.cells_try.proofs.cell_after.Reads as cell-after-reads
-use Rattle.cells_walk.proofs.cell_at.Reads as cell-at-reads
-use Rattle.cells_zero.proofs.zero_below.Reads as zero-below-reads
 use Rattle.cells_share.proofs.share_at.Goals as goal
 
 pub zero_below-requires : goal.zero_below-requires

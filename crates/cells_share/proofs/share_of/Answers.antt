@@ -1,9 +1,5 @@
 use borrow.Author.Tests.{not-true}
 use Rattle.cells_share.proofs.Sharing.{node-low, gives_none}
-use Rattle.cells_share.proofs.share_of.Reads as reads
-use Rattle.cells_share.proofs.share_of.Lts as lts
-use Rattle.cells_share.proofs.share_over.Reads as share-over-reads
-use Rattle.cells_walk.proofs.touched_at.Reads as touched-at-reads
 use Rattle.cells_share.proofs.share_of.Goals as goal
 
 pub touched_at-requires : goal.touched_at-requires

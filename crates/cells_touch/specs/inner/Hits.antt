@@ -40,10 +40,6 @@ pub record Describes (u : ℕ) (ch : Change) (c : Changed) : Type 0 where
   pub q-high : (S : ℕ) → S < 16 → in_mask c.qsets (4 * S + 3) ≡ false
   pub resized-low : (S v : ℕ) → S < 16 → v < 3 → in_mask c.resized (4 * S + v) ≡ false
 
--- The change that five numbers say.
-unfoldable pub change_in : List ℕ → Changed
-change_in xs = record { p = get_or xs 0 0; q = get_or xs 1 0; psets = get_or xs 2 0; qsets = get_or xs 3 0; resized = get_or xs 4 0 }
-
 -- The bit of variable d in every set, of its four, and all the other bits.
 unfoldable pub level : ℕ → ℕ
 level d = 1229782938247303441 * 2 ^ (d % 4)

@@ -105,19 +105,19 @@ pair_after-overflow_add-depth t c =
 
 pub pair_after-overflow_add-row : goal.pair_after-overflow_add-row
 pair_after-overflow_add-row t c =
-    record { fits = row-fits-64 _ _ _ _ _ _ _ _ _ _ _ _ _ _ _ (any-row _ _ _ _ _ _ _ _ _ _ _ _ _ _ _ c.requires.ports) _ (first-low _ _ _ _ _ _ _ _ _ _ _ _ _ _ _ c.requires _ _ c.lower_port-p.ensures c.higher_port-q.ensures) }
+    record { fits = row-fits-64 _ _ _ _ _ _ _ _ _ _ _ _ _ _ _ (any-row _ _ _ _ _ _ _ _ _ _ _ _ _ _ _ c.requires.ports) _ (first-low _ _ _ _ _ _ _ _ _ _ _ _ _ _ _ c.requires _ _ refl refl) }
 
 pub pair_after-with_port-requires : goal.pair_after-with_port-requires
 pair_after-with_port-requires t c =
-    digits-ready _ _ _ _ _ _ _ _ _ _ _ _ _ _ _ (any-row _ _ _ _ _ _ _ _ _ _ _ _ _ _ _ c.requires.ports) _ (first-low _ _ _ _ _ _ _ _ _ _ _ _ _ _ _ c.requires _ _ c.lower_port-p.ensures c.higher_port-q.ensures)
+    digits-ready _ _ _ _ _ _ _ _ _ _ _ _ _ _ _ (any-row _ _ _ _ _ _ _ _ _ _ _ _ _ _ _ c.requires.ports) _ (first-low _ _ _ _ _ _ _ _ _ _ _ _ _ _ _ c.requires _ _ refl refl)
 
 pub pair_after-cell_after-first-requires : goal.pair_after-cell_after-first-requires
 pair_after-cell_after-first-requires t c =
-    (omega (arith, c.decreases), port-ready _ _ _ _ _ _ _ _ _ _ _ _ _ _ _ (any-row _ _ _ _ _ _ _ _ _ _ _ _ _ _ _ c.requires.ports) _ _ _ (first-low _ _ _ _ _ _ _ _ _ _ _ _ _ _ _ c.requires _ _ c.lower_port-p.ensures c.higher_port-q.ensures) c.with_port.ensures c.port_word.ensures)
+    (omega (arith, c.decreases), port-ready _ _ _ _ _ _ _ _ _ _ _ _ _ _ _ (any-row _ _ _ _ _ _ _ _ _ _ _ _ _ _ _ c.requires.ports) _ _ _ (first-low _ _ _ _ _ _ _ _ _ _ _ _ _ _ _ c.requires _ _ refl refl) c.with_port.ensures c.port_word.ensures)
 
 pub pair_after-returns-then-q-p : goal.pair_after-returns-then-q-p
 pair_after-returns-then-q-p t c =
-    pair-only _ _ _ _ _ _ _ _ _ _ _ _ _ _ _ c.requires _ _ c.lower_port-p.ensures c.higher_port-q.ensures _ c.if-q-p.true (pair-next _ _ _ _ _ _ _ _ _ _ _ _ _ _ _ _ _ _ _ (pair-first _ _ _ _ _ _ _ _ _ _ _ _ _ _ _ c.requires _ _ c.lower_port-p.ensures c.higher_port-q.ensures) (port-gives _ _ _ _ _ _ _ _ _ _ _ _ _ _ _ _ _ _ (first-low _ _ _ _ _ _ _ _ _ _ _ _ _ _ _ c.requires _ _ c.lower_port-p.ensures c.higher_port-q.ensures) c.with_port.ensures c.port_word.ensures c.cell_after-first.ensures) c.join-sum.ensures)
+    pair-only _ _ _ _ _ _ _ _ _ _ _ _ _ _ _ c.requires _ _ refl refl _ c.if-q-p.true (pair-next _ _ _ _ _ _ _ _ _ _ _ _ _ _ _ _ _ _ _ (pair-first _ _ _ _ _ _ _ _ _ _ _ _ _ _ _ c.requires _ _ refl refl) (port-gives _ _ _ _ _ _ _ _ _ _ _ _ _ _ _ _ _ _ (first-low _ _ _ _ _ _ _ _ _ _ _ _ _ _ _ c.requires _ _ refl refl) c.with_port.ensures c.port_word.ensures c.cell_after-first.ensures) c.join-sum.ensures)
 
 pub pair_after-overflow_add-depth-2 : goal.pair_after-overflow_add-depth-2
 pair_after-overflow_add-depth-2 t c =
@@ -125,19 +125,19 @@ pair_after-overflow_add-depth-2 t c =
 
 pub pair_after-overflow_add-row-2 : goal.pair_after-overflow_add-row-2
 pair_after-overflow_add-row-2 t c =
-    record { fits = row-fits-64 _ _ _ _ _ _ _ _ _ _ _ _ _ _ _ (any-row _ _ _ _ _ _ _ _ _ _ _ _ _ _ _ c.requires.ports) _ (second-low _ _ _ _ _ _ _ _ _ _ _ _ _ _ _ c.requires _ _ c.lower_port-p.ensures c.higher_port-q.ensures) }
+    record { fits = row-fits-64 _ _ _ _ _ _ _ _ _ _ _ _ _ _ _ (any-row _ _ _ _ _ _ _ _ _ _ _ _ _ _ _ c.requires.ports) _ (second-low _ _ _ _ _ _ _ _ _ _ _ _ _ _ _ c.requires _ _ refl refl) }
 
 pub pair_after-with_port-requires-2 : goal.pair_after-with_port-requires-2
 pair_after-with_port-requires-2 t c =
-    digits-ready _ _ _ _ _ _ _ _ _ _ _ _ _ _ _ (any-row _ _ _ _ _ _ _ _ _ _ _ _ _ _ _ c.requires.ports) _ (second-low _ _ _ _ _ _ _ _ _ _ _ _ _ _ _ c.requires _ _ c.lower_port-p.ensures c.higher_port-q.ensures)
+    digits-ready _ _ _ _ _ _ _ _ _ _ _ _ _ _ _ (any-row _ _ _ _ _ _ _ _ _ _ _ _ _ _ _ c.requires.ports) _ (second-low _ _ _ _ _ _ _ _ _ _ _ _ _ _ _ c.requires _ _ refl refl)
 
 pub pair_after-cell_after-second-requires : goal.pair_after-cell_after-second-requires
 pair_after-cell_after-second-requires t c =
-    (omega (arith, c.decreases), port-ready _ _ _ _ _ _ _ _ _ _ _ _ _ _ _ (any-row _ _ _ _ _ _ _ _ _ _ _ _ _ _ _ c.requires.ports) _ _ _ (second-low _ _ _ _ _ _ _ _ _ _ _ _ _ _ _ c.requires _ _ c.lower_port-p.ensures c.higher_port-q.ensures) c.with_port-2.ensures c.port_word-2.ensures)
+    (omega (arith, c.decreases), port-ready _ _ _ _ _ _ _ _ _ _ _ _ _ _ _ (any-row _ _ _ _ _ _ _ _ _ _ _ _ _ _ _ c.requires.ports) _ _ _ (second-low _ _ _ _ _ _ _ _ _ _ _ _ _ _ _ c.requires _ _ refl refl) c.with_port-2.ensures c.port_word-2.ensures)
 
 pub pair_after-returns : goal.pair_after-returns
 pair_after-returns t c =
-    pair-last _ _ _ _ _ _ _ _ _ _ _ _ _ _ _ c.requires _ _ c.lower_port-p.ensures c.higher_port-q.ensures _ c.if-q-p.false (pair-next _ _ _ _ _ _ _ _ _ _ _ _ _ _ _ _ _ _ _ (pair-second _ _ _ _ _ _ _ _ _ _ _ _ _ _ _ c.requires _ _ c.lower_port-p.ensures c.higher_port-q.ensures _ c.if-q-p.false (pair-next _ _ _ _ _ _ _ _ _ _ _ _ _ _ _ _ _ _ _ (pair-first _ _ _ _ _ _ _ _ _ _ _ _ _ _ _ c.requires _ _ c.lower_port-p.ensures c.higher_port-q.ensures) (port-gives _ _ _ _ _ _ _ _ _ _ _ _ _ _ _ _ _ _ (first-low _ _ _ _ _ _ _ _ _ _ _ _ _ _ _ c.requires _ _ c.lower_port-p.ensures c.higher_port-q.ensures) c.with_port.ensures c.port_word.ensures c.cell_after-first.ensures) c.join-sum.ensures)) (port-gives _ _ _ _ _ _ _ _ _ _ _ _ _ _ _ _ _ _ (second-low _ _ _ _ _ _ _ _ _ _ _ _ _ _ _ c.requires _ _ c.lower_port-p.ensures c.higher_port-q.ensures) c.with_port-2.ensures c.port_word-2.ensures c.cell_after-second.ensures) c.join.ensures)
+    pair-last _ _ _ _ _ _ _ _ _ _ _ _ _ _ _ c.requires _ _ refl refl _ c.if-q-p.false (pair-next _ _ _ _ _ _ _ _ _ _ _ _ _ _ _ _ _ _ _ (pair-second _ _ _ _ _ _ _ _ _ _ _ _ _ _ _ c.requires _ _ refl refl _ c.if-q-p.false (pair-next _ _ _ _ _ _ _ _ _ _ _ _ _ _ _ _ _ _ _ (pair-first _ _ _ _ _ _ _ _ _ _ _ _ _ _ _ c.requires _ _ refl refl) (port-gives _ _ _ _ _ _ _ _ _ _ _ _ _ _ _ _ _ _ (first-low _ _ _ _ _ _ _ _ _ _ _ _ _ _ _ c.requires _ _ refl refl) c.with_port.ensures c.port_word.ensures c.cell_after-first.ensures) c.join-sum.ensures)) (port-gives _ _ _ _ _ _ _ _ _ _ _ _ _ _ _ _ _ _ (second-low _ _ _ _ _ _ _ _ _ _ _ _ _ _ _ c.requires _ _ refl refl) c.with_port-2.ensures c.port_word-2.ensures c.cell_after-second.ensures) c.join.ensures)
 
 pub ports_after-adds_at-requires : goal.ports_after-adds_at-requires
 ports_after-adds_at-requires t c =

@@ -24,7 +24,7 @@ row_ports-more-requires c =
 
 pub loop-number-preserved : goal.loop-number-preserved
 loop-number-preserved c =
-    (omega arith, omega (arith, c.loop-number.invariant.1, c.row_ports-more.auto.out), rows_next _ _ _ _ _ _ _ _ _ _ _ _ _ _ (omega (arith, c.outer_count-count.ensures)) c.outer_digits-digits.ensures _ _ _ _ _ _ c.loop-number.invariant.2 c.row_ports-more.ensures c.wrapping_add_u32-sum.ensures.value)
+    (omega arith, omega (arith, c.loop-number.invariant.1, c.row_ports-more.auto.out), rows_next _ _ _ _ _ _ _ _ _ _ _ _ _ _ (omega (arith, c.outer_count-count.ensures)) c.outer_digits-digits.ensures _ _ _ _ _ _ c.loop-number.invariant.2 c.row_ports-more.ensures refl)
 
 pub shape_of-out : goal.shape_of-out
 shape_of-out c =

@@ -128,15 +128,15 @@ pair_written-overflow_add-depth t c =
 
 pub pair_written-overflow_add-row : goal.pair_written-overflow_add-row
 pair_written-overflow_add-row t c =
-    record { fits = row-fits-64 _ _ _ _ _ _ _ _ _ _ _ _ _ _ _ (any-row _ _ _ _ _ _ _ _ _ _ _ _ _ _ _ c.requires.ports) _ (first-low _ _ _ _ _ _ _ _ _ _ _ _ _ _ _ c.requires _ _ c.lower_port-p.ensures c.higher_port-q.ensures) }
+    record { fits = row-fits-64 _ _ _ _ _ _ _ _ _ _ _ _ _ _ _ (any-row _ _ _ _ _ _ _ _ _ _ _ _ _ _ _ c.requires.ports) _ (first-low _ _ _ _ _ _ _ _ _ _ _ _ _ _ _ c.requires _ _ refl refl) }
 
 pub pair_written-with_port-requires : goal.pair_written-with_port-requires
 pair_written-with_port-requires t c =
-    digits-ready _ _ _ _ _ _ _ _ _ _ _ _ _ _ _ (any-row _ _ _ _ _ _ _ _ _ _ _ _ _ _ _ c.requires.ports) _ (first-low _ _ _ _ _ _ _ _ _ _ _ _ _ _ _ c.requires _ _ c.lower_port-p.ensures c.higher_port-q.ensures)
+    digits-ready _ _ _ _ _ _ _ _ _ _ _ _ _ _ _ (any-row _ _ _ _ _ _ _ _ _ _ _ _ _ _ _ c.requires.ports) _ (first-low _ _ _ _ _ _ _ _ _ _ _ _ _ _ _ c.requires _ _ refl refl)
 
 pub pair_written-cell_written-first-requires : goal.pair_written-cell_written-first-requires
 pair_written-cell_written-first-requires t c =
-    (omega (arith, c.decreases), port-ready _ _ _ _ _ _ _ _ _ _ _ _ _ _ _ (any-row _ _ _ _ _ _ _ _ _ _ _ _ _ _ _ c.requires.ports) _ _ _ (first-low _ _ _ _ _ _ _ _ _ _ _ _ _ _ _ c.requires _ _ c.lower_port-p.ensures c.higher_port-q.ensures) c.with_port.ensures c.port_word.ensures)
+    (omega (arith, c.decreases), port-ready _ _ _ _ _ _ _ _ _ _ _ _ _ _ _ (any-row _ _ _ _ _ _ _ _ _ _ _ _ _ _ _ c.requires.ports) _ _ _ (first-low _ _ _ _ _ _ _ _ _ _ _ _ _ _ _ c.requires _ _ refl refl) c.with_port.ensures c.port_word.ensures)
 
 pub pair_written-shape_of-cells-then-q-p : goal.pair_written-shape_of-cells-then-q-p
 pair_written-shape_of-cells-then-q-p t c =
@@ -144,7 +144,7 @@ pair_written-shape_of-cells-then-q-p t c =
 
 pub pair_written-returns-then-q-p : goal.pair_written-returns-then-q-p
 pair_written-returns-then-q-p t c =
-    (pair-only _ _ _ _ _ _ _ _ _ _ _ _ _ _ _ c.requires _ _ c.lower_port-p.ensures c.higher_port-q.ensures _ c.if-q-p.true (pair-next _ _ _ _ _ _ _ _ _ _ _ _ _ _ _ _ _ _ _ (pair-first _ _ _ _ _ _ _ _ _ _ _ _ _ _ _ c.requires _ _ c.lower_port-p.ensures c.higher_port-q.ensures) (port-gives _ _ _ _ _ _ _ _ _ _ _ _ _ _ _ _ _ _ (first-low _ _ _ _ _ _ _ _ _ _ _ _ _ _ _ c.requires _ _ c.lower_port-p.ensures c.higher_port-q.ensures) c.with_port.ensures c.port_word.ensures c.cell_written-first.ensures.0) c.join-sum.ensures), pair-wrote-one _ _ _ _ _ _ _ _ _ _ _ _ _ _ _ c.requires _ _ c.lower_port-p.ensures c.higher_port-q.ensures _ _ c.with_port.ensures c.port_word.ensures _ c.cell_written-first.ensures.1 c.if-q-p.true)
+    (pair-only _ _ _ _ _ _ _ _ _ _ _ _ _ _ _ c.requires _ _ refl refl _ c.if-q-p.true (pair-next _ _ _ _ _ _ _ _ _ _ _ _ _ _ _ _ _ _ _ (pair-first _ _ _ _ _ _ _ _ _ _ _ _ _ _ _ c.requires _ _ refl refl) (port-gives _ _ _ _ _ _ _ _ _ _ _ _ _ _ _ _ _ _ (first-low _ _ _ _ _ _ _ _ _ _ _ _ _ _ _ c.requires _ _ refl refl) c.with_port.ensures c.port_word.ensures c.cell_written-first.ensures.0) c.join-sum.ensures), pair-wrote-one _ _ _ _ _ _ _ _ _ _ _ _ _ _ _ c.requires _ _ refl refl _ _ c.with_port.ensures c.port_word.ensures _ c.cell_written-first.ensures.1 c.if-q-p.true)
 
 pub pair_written-overflow_add-depth-2 : goal.pair_written-overflow_add-depth-2
 pair_written-overflow_add-depth-2 t c =
@@ -152,15 +152,15 @@ pair_written-overflow_add-depth-2 t c =
 
 pub pair_written-overflow_add-row-2 : goal.pair_written-overflow_add-row-2
 pair_written-overflow_add-row-2 t c =
-    record { fits = row-fits-64 _ _ _ _ _ _ _ _ _ _ _ _ _ _ _ (any-row _ _ _ _ _ _ _ _ _ _ _ _ _ _ _ c.requires.ports) _ (second-low _ _ _ _ _ _ _ _ _ _ _ _ _ _ _ c.requires _ _ c.lower_port-p.ensures c.higher_port-q.ensures) }
+    record { fits = row-fits-64 _ _ _ _ _ _ _ _ _ _ _ _ _ _ _ (any-row _ _ _ _ _ _ _ _ _ _ _ _ _ _ _ c.requires.ports) _ (second-low _ _ _ _ _ _ _ _ _ _ _ _ _ _ _ c.requires _ _ refl refl) }
 
 pub pair_written-with_port-requires-2 : goal.pair_written-with_port-requires-2
 pair_written-with_port-requires-2 t c =
-    digits-ready _ _ _ _ _ _ _ _ _ _ _ _ _ _ _ (any-row _ _ _ _ _ _ _ _ _ _ _ _ _ _ _ c.requires.ports) _ (second-low _ _ _ _ _ _ _ _ _ _ _ _ _ _ _ c.requires _ _ c.lower_port-p.ensures c.higher_port-q.ensures)
+    digits-ready _ _ _ _ _ _ _ _ _ _ _ _ _ _ _ (any-row _ _ _ _ _ _ _ _ _ _ _ _ _ _ _ c.requires.ports) _ (second-low _ _ _ _ _ _ _ _ _ _ _ _ _ _ _ c.requires _ _ refl refl)
 
 pub pair_written-cell_written-second-requires : goal.pair_written-cell_written-second-requires
 pair_written-cell_written-second-requires t c =
-    (omega (arith, c.decreases), cell-kept _ _ _ _ _ _ _ _ _ _ (all_fit _ (λ j. (c.slice_known-2-1.given j).fits)) c.cell_written-first.auto.cells _ _ _ _ _ (port-ready _ _ _ _ _ _ _ _ _ _ _ _ _ _ _ (any-row _ _ _ _ _ _ _ _ _ _ _ _ _ _ _ c.requires.ports) _ _ _ (second-low _ _ _ _ _ _ _ _ _ _ _ _ _ _ _ c.requires _ _ c.lower_port-p.ensures c.higher_port-q.ensures) c.with_port-2.ensures c.port_word-2.ensures))
+    (omega (arith, c.decreases), cell-kept _ _ _ _ _ _ _ _ _ _ (all_fit _ (λ j. (c.slice_known-2-1.given j).fits)) c.cell_written-first.auto.cells _ _ _ _ _ (port-ready _ _ _ _ _ _ _ _ _ _ _ _ _ _ _ (any-row _ _ _ _ _ _ _ _ _ _ _ _ _ _ _ c.requires.ports) _ _ _ (second-low _ _ _ _ _ _ _ _ _ _ _ _ _ _ _ c.requires _ _ refl refl) c.with_port-2.ensures c.port_word-2.ensures))
 
 pub pair_written-shape_of-cells : goal.pair_written-shape_of-cells
 pair_written-shape_of-cells t c =
@@ -168,7 +168,7 @@ pair_written-shape_of-cells t c =
 
 pub pair_written-returns : goal.pair_written-returns
 pair_written-returns t c =
-    (pair-last _ _ _ _ _ _ _ _ _ _ _ _ _ _ _ c.requires _ _ c.lower_port-p.ensures c.higher_port-q.ensures _ c.if-q-p.false (pair-next _ _ _ _ _ _ _ _ _ _ _ _ _ _ _ _ _ _ _ (pair-second _ _ _ _ _ _ _ _ _ _ _ _ _ _ _ c.requires _ _ c.lower_port-p.ensures c.higher_port-q.ensures _ c.if-q-p.false (pair-next _ _ _ _ _ _ _ _ _ _ _ _ _ _ _ _ _ _ _ (pair-first _ _ _ _ _ _ _ _ _ _ _ _ _ _ _ c.requires _ _ c.lower_port-p.ensures c.higher_port-q.ensures) (port-gives _ _ _ _ _ _ _ _ _ _ _ _ _ _ _ _ _ _ (first-low _ _ _ _ _ _ _ _ _ _ _ _ _ _ _ c.requires _ _ c.lower_port-p.ensures c.higher_port-q.ensures) c.with_port.ensures c.port_word.ensures c.cell_written-first.ensures.0) c.join-sum.ensures)) (port-gives-later _ _ _ _ _ _ _ _ _ _ _ _ _ _ _ _ _ (second-low _ _ _ _ _ _ _ _ _ _ _ _ _ _ _ c.requires _ _ c.lower_port-p.ensures c.higher_port-q.ensures) c.with_port-2.ensures c.port_word-2.ensures _ (all_fit _ (λ j. (c.slice_known-2-1.given j).fits)) c.cell_written-first.auto.cells (second-next _ _ _ _ _ _ _ _ _ _ _ _ _ _ _ c.requires _ _ c.lower_port-p.ensures c.higher_port-q.ensures _ _ c.with_port.ensures c.port_word.ensures _ c.cell_written-first.ensures.1 c.if-q-p.false) _ c.cell_written-second.ensures.0) c.join.ensures), pair-wrote-two _ _ _ _ _ _ _ _ _ _ _ _ _ _ _ c.requires _ _ c.lower_port-p.ensures c.higher_port-q.ensures _ _ c.with_port.ensures c.port_word.ensures _ c.cell_written-first.ensures.1 c.if-q-p.false _ _ c.with_port-2.ensures c.port_word-2.ensures (all_fit _ (λ j. (c.slice_known-2-1.given j).fits)) c.cell_written-first.auto.cells _ c.cell_written-second.ensures.1)
+    (pair-last _ _ _ _ _ _ _ _ _ _ _ _ _ _ _ c.requires _ _ refl refl _ c.if-q-p.false (pair-next _ _ _ _ _ _ _ _ _ _ _ _ _ _ _ _ _ _ _ (pair-second _ _ _ _ _ _ _ _ _ _ _ _ _ _ _ c.requires _ _ refl refl _ c.if-q-p.false (pair-next _ _ _ _ _ _ _ _ _ _ _ _ _ _ _ _ _ _ _ (pair-first _ _ _ _ _ _ _ _ _ _ _ _ _ _ _ c.requires _ _ refl refl) (port-gives _ _ _ _ _ _ _ _ _ _ _ _ _ _ _ _ _ _ (first-low _ _ _ _ _ _ _ _ _ _ _ _ _ _ _ c.requires _ _ refl refl) c.with_port.ensures c.port_word.ensures c.cell_written-first.ensures.0) c.join-sum.ensures)) (port-gives-later _ _ _ _ _ _ _ _ _ _ _ _ _ _ _ _ _ (second-low _ _ _ _ _ _ _ _ _ _ _ _ _ _ _ c.requires _ _ refl refl) c.with_port-2.ensures c.port_word-2.ensures _ (all_fit _ (λ j. (c.slice_known-2-1.given j).fits)) c.cell_written-first.auto.cells (second-next _ _ _ _ _ _ _ _ _ _ _ _ _ _ _ c.requires _ _ refl refl _ _ c.with_port.ensures c.port_word.ensures _ c.cell_written-first.ensures.1 c.if-q-p.false) _ c.cell_written-second.ensures.0) c.join.ensures), pair-wrote-two _ _ _ _ _ _ _ _ _ _ _ _ _ _ _ c.requires _ _ refl refl _ _ c.with_port.ensures c.port_word.ensures _ c.cell_written-first.ensures.1 c.if-q-p.false _ _ c.with_port-2.ensures c.port_word-2.ensures (all_fit _ (λ j. (c.slice_known-2-1.given j).fits)) c.cell_written-first.auto.cells _ c.cell_written-second.ensures.1)
 
 pub ports_written-adds_at-requires : goal.ports_written-adds_at-requires
 ports_written-adds_at-requires t c =

@@ -1,7 +1,6 @@
 use Rattle.std.proofs.Common.{◌+◌, ◌-◌, ◌*◌}
 use Rattle.cells_visit.proofs.Rowing.{RowPassed}
 use Rattle.cells_visit.proofs.Writes.{RowCarried, Ahead, RowsAhead}
-use Rattle.cells_touch.specs.inner.Hits.{change_in}
 use Rattle.cells_write.proofs.+walk.Given as goal
 
 abbrev pub decreases-all_ports_written : goal.decreases-all_ports_written
@@ -35,19 +34,19 @@ abbrev pub decreases-trees_written : goal.decreases-trees_written
 decreases-trees_written l = 8 * (512 - l.i) + 4
 
 abbrev pub invariant-row_cells_written-loop-x : goal.invariant-row_cells_written-loop-x
-invariant-row_cells_written-loop-x l = RowPassed l.ports l.sets (change_in l.c) l.table l.firsts l.ends l.uses l.masks l.initial.cells l.i l.depth l.row l.digits l.word l.every l.initial.out l.x l.out l.changed × RowCarried l.ports l.sets (change_in l.c) l.table l.firsts l.ends l.uses l.masks l.initial.cells l.i l.depth l.row l.digits l.word l.every l.x l.cells
+invariant-row_cells_written-loop-x l = RowPassed l.plan.ports l.plan.sets l.change l.plan.table.now l.plan.index.now.firsts l.plan.index.now.ends l.plan.index.now.uses l.masks l.initial.cells l.i l.depth l.row l.digits l.word l.every l.initial.out l.x l.out l.changed × RowCarried l.plan.ports l.plan.sets l.change l.plan.table.now l.plan.index.now.firsts l.plan.index.now.ends l.plan.index.now.uses l.masks l.initial.cells l.i l.depth l.row l.digits l.word l.every l.x l.cells
 
 abbrev pub decreases-row_cells_written-loop-x : goal.decreases-row_cells_written-loop-x
-decreases-row_cells_written-loop-x l = l.ports - l.x
+decreases-row_cells_written-loop-x l = l.plan.ports - l.x
 
 abbrev pub invariant-row_trees_written-loop-j : goal.invariant-row_trees_written-loop-j
-invariant-row_trees_written-loop-j l = RowsAhead l.ports l.sets (change_in l.c) l.table l.firsts l.ends l.uses l.masks l.initial.cells l.initial.j l.until l.depth l.row l.digits l.word l.add l.initial.out l.j l.out l.changed l.cells
+invariant-row_trees_written-loop-j l = RowsAhead l.plan.ports l.plan.sets l.change l.plan.table.now l.plan.index.now.firsts l.plan.index.now.ends l.plan.index.now.uses l.masks l.initial.cells l.initial.j l.until l.depth l.row l.digits l.word l.add l.initial.out l.j l.out l.changed l.cells
 
 abbrev pub decreases-row_trees_written-loop-j : goal.decreases-row_trees_written-loop-j
 decreases-row_trees_written-loop-j l = l.until - l.j
 
 abbrev pub invariant-trees_written-loop-j : goal.invariant-trees_written-loop-j
-invariant-trees_written-loop-j l = Ahead l.ports l.sets (change_in l.c) l.table l.firsts l.ends l.uses l.masks l.initial.cells l.initial.j l.until l.depth l.place l.digits l.word l.add l.initial.sum l.j l.sum l.cells
+invariant-trees_written-loop-j l = Ahead l.plan.ports l.plan.sets l.change l.plan.table.now l.plan.index.now.firsts l.plan.index.now.ends l.plan.index.now.uses l.masks l.initial.cells l.initial.j l.until l.depth l.place l.digits l.word l.add l.initial.sum l.j l.sum l.cells
 
 abbrev pub decreases-trees_written-loop-j : goal.decreases-trees_written-loop-j
 decreases-trees_written-loop-j l = l.until - l.j

@@ -1,10 +1,6 @@
 use Prim.Native.Nat.{◌-◌}
 use native.Mathlib.Omega.{arith}
 use Rattle.cells_zero.proofs.Telling.{tree-in, onward-first, onward-next, onward-found, found_none}
-use Rattle.cells_zero.proofs.zero_among.Reads as reads
-use Rattle.cells_zero.proofs.zero_among.Lts as lts
-use Rattle.cells_walk.proofs.end_at.Reads as end-at-reads
-use Rattle.cells_zero.proofs.zero_kept.Reads as zero-kept-reads
 use Rattle.cells_zero.proofs.zero_among.Goals as goal
 
 pub loop-j-init : goal.loop-j-init

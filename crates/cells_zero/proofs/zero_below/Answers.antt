@@ -1,9 +1,4 @@
 use Rattle.cells_zero.proofs.Telling.{node-low, record-room, children-ready, not-told, told}
-use Rattle.cells_zero.proofs.zero_below.Reads as reads
-use Rattle.cells_zero.proofs.zero_below.Lts as lts
-use Rattle.cells_walk.proofs.end_at.Reads as end-at-reads
-use Rattle.cells_walk.proofs.kind_at.Reads as kind-at-reads
-use Rattle.cells_zero.proofs.zero_among.Reads as zero-among-reads
 use Rattle.cells_zero.proofs.zero_below.Goals as goal
 
 pub kind_at-requires : goal.kind_at-requires

@@ -1,29 +1,31 @@
-use mathlib.Core.Path.{sym, ap}
+use mathlib.Core.Path.{sym, ap, ◌∙◌}
+use Prim.Native.Nat.{ℕ}
+use native.Mathlib.Omega.{arith}
 use Rattle.logic.specs.Moves.{add, drop, transfer, swap, move_kind}
 use Rattle.contracts.specs.Journal.{kind_opposite}
-use Rattle.journal_rules.proofs.Opposites.{of-kind, of_none}
+use Rattle.journal_rules.proofs.Opposites.{of_fields, of-kind, of_none}
 use Rattle.journal_rules.proofs.opposite_of.Goals as goal
 
-pub returns-then-m-eq1 : goal.returns-then-m-eq1
+pub returns-in-1 : goal.returns-in-1
 unfolding move_kind kind_opposite
-returns-then-m-eq1 c =
-    sym (of-kind _ add (ap move_kind c.if-m-eq1.true))
+returns-in-1 c =
+    sym (of-kind _ add (ap move_kind c.in-1.is))
 
-pub returns-then-m-eq2 : goal.returns-then-m-eq2
+pub returns-in-2 : goal.returns-in-2
 unfolding move_kind kind_opposite
-returns-then-m-eq2 c =
-    sym (of-kind _ drop (ap move_kind c.if-m-eq2.true))
+returns-in-2 c =
+    sym (of-kind _ drop (ap move_kind c.in-2.is))
 
-pub returns-then-m-eq3 : goal.returns-then-m-eq3
+pub returns-in-3 : goal.returns-in-3
 unfolding move_kind kind_opposite
-returns-then-m-eq3 c =
-    sym (of-kind _ transfer (ap move_kind c.if-m-eq3.true))
+returns-in-3 c =
+    let m = c.args.m in ap (λ (k : ℕ). of_fields k m.t m.s m.p m.q) c.in-3.is ∙ sym (of-kind m transfer (ap move_kind c.in-3.is))
 
-pub returns-then-m-eq4 : goal.returns-then-m-eq4
+pub returns-in-4 : goal.returns-in-4
 unfolding move_kind kind_opposite
-returns-then-m-eq4 c =
-    sym (of-kind _ swap (ap move_kind c.if-m-eq4.true))
+returns-in-4 c =
+    let m = c.args.m in ap (λ (k : ℕ). of_fields k m.s m.t m.q m.p) c.in-4.is ∙ sym (of-kind m swap (ap move_kind c.in-4.is))
 
-pub returns : goal.returns
-returns c =
-    sym (of_none _ c.if-m-eq1.false c.if-m-eq2.false c.if-m-eq3.false c.if-m-eq4.false)
+pub returns-in_default : goal.returns-in_default
+returns-in_default c =
+    sym (of_none _ (omega arith) (omega arith) (omega arith) (omega arith))

@@ -1,14 +1,13 @@
-use mathlib.Core.Path.{refl}
-use borrow.Author.Tests.{lt-ltb, le-ltb}
+use borrow.Author.Rules.{rules}
 use Rattle.journal_rules.specs.inner.Counting.{place_of}
 use Rattle.journal_rules.proofs.record_place.Goals as goal
 
 pub returns-then-before-after : goal.returns-then-before-after
 unfolding place_of
 returns-then-before-after c =
-    rw (lt-ltb _ _ c.if-before-after.true) refl
+    search rules
 
-pub returns : goal.returns
+pub returns-else-before-after : goal.returns-else-before-after
 unfolding place_of
-returns c =
-    rw (le-ltb _ _ c.if-before-after.false) refl
+returns-else-before-after c =
+    search rules

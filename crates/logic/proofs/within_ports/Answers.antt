@@ -6,5 +6,5 @@ use Rattle.logic.proofs.within_ports.Goals as goal
 pub returns-then-u-ge64 : goal.returns-then-u-ge64
 returns-then-u-ge64 c = sym (within_all c.args.u c.args.mask (omega arith) (omega arith))
 
-pub returns : goal.returns
-returns c = within-shift c.args.u c.args.mask
+pub returns-else-u-ge64 : goal.returns-else-u-ge64
+returns-else-u-ge64 c = within-shift c.args.u c.args.mask

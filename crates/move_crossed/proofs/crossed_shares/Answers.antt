@@ -1,3 +1,4 @@
+use Rattle.std.proofs.Common.{refl}
 use Rattle.std.proofs.Common.{arith}
 use Rattle.move_crossed.proofs.Listing.{set-low, size-after, onward-first, entry-low, share-asked, onward-next, onward-last}
 use Rattle.move_crossed.proofs.crossed_shares.Goals as goal
@@ -34,13 +35,9 @@ pub crossed_share-more-requires : goal.crossed_share-more-requires
 crossed_share-more-requires c =
     share-asked _ _ _ _ _ _ _ _ _ _ _ _ _ _ c.loop-j.invariant (omega (arith, c.loop-j-test.true)) _ _ c.entry_node.ensures c.entry_depth.ensures
 
-pub loop-j-smaller : goal.loop-j-smaller
-loop-j-smaller c =
-    omega (arith, c.loop-j-test.true)
-
 pub loop-j-preserved : goal.loop-j-preserved
 loop-j-preserved c =
-    onward-next _ _ _ _ _ _ _ _ _ _ _ _ _ _ c.loop-j.invariant (omega (arith, c.loop-j-test.true)) _ _ _ _ c.entry_node.ensures c.entry_depth.ensures c.crossed_share-more.ensures c.wrapping_add_u32-sum.ensures.value
+    onward-next _ _ _ _ _ _ _ _ _ _ _ _ _ _ c.loop-j.invariant (omega (arith, c.loop-j-test.true)) _ _ _ _ c.entry_node.ensures c.entry_depth.ensures c.crossed_share-more.ensures refl
 
 pub returns : goal.returns
 returns c =

@@ -6,6 +6,3 @@ use Rattle.move_fill.proofs.set_sizes.Given as goal
 
 abbrev pub invariant-loop-s : goal.invariant-loop-s
 invariant-loop-s l = (l.s ≤ l.sets) × (l.sets ≤ 16) × (l.sets < length l.masks) × (length l.sizes ≡ 16) × SizesSet l.masks l.sets l.s l.sizes
-
-abbrev pub decreases-loop-s : goal.decreases-loop-s
-decreases-loop-s l = l.sets - l.s

@@ -34,8 +34,8 @@ change_of-requires c =
 
 pub list_shares-requires : goal.list_shares-requires
 list_shares-requires c =
-    list-ready c.requires _ _ c.change_of.ensures c.numbers_of-c.ensures _ (masks-made c.requires.move-ready.legal-move _ _ (copied c.requires _ _ c.copy_masks.ensures c.own_masks.ensures) c.masks_after.ensures)
+    list-ready c.requires _ c.change_of.ensures _ (masks-made c.requires.move-ready.legal-move _ _ (copied c.requires _ _ c.copy_masks.ensures c.own_masks.ensures) c.masks_after.ensures)
 
 pub returns : goal.returns
 returns c =
-    shares-given c.requires _ _ c.change_of.ensures c.numbers_of-c.ensures _ (masks-made c.requires.move-ready.legal-move _ _ (copied c.requires _ _ c.copy_masks.ensures c.own_masks.ensures) c.masks_after.ensures) _ c.list_shares.ensures
+    shares-given c.requires _ c.change_of.ensures _ (masks-made c.requires.move-ready.legal-move _ _ (copied c.requires _ _ c.copy_masks.ensures c.own_masks.ensures) c.masks_after.ensures) _ c.list_shares.ensures

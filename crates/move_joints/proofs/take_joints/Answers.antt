@@ -14,17 +14,13 @@ pub loop-pair-init : goal.loop-pair-init
 loop-pair-init c =
     none-taken _ _ _ _ _ _ _ _ _ _ _ _ _ _ c.requires.joint-long
 
-pub overflow_mul-sets : goal.overflow_mul-sets
-overflow_mul-sets c =
+pub overflow_mul-pair-end : goal.overflow_mul-pair-end
+overflow_mul-pair-end c =
     omega (arith, c.requires.given.sets-are, c.requires.given.ready.settled.sets16)
 
 pub take_pair-requires : goal.take_pair-requires
 take_pair-requires c =
     (omega (arith, c.loop-pair-test.true), ready_on _ _ _ _ _ _ _ _ _ _ _ _ _ _ _ c.requires c.loop-pair.invariant.long)
-
-pub overflow_add-pair : goal.overflow_add-pair
-overflow_add-pair c =
-    omega (arith, c.loop-pair-test.true, c.requires.given.sets-are, c.requires.given.ready.settled.sets16)
 
 pub loop-pair-preserved : goal.loop-pair-preserved
 loop-pair-preserved c =

@@ -3,7 +3,4 @@ use Rattle.move_joints.specs.inner.Joints.{PairsBelow}
 use Rattle.move_joints.proofs.take_joints.Given as goal
 
 abbrev pub invariant-loop-pair : goal.invariant-loop-pair
-invariant-loop-pair l = PairsBelow l.ports l.sets l.table l.firsts l.ends l.uses l.masks l.sizes l.cells l.i l.depth l.pair l.mine l.own l.initial.joint l.joint
-
-abbrev pub decreases-loop-pair : goal.decreases-loop-pair
-decreases-loop-pair l = 16 * l.sets - l.pair
+invariant-loop-pair l = PairsBelow l.plan.ports l.plan.sets l.plan.table.now l.plan.index.now.firsts l.plan.index.now.ends l.plan.index.now.uses l.masks l.sizes l.cells l.i l.depth l.pair l.mine l.own l.initial.joint l.joint

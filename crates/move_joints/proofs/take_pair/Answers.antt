@@ -4,9 +4,9 @@ use Rattle.logic.specs.Formula.{node_count}
 use Rattle.move_joints.proofs.Taken.{pair_of, pair-outside, pair_same, pair-unused, pair-untested, pair-tested}
 use Rattle.move_joints.proofs.take_pair.Goals as goal
 
-pub returns-then-sets-t : goal.returns-then-sets-t
-returns-then-sets-t c =
-    pair-outside _ _ _ _ _ _ _ _ _ _ _ _ _ _ _ c.if-sets-t.true
+pub returns-then-plan-t : goal.returns-then-plan-t
+returns-then-plan-t c =
+    pair-outside _ _ _ _ _ _ _ _ _ _ _ _ _ _ _ c.if-plan-t.true
 
 pub returns-then-s-t : goal.returns-then-s-t
 returns-then-s-t c =
@@ -23,7 +23,7 @@ returns-then-not-uses_both c =
 
 pub add_pair-requires : goal.add_pair-requires
 add_pair-requires c =
-    (pair_of _ _ _ _ _ _ _ _ _ _ _ _ _ _ _ c.requires.1 c.requires.0 c.if-sets-t.false c.if-s-t.false, record { mine-long = c.requires.1.mine-long; own-long = c.requires.1.own-long; joint-long = c.requires.1.joint-long })
+    (pair_of _ _ _ _ _ _ _ _ _ _ _ _ _ _ _ c.requires.1 c.requires.0 c.if-plan-t.false c.if-s-t.false, record { mine-long = c.requires.1.mine-long; own-long = c.requires.1.own-long; joint-long = c.requires.1.joint-long })
 
 pub returns-then-test-eq0 : goal.returns-then-test-eq0
 returns-then-test-eq0 c =
@@ -31,7 +31,7 @@ returns-then-test-eq0 c =
 
 pub add_pair-requires-2 : goal.add_pair-requires-2
 add_pair-requires-2 c =
-    (pair_of _ _ _ _ _ _ _ _ _ _ _ _ _ _ _ c.requires.1 c.requires.0 c.if-sets-t.false c.if-s-t.false, record { mine-long = c.requires.1.mine-long; own-long = c.requires.1.own-long; joint-long = omega (arith, c.requires.1.joint-long) })
+    (pair_of _ _ _ _ _ _ _ _ _ _ _ _ _ _ _ c.requires.1 c.requires.0 c.if-plan-t.false c.if-s-t.false, record { mine-long = c.requires.1.mine-long; own-long = c.requires.1.own-long; joint-long = omega (arith, c.requires.1.joint-long) })
 
 pub returns : goal.returns
 returns c =

@@ -7,7 +7,7 @@ unfolding q_end
 returns-then-kind-eq4 c =
     rw (eq-eqb _ _ c.if-kind-eq4.true)
 
-pub returns : goal.returns
+pub returns-else-kind-eq4 : goal.returns-else-kind-eq4
 unfolding q_end
-returns c =
+returns-else-kind-eq4 c =
     rw (ne_eqb _ _ c.if-kind-eq4.false)

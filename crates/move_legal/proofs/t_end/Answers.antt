@@ -7,7 +7,7 @@ unfolding t_end
 returns-then-kind-eq3 c =
     rw (eq-eqb _ _ c.if-kind-eq3.true)
 
-pub returns : goal.returns
+pub returns-else-kind-eq3 : goal.returns-else-kind-eq3
 unfolding t_end
-returns c =
+returns-else-kind-eq3 c =
     rw (ne_eqb _ _ c.if-kind-eq3.false)

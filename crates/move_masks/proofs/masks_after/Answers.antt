@@ -12,22 +12,22 @@ pub flip_at-requires : goal.flip_at-requires
 flip_at-requires c =
     omega (arith, c.requires)
 
-pub flip_at-requires-then-m-eq3 : goal.flip_at-requires-then-m-eq3
-flip_at-requires-then-m-eq3 c =
-    omega (arith, c.requires, c.flip_at.auto, t-used c.args.ports c.args.sets c.args.m c.requires.known_over.fields c.if-m-eq3.true)
+pub flip_at-requires-in-3 : goal.flip_at-requires-in-3
+flip_at-requires-in-3 c =
+    omega (arith, c.requires, c.flip_at.auto, t-used c.args.ports c.args.sets c.args.m c.requires.known_over.fields c.in-3.is)
 
-pub returns-then-m-eq3 : goal.returns-then-m-eq3
-returns-then-m-eq3 c =
-    c.flip_at-then-m-eq3.ensures ∙ (ap (λ (l : List ℕ). set l c.args.m.t (flip_port (get_or l c.args.m.t 0) c.args.m.p)) c.flip_at.ensures ∙ after-transfer c.args.ports c.args.sets c.args.m c.args.masks.now c.requires c.if-m-eq3.true)
+pub returns-in-3 : goal.returns-in-3
+returns-in-3 c =
+    c.flip_at-in-3.ensures ∙ (ap (λ (l : List ℕ). set l c.args.m.t (flip_port (get_or l c.args.m.t 0) c.args.m.p)) c.flip_at.ensures ∙ after-transfer c.args.ports c.args.sets c.args.m c.args.masks.now c.requires c.in-3.is)
 
-pub flip_at-requires-then-m-eq4 : goal.flip_at-requires-then-m-eq4
-flip_at-requires-then-m-eq4 c =
-    omega (arith, c.requires, c.flip_at.auto, q-used c.args.ports c.args.sets c.args.m c.requires.known_over.fields c.if-m-eq4.true)
+pub flip_at-requires-in-4 : goal.flip_at-requires-in-4
+flip_at-requires-in-4 c =
+    omega (arith, c.requires, c.flip_at.auto, q-used c.args.ports c.args.sets c.args.m c.requires.known_over.fields c.in-4.is)
 
-pub returns-then-m-eq4 : goal.returns-then-m-eq4
-returns-then-m-eq4 c =
-    c.flip_at-then-m-eq4.ensures ∙ (ap (λ (l : List ℕ). set l c.args.m.s (flip_port (get_or l c.args.m.s 0) c.args.m.q)) c.flip_at.ensures ∙ after-swap c.args.ports c.args.sets c.args.m c.args.masks.now c.requires c.if-m-eq4.true)
+pub returns-in-4 : goal.returns-in-4
+returns-in-4 c =
+    c.flip_at-in-4.ensures ∙ (ap (λ (l : List ℕ). set l c.args.m.s (flip_port (get_or l c.args.m.s 0) c.args.m.q)) c.flip_at.ensures ∙ after-swap c.args.ports c.args.sets c.args.m c.args.masks.now c.requires c.in-4.is)
 
-pub returns-else-m-eq4 : goal.returns-else-m-eq4
-returns-else-m-eq4 c =
-    c.flip_at.ensures ∙ after_one c.args.ports c.args.sets c.args.m c.args.masks.now c.requires c.if-m-eq3.false c.if-m-eq4.false
+pub returns-in_default : goal.returns-in_default
+returns-in_default c =
+    c.flip_at.ensures ∙ after_one c.args.ports c.args.sets c.args.m c.args.masks.now c.requires (λ e. omega arith) (λ e. omega arith)

@@ -9,7 +9,7 @@ unfolding StepsAny
 returns-then-of_kinds c =
     c.next_place.ensures c.args.kinds
 
-pub returns : goal.returns
+pub returns-else-of_kinds : goal.returns-else-of_kinds
 unfolding of_kinds
-returns c =
+returns-else-of_kinds c =
     rw c.at_fields.ensures (skip-kind c.args.ports c.args.sets c.args.kinds c.args.masks.now c.args.m c.requires.begins (sym c.of_kinds.ensures ∙ c.if-of_kinds.false))

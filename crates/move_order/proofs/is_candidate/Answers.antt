@@ -1,28 +1,34 @@
-use mathlib.Core.Path.{sym, ◌∙◌}
-use mathlib.Core.Bool.{true≢false}
-use borrow.Author.Tests.{not-true, not-false}
+use mathlib.Core.Path.{sym, ◌∙◌, subst}
+use mathlib.Core.Bool.{Bool, true≢false}
 use Rattle.logic.specs.Moves.{of_kinds}
 use Rattle.logic.specs.inner.MoveFields.{Fields}
 use Rattle.move_legal.specs.inner.Legal.{Decides}
+use Rattle.move_order.specs.inner.Stepping.{Suits}
 use Rattle.move_order.proofs.Known.{says-suits}
 use Rattle.move_legal.proofs.Known.{says-yes, says-no}
+use Rattle.move_order.proofs.is_candidate.Goals.{then-of_kinds, else-of_kinds}
 use Rattle.move_order.proofs.is_candidate.Goals as goal
-
-pub returns-then-not-of_kinds : goal.returns-then-not-of_kinds
-unfolding Decides of_kinds
-returns-then-not-of_kinds c =
-    λ S. true≢false (sym S.of-kinds ∙ (sym c.of_kinds.ensures ∙ not-true _ c.if-not-of_kinds.true-raw))
-
-pub returns-then-not-has_fields : goal.returns-then-not-has_fields
-unfolding Decides
-returns-then-not-has_fields c =
-    λ S. says-no c.has_fields.result (Fields c.args.ports c.args.sets c.args.m) c.has_fields.ensures (not-true _ c.if-not-has_fields.true-raw) S.fields
 
 pub fits_move-requires : goal.fits_move-requires
 fits_move-requires c =
-    record { fields = says-yes c.has_fields.result (Fields c.args.ports c.args.sets c.args.m) c.has_fields.ensures (not-false _ c.if-not-has_fields.false-raw); ports-high = c.requires.begins.position.sized.ports-high; masks-enough = c.requires.masks-enough }
+    elim c.if-of_kinds.branch [
+      | then-of_kinds w ↦ record { fields = says-yes w.has_fields.result (Fields c.args.ports c.args.sets c.args.m) w.has_fields.ensures (sym w.value-is ∙ c.if-has_fields.true); ports-high = c.requires.begins.position.sized.ports-high; masks-enough = c.requires.masks-enough }
+      | else-of_kinds w ↦ absurd (true≢false (sym c.if-has_fields.true ∙ w.value-is ∙ w.if-of_kinds.false))
+    ]
 
-pub returns : goal.returns
+pub returns-then-has_fields : goal.returns-then-has_fields
 unfolding of_kinds
-returns c =
-    says-suits c.args.ports c.args.sets c.args.kinds c.args.masks.now c.args.m _ (sym c.of_kinds.ensures ∙ not-false _ c.if-not-of_kinds.false-raw) (says-yes c.has_fields.result (Fields c.args.ports c.args.sets c.args.m) c.has_fields.ensures (not-false _ c.if-not-has_fields.false-raw)) c.fits_move.ensures
+returns-then-has_fields c =
+    elim c.if-of_kinds.branch [
+      | then-of_kinds w ↦ says-suits c.args.ports c.args.sets c.args.kinds c.args.masks.now c.args.m _ (sym c.of_kinds.ensures ∙ w.if-of_kinds.true) (says-yes w.has_fields.result (Fields c.args.ports c.args.sets c.args.m) w.has_fields.ensures (sym w.value-is ∙ c.if-has_fields.true)) c.fits_move.ensures
+      | else-of_kinds w ↦ absurd (true≢false (sym c.if-has_fields.true ∙ w.value-is ∙ w.if-of_kinds.false))
+    ]
+
+pub returns-else-has_fields : goal.returns-else-has_fields
+unfolding Decides of_kinds
+returns-else-has_fields c =
+    subst (λ (r : Bool). Decides r (Suits c.args.ports c.args.sets c.args.kinds c.args.masks.now c.args.m)) (sym c.if-has_fields.false) (λ S.
+    elim c.if-of_kinds.branch [
+      | then-of_kinds w ↦ says-no w.has_fields.result (Fields c.args.ports c.args.sets c.args.m) w.has_fields.ensures (sym w.value-is ∙ c.if-has_fields.false) S.fields
+      | else-of_kinds w ↦ true≢false (sym S.of-kinds ∙ sym c.of_kinds.ensures ∙ w.if-of_kinds.false)
+    ])

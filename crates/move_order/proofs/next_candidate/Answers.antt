@@ -1,4 +1,3 @@
-use Prim.Native.Nat.{◌-◌}
 use native.Mathlib.Omega.{arith}
 use Rattle.move_order.specs.inner.Stepping.{Suits}
 use Rattle.move_legal.proofs.Known.{says-yes, says-no}

@@ -27,7 +27,7 @@ unfolding StepsAny
 returns-then-m-sets c =
     λ kinds. rw c.at_fields-then-m-sets.ensures (step-s c.args.ports c.args.sets kinds c.args.masks.now c.args.m c.requires.begins (omega (arith, c.if-m-q_end_at.false, c.q_end_at.ensures)) (omega (arith, c.if-m-ports.false)) (omega (arith, c.if-m-t_end.false, c.t_end.ensures)) (omega (arith, c.if-m-sets.true)))
 
-pub returns : goal.returns
+pub returns-else-m-sets : goal.returns-else-m-sets
 unfolding StepsAny
-returns c =
-    λ kinds. rw c.at_fields-2.ensures (step-kind c.args.ports c.args.sets kinds c.args.masks.now c.args.m c.requires.begins (omega (arith, c.if-m-q_end_at.false, c.q_end_at.ensures)) (omega (arith, c.if-m-ports.false)) (omega (arith, c.if-m-t_end.false, c.t_end.ensures)) (omega (arith, c.if-m-sets.false)))
+returns-else-m-sets c =
+    λ kinds. rw c.at_fields-else-m-sets.ensures (step-kind c.args.ports c.args.sets kinds c.args.masks.now c.args.m c.requires.begins (omega (arith, c.if-m-q_end_at.false, c.q_end_at.ensures)) (omega (arith, c.if-m-ports.false)) (omega (arith, c.if-m-t_end.false, c.t_end.ensures)) (omega (arith, c.if-m-sets.false)))

@@ -1,11 +1,10 @@
 -- The order of moves as one number, and what a step to the next candidate gives.
-use Rattle.std.specs.Prelude.{◌≡◌, Bool, true, false, cond, not, ◌&&◌, List, [], ◌∷◌, ℕ, ◌+◌, ◌*◌, ◌≤◌, ◌<◌, eqb, length, take}
+use Rattle.std.specs.Prelude.{◌≡◌, true, cond, not, ◌&&◌, List, [], ◌∷◌, ℕ, ◌+◌, ◌*◌, ◌≤◌, ◌<◌, eqb, length, take, Option, Some, None}
 use Rattle.logic.specs.declared.Move.{Move}
 use Rattle.logic.specs.Formula.{Plan}
 use Rattle.logic.specs.Configuration.{in_masks, mask_count}
 use Rattle.logic.specs.Moves.{no_move, fits, of_kinds}
 use Rattle.contracts.specs.MoveOrder.{Candidate}
-use Rattle.move_order.specs.declared.Next.{Next}
 use Rattle.logic.specs.inner.MoveFields.{q_end, Fields, Sized}
 
 -- The same order as one number, for sets below 16 and ports below 64: proofs/Order shows that both order the plan's moves alike.
@@ -57,14 +56,14 @@ pub record Follows (P : Plan) (kinds : ℕ) (own : List ℕ) (m r : Move) : Type
 pub record NoneLater (P : Plan) (kinds : ℕ) (own : List ℕ) (m : Move) : Type 0 where
   pub all-passed : (m' : Move) → Candidate P kinds (in_masks own) m' → place m' ≤ place m
 
-unfoldable pub NextOr : Bool → Plan → ℕ → List ℕ → Move → Move → Type 0
-NextOr true P kinds own m r = Follows P kinds own m r
-NextOr false P kinds own m r = NoneLater P kinds own m
+unfoldable pub NextOr : Plan → ℕ → List ℕ → Move → Option Move → Type 0
+NextOr P kinds own m (Some r) = Follows P kinds own m r
+NextOr P kinds own m None = NoneLater P kinds own m
 
 -- What a step to the next candidate gives, of every plan with so many ports and sets.
-unfoldable pub GivesNext : ℕ → ℕ → ℕ → List ℕ → Move → Next → Type 0
+unfoldable pub GivesNext : ℕ → ℕ → ℕ → List ℕ → Move → Option Move → Type 0
 GivesNext ports sets kinds masks m r =
-    (P : Plan) → P.ports ≡ ports → P.sets ≡ sets → NextOr r.found P kinds (take (mask_count sets) masks) m r.m
+    (P : Plan) → P.ports ≡ ports → P.sets ≡ sets → NextOr P kinds (take (mask_count sets) masks) m r
 
 -- Candidates with the kind, S and p of m have their q below this: "4 swap: p in S", so there is none where p is not in S.
 unfoldable pub q_end_at : ℕ → List ℕ → Move → ℕ
@@ -89,7 +88,7 @@ Walked P kinds own m [] = NoneLater P kinds own m
 Walked P kinds own m (r ∷ rs) = Follows P kinds own m r × Walked P kinds own r rs
 
 -- A walk that stands at the first of these moves, or has passed them all.
-unfoldable pub Stands : Bool → Plan → ℕ → List ℕ → Move → List Move → Type 0
-Stands true P kinds own m [] = ⊥
-Stands true P kinds own m (n ∷ ms) = (m ≡ n) × Walked P kinds own m ms
-Stands false P kinds own m ms = ms ≡ []
+unfoldable pub Stands : Plan → ℕ → List ℕ → Option Move → List Move → Type 0
+Stands P kinds own (Some m) [] = ⊥
+Stands P kinds own (Some m) (n ∷ ms) = (m ≡ n) × Walked P kinds own m ms
+Stands P kinds own None ms = ms ≡ []

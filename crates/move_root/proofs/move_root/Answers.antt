@@ -1,11 +1,12 @@
+use Rattle.std.proofs.Common.{refl}
 use Rattle.std.proofs.Common.{sym, ◌∙◌, ap₂, arith}
 use borrow.Author.Tests.{not-true, not-false}
 use Rattle.cells_touch.specs.inner.Hits.{meets}
 use Rattle.move_root.proofs.Roots.{left-tried, readable, test_below, two_cells, left-untouched, hard-ready, crossed-place, both-asked, left-touched}
 use Rattle.move_root.proofs.move_root.Goals as goal
 
-pub returns-then-left : goal.returns-then-left
-returns-then-left c =
+pub returns-then-tables : goal.returns-then-tables
+returns-then-tables c =
     left-tried _ _ _ _ _ c.try_move-tried.ensures
 
 pub change_of-requires : goal.change_of-requires
@@ -46,8 +47,8 @@ slice_bounds-both_read-start c =
 
 pub both_read-by_both-requires : goal.both_read-by_both-requires
 both_read-by_both-requires c =
-    both-asked c.requires c.if-left.false
+    both-asked c.requires c.if-tables.false
 
 pub returns : goal.returns
 returns c =
-    left-touched c.requires _ c.change_of.ensures (sym (c.meet.ensures ∙ ap₂ meets c.uses_at.ensures c.first_word.ensures) ∙ not-false _ c.if-not-meet.false-raw) c.if-left.false _ _ _ _ _ _ _ c.mask_at.ensures c.move_read.ensures c.wrapping_add_u32-by_tables.ensures.value c.hard_shares-by_list.ensures c.both_read-by_both.ensures c.wrapping_add_u32.ensures.value c.wrapping_add_u32-2.ensures.value
+    left-touched c.requires _ c.change_of.ensures (sym (c.meet.ensures ∙ ap₂ meets c.uses_at.ensures c.first_word.ensures) ∙ not-false _ c.if-not-meet.false-raw) c.if-tables.false _ _ _ _ _ _ _ c.mask_at.ensures c.move_read.ensures refl c.hard_shares-by_list.ensures c.both_read-by_both.ensures refl refl

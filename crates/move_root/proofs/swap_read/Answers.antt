@@ -1,3 +1,4 @@
+use Rattle.std.proofs.Common.{refl}
 use Rattle.std.proofs.Common.{arith}
 use Rattle.move_root.proofs.Reading.{swap_is}
 use Rattle.move_root.proofs.swap_read.Goals as goal
@@ -20,4 +21,4 @@ flip_read-second-requires c =
 
 pub returns : goal.returns
 returns c =
-    swap_is _ _ _ _ c.wide-s.ensures.0 c.leaving_size.ensures.0 c.entering_size.ensures.0 c.single_read-first.ensures c.flip_read-second.ensures c.wrapping_add_u32.ensures.value
+    swap_is _ _ _ _ c.wide-s.ensures.0 c.leaving_size.ensures.0 c.entering_size.ensures.0 c.single_read-first.ensures c.flip_read-second.ensures refl

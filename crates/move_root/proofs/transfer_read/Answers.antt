@@ -1,3 +1,4 @@
+use Rattle.std.proofs.Common.{refl}
 use Rattle.std.proofs.Common.{arith}
 use Rattle.move_root.proofs.Reading.{transfer-is}
 use Rattle.move_root.proofs.transfer_read.Goals as goal
@@ -12,4 +13,4 @@ single_read-added-requires c =
 
 pub returns : goal.returns
 returns c =
-    transfer-is _ _ _ _ _ c.wide-s.ensures.0 c.wide-t.ensures.0 c.leaving_size.ensures.0 c.entering_size.ensures.0 c.single_read-dropped.ensures c.single_read-added.ensures c.wrapping_add_u32.ensures.value c.slot_read-beyond.ensures c.wrapping_add_u32-2.ensures.value
+    transfer-is _ _ _ _ _ c.wide-s.ensures.0 c.wide-t.ensures.0 c.leaving_size.ensures.0 c.entering_size.ensures.0 c.single_read-dropped.ensures c.single_read-added.ensures refl c.slot_read-beyond.ensures refl

@@ -1,3 +1,4 @@
+use Rattle.std.proofs.Common.{refl}
 use Rattle.std.proofs.Common.{◌-◌}
 use Rattle.logic.specs.Change.{modulus}
 use Rattle.logic.proofs.Written.{start, done}
@@ -12,7 +13,7 @@ loop-x-init c =
 pub loop-x-preserved : goal.loop-x-preserved
 unfolding modulus
 loop-x-preserved c =
-    (added_more c.args.row.now _ _ _ _ _ _ c.loop-x.invariant.0 c.loop-x-test.true c.loop-x.invariant.2 c.wrapping_add_u32.ensures.value, c.loop-x.invariant.1, c.loop-x.invariant.2)
+    (added_more c.args.row.now _ _ _ _ _ _ c.loop-x.invariant.0 c.loop-x-test.true c.loop-x.invariant.2 refl, c.loop-x.invariant.1, c.loop-x.invariant.2)
 
 pub returns : goal.returns
 unfolding added_at

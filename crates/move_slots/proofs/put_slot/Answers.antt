@@ -5,4 +5,4 @@ use Rattle.move_slots.proofs.put_slot.Goals as goal
 pub returns : goal.returns
 unfolding modulus
 returns c =
-    record { mine-is = c.put_row.ensures; own_is = refl; one-is = c.add_at.ensures; still-is = ap (set c.args.still.now c.args.slot) c.wrapping_add_u32.ensures.value }
+    record { mine-is = c.put_row.ensures; own_is = refl; one-is = c.add_at.ensures; still-is = ap (set c.args.still.now c.args.slot) refl }

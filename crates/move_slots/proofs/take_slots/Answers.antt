@@ -7,17 +7,13 @@ pub loop-slot-init : goal.loop-slot-init
 loop-slot-init c =
     none-taken _ _ _ _ _ _ _ _ _ _ _ _ _ _ _ c.requires.1
 
-pub overflow_mul-sets : goal.overflow_mul-sets
-overflow_mul-sets c =
+pub overflow_mul-slot-end : goal.overflow_mul-slot-end
+overflow_mul-slot-end c =
     omega (arith, slots-few _ _ _ _ _ _ _ _ _ _ _ c.requires.0)
 
 pub take_slot-requires : goal.take_slot-requires
 take_slot-requires c =
-    record { sets = c.args.sets; atom = c.requires.0; below = omega (arith, c.loop-slot-test.true); room = c.loop-slot.invariant.room }
-
-pub overflow_add-slot : goal.overflow_add-slot
-overflow_add-slot c =
-    omega (arith, c.loop-slot-test.true, slots-few _ _ _ _ _ _ _ _ _ _ _ c.requires.0)
+    record { sets = c.args.plan.now.sets; atom = c.requires.0; below = omega (arith, c.loop-slot-test.true); room = c.loop-slot.invariant.room }
 
 pub loop-slot-preserved : goal.loop-slot-preserved
 loop-slot-preserved c =

@@ -6,15 +6,6 @@ use Rattle.move_tables.specs.inner.Taking.{Crossed}
 use Rattle.move_tables.proofs.Standing.{node-low, depth_low, flat-asked}
 use Rattle.move_tables.proofs.Steps.{hard-tree, flat-tree, crossing-tree, slots-asked, joints-asked}
 use borrow.Author.Rules.{rules}
-use Rattle.move_tables.proofs.take_atom.Reads as reads
-use Rattle.move_tables.proofs.take_atom.Lts as lts
-use Rattle.cells_walk.proofs.end_at.Reads as end-at-reads
-use Rattle.cells_walk.proofs.uses_at.Reads as uses-at-reads
-use Rattle.move_joints.proofs.take_joints.Reads as take-joints-reads
-use Rattle.move_slots.proofs.take_slots.Reads as take-slots-reads
-use Rattle.move_tables.proofs.crossings.Reads as crossings-reads
-use Rattle.move_tables.proofs.is_flat.Reads as is-flat-reads
-use Rattle.move_tables.proofs.listed_as.Reads as listed-as-reads
 use Rattle.move_tables.proofs.take_atom.Goals as goal
 
 pub end_at-requires : goal.end_at-requires

@@ -1,7 +1,8 @@
 -- What is known of an input of which so many bytes are passed. Internal to the crate.
 use Rattle.std.specs.Prelude.{◌≡◌, Bool, true, false, ◌&&◌, List, [], ◌∷◌, ◌++◌, ℕ, ◌≤◌, ◌<◌, min, ltb, length, take, set}
 use Rattle.text_tokens.specs.Tokens.{pick}
-use Rattle.planroot_input.specs.declared.Word.{Word}
+use Rattle.planroot_input.specs.declared.Phase.{Phase}
+use Rattle.planroot_input.specs.declared.Phase.TheVariants as phase
 use Rattle.planroot_input.specs.declared.Scan.{Scan}
 use Rattle.planroot_input.specs.Lines.{ends, words, value, is_run, all_runs, values, sound, ports, masks, text, Settled}
 use Rattle.planroot_input.specs.inner.Words.{IsWord}
@@ -16,8 +17,8 @@ pub record Gathered (done : List (List ℕ)) (count : ℕ) (ms : List ℕ) : Typ
   pub count-is : count ≡ min 17 (length done)
   pub are : all_runs done ≡ true → take (min 16 count) ms ≡ take 16 (values done)
 
--- A number behind n others, if it is one of the first k.
-unfoldable pub placed : ℕ → List ℕ → ℕ → ℕ → List ℕ
+-- A value behind n others, if it is one of the first k.
+unfoldable pub placed : {A : Type 0} → ℕ → List A → ℕ → A → List A
 placed k xs n x = pick (ltb n k) (set xs n x) xs
 
 pub record Line1 (input : List ℕ) (s : Scan) : Type 0 where
@@ -52,10 +53,13 @@ pub record InText (input : List ℕ) (s : Scan) (ms tx : List ℕ) : Type 0 wher
   pub length-is : s.length ≡ min 4097 (length rest)
   pub text-is : take (min 4097 s.length) tx ≡ take 4097 rest
 
-pub data Scanned (input : List ℕ) (s : Scan) (ms tx : List ℕ) : Type 0 where
-  in-line-1 : s.phase ≡ 0 → Line1 input s → Scanned input s ms tx
-  in-line-2 : s.phase ≡ 1 → Line2 input s ms → Scanned input s ms tx
-  in-text : s.phase ≡ 2 → InText input s ms tx → Scanned input s ms tx
+unfoldable pub ScannedAt : Phase → List ℕ → Scan → List ℕ → List ℕ → Type 0
+ScannedAt phase.FirstLine input s ms tx = Line1 input s
+ScannedAt phase.SecondLine input s ms tx = Line2 input s ms
+ScannedAt phase.Text input s ms tx = InText input s ms tx
+
+unfoldable pub Scanned : List ℕ → Scan → List ℕ → List ℕ → Type 0
+Scanned input s ms tx = ScannedAt s.phase input s ms tx
 
 -- The word that ends is a mask; the next one is empty.
 pub record Ended (s : Scan) (done : List (List ℕ)) (last : List ℕ) (r : Scan) (ms : List ℕ) : Type 0 where
@@ -76,30 +80,15 @@ PassesPiece s bytes ms tx r ms' tx' = (input : List ℕ) → Scanned input s ms 
 unfoldable pub Starts : Scan → Type 0
 Starts r = (ms tx : List ℕ) → Scanned [] r ms tx
 
-pub record WithWord (s : Scan) (w : Word) (r : Scan) : Type 0 where
-  pub word-is : r.word ≡ w
-  pub phase-is : r.phase ≡ s.phase
-  pub ok-is : r.ok ≡ s.ok
-  pub ports-are : r.ports ≡ s.ports
-  pub masks-are : r.masks ≡ s.masks
-  pub length-is : r.length ≡ s.length
-
-pub record NextPhase (s : Scan) (r : Scan) : Type 0 where
-  pub phase-is : r.phase ≡ 2
-  pub ok-is : r.ok ≡ s.ok
-  pub ports-are : r.ports ≡ s.ports
-  pub masks-are : r.masks ≡ s.masks
-  pub length-is : r.length ≡ s.length
-
 -- One byte of line 1, of line 2, and of the text.
 unfoldable pub PassesFirst : Scan → ℕ → Scan → Type 0
-PassesFirst s b r = (input ms tx : List ℕ) → s.phase ≡ 0 → Line1 input s → Scanned (input ++ (b ∷ [])) r ms tx
+PassesFirst s b r = (input ms tx : List ℕ) → s.phase ≡ phase.FirstLine → Line1 input s → Scanned (input ++ (b ∷ [])) r ms tx
 
 unfoldable pub PassesSecond : Scan → ℕ → List ℕ → Scan → List ℕ → Type 0
-PassesSecond s b ms r ms' = (input tx : List ℕ) → s.phase ≡ 1 → Line2 input s ms → Scanned (input ++ (b ∷ [])) r ms' tx
+PassesSecond s b ms r ms' = (input tx : List ℕ) → s.phase ≡ phase.SecondLine → Line2 input s ms → Scanned (input ++ (b ∷ [])) r ms' tx
 
 unfoldable pub PassesText : Scan → ℕ → List ℕ → Scan → List ℕ → Type 0
-PassesText s b tx r tx' = (input ms : List ℕ) → s.phase ≡ 2 → InText input s ms tx → Scanned (input ++ (b ∷ [])) r ms tx'
+PassesText s b tx r tx' = (input ms : List ℕ) → s.phase ≡ phase.Text → InText input s ms tx → Scanned (input ++ (b ∷ [])) r ms tx'
 
 -- What is known where the input ends: whether its first two lines are as they should be, and then u, the masks and the text.
 pub record Lines (input : List ℕ) (r : Scan) (ms tx : List ℕ) : Type 0 where

@@ -1,6 +1,8 @@
+use mathlib.Core.Path.{sym}
 use Prim.Native.Nat.{ℕ}
 use native.Mathlib.Omega.{arith}
 use lib.ListN.{length-replicate}
+use lib.Seq.{length-take-le}
 use borrow.Author.Tests.{not-true, not-false}
 use borrow.Author.Rules.{rules}
 use Rattle.table_format.specs.Bytes.{header_length}
@@ -14,7 +16,7 @@ returns-then-not-e c =
 
 pub slice_bounds-text_line-end : goal.slice_bounds-text_line-end
 slice_bounds-text_line-end c =
-    omega (arith, closed-short c.args.s c.close-e.result c.args.masks.now c.close-e.new.masks c.args.text.now c.close-e.ensures c.requires.input c.requires.scanned, c.requires.text-room)
+    sym (length-take-le _ _ (omega (arith, closed-short c.args.s c.close-e.result c.args.masks.now c.close-e.new.masks c.args.text.now c.close-e.ensures c.requires.input c.requires.scanned, c.requires.text-room)))
 
 pub text_line-requires : goal.text_line-requires
 unfolding header_length

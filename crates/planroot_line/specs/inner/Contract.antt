@@ -1,5 +1,6 @@
 -- What the parts ask and ensure. Internal to the crate.
-use Rattle.std.specs.Prelude.{◌≡◌, List, ℕ, ◌≤◌, min, eqb, length, take}
+use Rattle.std.specs.Prelude.{◌≡◌, List, ℕ, ◌≤◌, min, eqb, length, take, Result}
+use Rattle.logic.specs.declared.refusal.Refusal.{Refusal as Ground}
 use Rattle.text_tokens.specs.Tokens.{pick}
 use Rattle.table_format.specs.Bytes.{header_length, sets_field}
 use Rattle.table_format.specs.Decode.{decode}
@@ -25,7 +26,7 @@ pub record PlanTables (ms table : List ℕ) : Type 0 where
   pub few-sets : sets_field table ≤ 16
 
 -- The line for load's answer, of which no refusal has the number 0.
-unfoldable pub LinesLoad : Loaded → Line → Type 0
+unfoldable pub LinesLoad : Result Loaded Ground → Line → Type 0
 LinesLoad x r = LoadTold x → r ≡ load_line (load_values x)
 
 -- The first 16 of the masks are at hand, and they are counted as far as 17.

@@ -3,8 +3,5 @@ use lib.Seq.{length-take-le}
 use Rattle.program_io.proofs.Gathering.{known-within}
 use Rattle.plantable.proofs.main.Goals as goal
 
-pub slice_bounds-kept-end : goal.slice_bounds-kept-end
-slice_bounds-kept-end c = known-within _ _ _ c.gather-input.ensures c.in-Kept.is
-
 pub slice_bounds-say-end : goal.slice_bounds-say-end
-slice_bounds-say-end c = sym (length-take-le _ _ (known-within _ _ _ c.gather-input.ensures c.in-Kept.is))
+slice_bounds-say-end c = sym (length-take-le _ _ (known-within _ _ c.in-Ok.ensures))

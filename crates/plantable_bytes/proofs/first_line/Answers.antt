@@ -1,36 +1,25 @@
+use mathlib.Core.Path.{sym}
 use native.Mathlib.Omega.{arith}
-use Prim.Native.Nat.{◌-◌}
-use Rattle.plantable_bytes.proofs.Passing.{passed_none, passed-more, line-found, line-missing}
+use lib.Seq.{length-take-le}
+use Rattle.plantable_bytes.proofs.Passing.{line-within, no-line, wrong-line, line-found}
 use Rattle.plantable_bytes.proofs.first_line.Goals as goal
 
-pub loop-i-init : goal.loop-i-init
-loop-i-init c =
-    passed_none _ _ c.empty-w.ensures
+pub returns-in_err-end : goal.returns-in_err-end
+returns-in_err-end c =
+    rw c.from_residual.ensures (no-line _ c.in_err-end.ensures)
 
-pub bounds-input-i : goal.bounds-input-i
-bounds-input-i c =
-    omega (arith, c.loop-i-test.true)
+pub slice_bounds-word_of-end : goal.slice_bounds-word_of-end
+slice_bounds-word_of-end c =
+    sym (length-take-le _ _ (omega (arith, c.in_ok-end.ensures.1, line-within c.args.input.now c.in_ok-end.ensures.0)))
+
+pub returns-in_err-ports : goal.returns-in_err-ports
+returns-in_err-ports c =
+    rw c.from_residual-in_err-ports.ensures (wrong-line _ c.in_ok-end.ensures.0 _ c.in_ok-end.ensures.1 _ c.word_of.ensures c.in_err-ports.ensures)
 
 pub overflow_add-result : goal.overflow_add-result
 overflow_add-result c =
-    omega (arith, c.loop-i.invariant.within)
-
-pub returns-then-b-eq10 : goal.returns-then-b-eq10
-returns-then-b-eq10 c =
-    line-found _ _ _ c.loop-i.invariant _ c.loop-i-test.true c.if-b-eq10.true c.is_run-ok.ensures
-
-pub overflow_add-i : goal.overflow_add-i
-overflow_add-i c =
-    omega (arith, c.loop-i-test.true)
-
-pub loop-i-smaller : goal.loop-i-smaller
-loop-i-smaller c =
-    omega (arith, c.loop-i-test.true)
-
-pub loop-i-preserved : goal.loop-i-preserved
-loop-i-preserved c =
-    passed-more _ _ _ c.loop-i.invariant _ c.loop-i-test.true c.if-b-eq10.false c.add_byte-w.ensures
+    omega (arith, c.in_ok-end.ensures.1, line-within c.args.input.now c.in_ok-end.ensures.0)
 
 pub returns : goal.returns
 returns c =
-    line-missing _ _ _ c.loop-i.invariant c.loop-i-test.false
+    line-found _ c.in_ok-end.ensures.0 _ c.in_ok-end.ensures.1 _ c.word_of.ensures _ c.in_ok-ports.ensures

@@ -1,9 +1,6 @@
 use native.Mathlib.Omega.{arith}
-use Rattle.program_io.proofs.Gathering.{gathered-more, known-ended, known-full, known-failed}
+use Rattle.program_io.proofs.Gathering.{gathered-more, known-ended, known-full}
 use Rattle.program_io.proofs.gather.Goals as goal
-
-pub returns-in-Err : goal.returns-in-Err
-returns-in-Err g c = known-failed _
 
 pub returns-then-n-eq0 : goal.returns-then-n-eq0
 returns-then-n-eq0 g c =

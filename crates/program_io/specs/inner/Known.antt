@@ -2,8 +2,6 @@
 use Rattle.std.specs.Prelude.{List, ℕ}
 use Rattle.text_put.specs.inner.Puts.{Puts}
 use Rattle.program_bytes.specs.Outcome.{Kept}
-use Rattle.program_io.specs.declared.Input.{Input}
-use Rattle.program_io.specs.declared.Input.TheVariants as input
 
 -- No table that an input is kept in has more bytes, so that places are counted without overflow.
 abbrev pub most_kept : ℕ
@@ -17,7 +15,3 @@ pub record Gathered (before : List ℕ) (at : ℕ) (table : List ℕ) : Type 0 w
 pub record KnownKept (n : ℕ) (table : List ℕ) : Type 0 where
   pub input : List ℕ
   pub kept : Kept input n table
-
-unfoldable pub KnownInput : Input → List ℕ → Type 0
-KnownInput (input.Kept n) table = KnownKept n table
-KnownInput input.Failed table = Unit {0}

@@ -1,7 +1,12 @@
 -- What depends on the plan alone, node by node: ends, and which sets are used at or below a node; and a list laid into another.
-use Rattle.std.specs.Prelude.{[], ◌∷◌, List, ◌++◌, suc, ◌*◌, ◌^◌, ℕ, ◌+◌, length, take, drop}
+use Rattle.std.specs.Prelude.{[], ◌∷◌, List, ◌++◌, suc, ◌*◌, ◌^◌, ℕ, ◌+◌, length, take, drop, replicate}
 use Rattle.std.specs.Int.Bits.{bit_or}
 use Rattle.logic.specs.Formula.{Test, isin, notin, port, size, Node, root, all, any, and, or, lit, Forest, none, tree, node_count}
+use Rattle.table_format.specs.declared.Index.{Index}
+
+-- The index before the check of a table.
+unfoldable pub blank_index : Index
+blank_index = record { firsts = replicate 512 0; ends = replicate 512 0; uses = replicate 512 0 }
 
 -- A list with the numbers vs from place i on.
 unfoldable pub laid : List ℕ → ℕ → List ℕ → List ℕ

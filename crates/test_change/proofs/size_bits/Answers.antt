@@ -1,35 +1,23 @@
-use mathlib.Core.Path.{◌≡◌, refl, sym, ap, ap₂, ◌∙◌}
-use Prim.Native.Nat.{ℕ, suc, ◌+◌, ◌-◌}
+use mathlib.Core.Path.{◌≡◌, refl, ap, ap₂, ◌∙◌}
+use Prim.Native.Nat.{ℕ, suc, ◌+◌, ◌<◌}
 use native.Mathlib.Omega.{arith}
 use lib.Bits.{bit_or}
+use lib.Seq.{get_or-take, length-take-le}
 use Rattle.test_change.specs.inner.Holders.{held_bit, size_bits}
 use Rattle.test_change.proofs.size_bits.Goals as goal
 
-pub loop-s-init : goal.loop-s-init
+pub loop-set-init : goal.loop-set-init
 unfolding size_bits
-loop-s-init c =
-    (omega arith, c.requires.0, c.requires.1, c.requires.2, refl)
-
-pub mask_at-requires : goal.mask_at-requires
-mask_at-requires c =
-    omega arith
+loop-set-init c = refl
 
 pub held_bit-word-requires : goal.held_bit-word-requires
 held_bit-word-requires c =
-    (omega arith, c.loop-s.invariant.3)
+    (omega (arith, length-take-le c.args.sets c.args.masks.now c.requires.1), c.requires.2)
 
-pub loop-s-preserved : goal.loop-s-preserved
+pub loop-set-preserved : goal.loop-set-preserved
 unfolding size_bits
-loop-s-preserved c =
-    let e : c.loop-s.s + 1 ≡ suc c.loop-s.s = omega arith in (
-      omega arith,
-      c.loop-s.invariant.1,
-      c.loop-s.invariant.2,
-      c.loop-s.invariant.3,
-      ap₂ bit_or c.loop-s.invariant.4 (c.held_bit-word.ensures ∙ ap (λ (x : ℕ). held_bit x c.loop-s.s c.args.port) c.mask_at.ensures)
-          ∙ ap (size_bits c.args.masks.now c.args.port) (sym e),
-    )
-
-pub returns : goal.returns
-returns c =
-    let e : c.loop-s.s ≡ c.args.sets = omega arith in c.loop-s.invariant.4 ∙ ap (size_bits c.args.masks.now c.args.port) e
+loop-set-preserved c =
+    let n : c.loop-set.set < c.args.sets = omega (arith, length-take-le c.args.sets c.args.masks.now c.requires.1) in
+    let e : suc c.loop-set.set ≡ c.loop-set.set + 1 = omega arith in
+    ap₂ bit_or c.loop-set.invariant (c.held_bit-word.ensures ∙ ap (λ (x : ℕ). held_bit x c.loop-set.set c.args.port) (get_or-take c.args.sets c.args.masks.now c.loop-set.set 0 n))
+    ∙ ap (size_bits c.args.masks.now c.args.port) e

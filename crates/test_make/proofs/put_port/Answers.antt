@@ -5,8 +5,8 @@ use Rattle.call_open.proofs.OpenPlan.{sets-fit, masks-long}
 use Rattle.test_make.proofs.Putting.{asks-change, lent-enough, root-ready, port-put}
 use Rattle.test_make.proofs.put_port.Goals as goal
 
-pub test_change-c-requires : goal.test_change-c-requires
-test_change-c-requires c =
+pub test_change-change-requires : goal.test_change-change-requires
+test_change-change-requires c =
     asks-change c.requires
 
 pub narrow-requires : goal.narrow-requires
@@ -27,8 +27,8 @@ slice_bounds-root_written-end c =
 
 pub root_written-requires : goal.root_written-requires
 root_written-requires c =
-    root-ready c.requires _ _ c.narrow.ensures (sub-zero c.own_masks-own.result ∙ c.own_masks-own.ensures) _ c.flip_at.ensures _ c.test_change-c.ensures
+    root-ready c.requires _ _ c.narrow.ensures (sub-zero c.own_masks-own.result ∙ c.own_masks-own.ensures) _ c.flip_at.ensures _ c.test_change-change.ensures
 
 pub returns : goal.returns
 returns c =
-    port-put c.requires _ _ c.narrow.ensures (sub-zero c.own_masks-own.result ∙ c.own_masks-own.ensures) _ c.flip_at.ensures _ c.test_change-c.ensures _ _ c.root_written.ensures.0 c.root_written.ensures.1
+    port-put c.requires _ _ c.narrow.ensures (sub-zero c.own_masks-own.result ∙ c.own_masks-own.ensures) _ c.flip_at.ensures _ c.test_change-change.ensures _ _ c.root_written.ensures.0 c.root_written.ensures.1

@@ -3,4 +3,4 @@ use Rattle.text_counts.proofs.cell_count.Goals as goal
 
 pub returns : goal.returns
 returns c =
-    counts-cells _ _ _ _ _ c.part_totals-w.ensures c.capped.ensures
+    counts-cells _ _ _ _ _ c.part_totals.ensures c.capped.ensures

@@ -3,4 +3,4 @@ use Rattle.text_counts.proofs.joined.Goals as goal
 
 pub returns : goal.returns
 returns c =
-    both-joined _ _ _ _ _ c.join_total-p.ensures c.join_total-n.ensures
+    both-joined _ _ _ _ _ c.join_total.ensures c.join_total-2.ensures

@@ -3,4 +3,4 @@ use Rattle.text_counts.proofs.node_count.Goals as goal
 
 pub returns : goal.returns
 returns c =
-    counts-nodes _ _ _ _ c.part_totals-w.ensures c.capped.ensures
+    counts-nodes _ _ _ _ c.part_totals.ensures c.capped.ensures

@@ -1,5 +1,6 @@
 -- A unit in open brackets, without its tree: where the outermost bracket ends, and what a reader keeps to find that.
-use Rattle.std.specs.Prelude.{◌≡◌, List, [], ◌∷◌, Bool, true, false, ℕ, zero, suc, ◌+◌, ◌<◌, ◌≤◌, eqb, length, get_or}
+use Rattle.std.specs.Prelude.{◌≡◌, List, [], ◌∷◌, Bool, true, false, ℕ, zero, suc, ◌+◌, ◌<◌, ◌≤◌, eqb, length, get_or, MatchOption}
+use Rattle.std.specs.Prelude as std
 use Rattle.std.proofs.Math.Option.{Option, none, some}
 use Rattle.logic.specs.Formula.{isin}
 use Rattle.text_tree.specs.Tree.{leaf_of}
@@ -60,7 +61,6 @@ pub record Onward (s before after : List ℕ) (n : ℕ) (p r : Passing) : Type 0
   pub kept : (i : ℕ) → i < n → get_or after i 0 ≡ get_or before i 0
   pub same : end_from s (marks before n p.brackets) p.due p.next ≡ end_from s (marks after n r.brackets) r.due r.next
 
--- What a step ensures.
-pub record Step (s before after : List ℕ) (n : ℕ) (p r : Passing) : Type 0 where
-  pub accepts : r.ok ≡ true → Onward s before after n p r
-  pub refuses : r.ok ≡ false → end_from s (marks before n p.brackets) p.due p.next ≡ none
+-- What a step ensures: it refuses where no bracket that is open ends.
+abbrev pub Step : List ℕ → List ℕ → List ℕ → ℕ → Passing → std.Option Passing → Type 0
+Step s before after n p r = MatchOption r (end_from s (marks before n p.brackets) p.due p.next ≡ none) (λ q. Onward s before after n p q)

@@ -1,14 +1,11 @@
-use Rattle.text_emit.proofs.Joints.{joint-conj, joint-iff, joint-turned}
+use Rattle.std.proofs.Common.{arith}
+use Rattle.text_emit.proofs.Joints.{joint-kept, joint-turned}
 use Rattle.text_emit.proofs.joint_kind.Goals as goal
 
-pub returns-then-operator-eq5 : goal.returns-then-operator-eq5
-returns-then-operator-eq5 c =
-    joint-conj _ _ _ c.if-operator-eq5.true c.joint_node.ensures
+pub returns-in-5 : goal.returns-in-5
+returns-in-5 c =
+    joint-kept _ _ _ c.in-5.is c.joint_node.ensures
 
-pub returns-then-operator-eq9 : goal.returns-then-operator-eq9
-returns-then-operator-eq9 c =
-    joint-iff _ _ _ c.if-operator-eq9.true c.joint_node-then-operator-eq9.ensures
-
-pub returns : goal.returns
-returns c =
-    joint-turned _ _ _ _ c.if-operator-eq5.false c.if-operator-eq9.false c.flip.ensures c.joint_node-2.ensures
+pub returns-in_default : goal.returns-in_default
+returns-in_default c =
+    joint-turned _ _ _ (λ e. grind arith) (λ e. grind arith) c.joint_node-in_default.ensures

@@ -1,12 +1,5 @@
-use native.Mathlib.Omega.{arith}
-use Rattle.table_format.specs.Bytes.{record_length}
 use Rattle.text_emit.proofs.Whole.{puts-core}
 use Rattle.text_emit.proofs.put_core.Goals as goal
-
-pub put_record-requires : goal.put_record-requires
-unfolding record_length
-put_record-requires c =
-    (omega (arith, c.requires.placed, c.emit-end.auto.out), omega (arith, c.emit-end.ensures.placed, c.requires.few))
 
 pub returns : goal.returns
 returns c =

@@ -1,18 +1,19 @@
+use Rattle.std.proofs.Common.{arith}
 use Rattle.text_emit.proofs.Bytes.{relation-kept, opposite-low, opposite-middle, opposite-high}
 use Rattle.text_emit.proofs.relation_at.Goals as goal
 
-pub returns-then-p : goal.returns-then-p
-returns-then-p c =
-    rw c.if-p.true (relation-kept _)
+pub returns-in-true-default : goal.returns-in-true-default
+returns-in-true-default c =
+    rw c.in-true-default.is-0 (relation-kept _)
 
-pub returns-then-x-lt2 : goal.returns-then-x-lt2
-returns-then-x-lt2 c =
-    rw c.if-p.false (opposite-low _ c.if-x-lt2.true)
+pub returns-in-false-eq0 : goal.returns-in-false-eq0
+returns-in-false-eq0 c =
+    rw c.in-false-eq0.is-0 (opposite-low _ (omega arith))
 
-pub returns-then-x-lt4 : goal.returns-then-x-lt4
-returns-then-x-lt4 c =
-    rw c.if-p.false (opposite-middle _ c.if-x-lt2.false c.if-x-lt4.true)
+pub returns-in-false-eq2 : goal.returns-in-false-eq2
+returns-in-false-eq2 c =
+    rw c.in-false-eq2.is-0 (opposite-middle _ (omega arith) (omega arith))
 
-pub returns : goal.returns
-returns c =
-    rw c.if-p.false (opposite-high _ c.if-x-lt4.false)
+pub returns-in-false-default : goal.returns-in-false-default
+returns-in-false-default c =
+    rw c.in-false-default.is-0 (opposite-high _ (omega arith))

@@ -1,5 +1,4 @@
-use native.Mathlib.Omega.{arith}
-use lib.ListN.{length}
+use Rattle.std.proofs.Common.{arith, length}
 use Rattle.table_format.proofs.Bytes.{header-within}
 use Rattle.text_emit.proofs.Whole.{writes-plan, part-ready}
 use Rattle.text_emit.proofs.write_plan.Goals as goal
@@ -7,14 +6,6 @@ use Rattle.text_emit.proofs.write_plan.Goals as goal
 pub put_header-requires : goal.put_header-requires
 put_header-requires c =
     omega (arith, header-within (length c.args.sets.now), c.requires.room)
-
-pub table_bytes-last-requires : goal.table_bytes-last-requires
-table_bytes-last-requires c =
-    omega (arith, c.requires.few)
-
-pub slice_bounds-put_core-end : goal.slice_bounds-put_core-end
-slice_bounds-put_core-end c =
-    omega (arith, c.put_header.auto.table, c.requires.room, c.table_bytes-last.ensures)
 
 pub put_core-requires : goal.put_core-requires
 put_core-requires c =

@@ -1,12 +1,13 @@
 -- What the readers ask and ensure.
-use Rattle.std.specs.Prelude.{◌≡◌, List, true, false, ℕ, suc, ◌+◌, ◌*◌, ◌-◌, ◌≤◌, ◌<◌, length, get_or, set, take}
+use Rattle.std.specs.Prelude.{◌≡◌, List, false, Option, MatchOption, ℕ, suc, ◌+◌, ◌*◌, ◌-◌, ◌≤◌, ◌<◌, length, get_or, set, take, eqb}
+use Rattle.text_tokens.specs.Tokens.{bar, pick}
 use Rattle.logic.specs.Formula.{Test}
 use Rattle.text_tree.specs.Tree.{Tree, Declared, letters_of, too_deep}
 use Rattle.text_tree.specs.inner.Stored.{test_operator, test_payload, Record, Stored}
 use Rattle.text_grammar.specs.declared.Reading.{Reading}
 use Rattle.text_grammar.specs.declared.Letters.{Letters}
 use Rattle.text_grammar.specs.declared.Syntax.{Syntax}
-use Rattle.text_grammar.specs.Grammar.{Level, unit}
+use Rattle.text_grammar.specs.Grammar.{Level, unit, conjunction, disjunction}
 use Rattle.text_grammar.specs.Parser.{Part, missing, found, map_part, operand, rank, parse_at, sets_at, after_sets, failed, read, parsed}
 
 -- A reader at position `at` of the text s, with n numbers in the table and d of `(`, `~` and quantifiers around it. Each
@@ -30,13 +31,20 @@ pub record Accepted (p : Part) (s before after : List ℕ) (at n d : ℕ) (r : R
   pub within : r.next ≤ length s
   pub short : r.count + 2 * at + 2 ≤ n + 2 * r.next
 
-pub record Outcome (p : Part) (s before after : List ℕ) (at n d : ℕ) (r : Reading) : Type 0 where
-  pub accepts : r.ok ≡ true → Accepted p s before after at n d r
-  pub refuses : r.ok ≡ false → p ≡ missing
+-- A reader refuses where the parser finds nothing.
+abbrev pub Outcome : Part → List ℕ → List ℕ → List ℕ → ℕ → ℕ → ℕ → Option Reading → Type 0
+Outcome p s before after at n d r = MatchOption r (p ≡ missing) (λ a. Accepted p s before after at n d a)
 
 -- A reader of a level, for every number of nested calls that suffices.
-abbrev pub Reads : Level → List ℕ → List ℕ → List ℕ → ℕ → ℕ → ℕ → Reading → Type 0
+abbrev pub Reads : Level → List ℕ → List ℕ → List ℕ → ℕ → ℕ → ℕ → Option Reading → Type 0
 Reads l s before after at n d r = (f : ℕ) → 4 * (length s - at) + rank l ≤ f → Outcome (parse_at f l s at) s before after at n d r
+
+-- A sign that joins a row of parts, `&` or `|`: the level that it makes, and the level of the parts.
+abbrev pub level_of : ℕ → Level
+level_of k = pick (eqb k bar) disjunction conjunction
+
+abbrev pub part_of : ℕ → Level
+part_of k = pick (eqb k bar) conjunction unit
 
 -- Nested calls of the parser, enough for every position.
 abbrev pub calls : List ℕ → ℕ
@@ -52,7 +60,7 @@ pub record Prefix (payload operator : ℕ) : Type 0 where
   pub deeper : (d : ℕ) (a : Tree) → too_deep d (make a) ≡ too_deep (suc d) a
 
 -- The unit at `at`, with a prefix before it.
-abbrev pub Prefixed : List ℕ → List ℕ → List ℕ → ℕ → ℕ → ℕ → ℕ → ℕ → Reading → Type 0
+abbrev pub Prefixed : List ℕ → List ℕ → List ℕ → ℕ → ℕ → ℕ → ℕ → ℕ → Option Reading → Type 0
 Prefixed s before after at n d payload operator r =
     (f : ℕ) → 4 * (length s - at) + rank unit ≤ f → (p : Prefix payload operator) → Outcome (map_part p.make (parse_at f unit s at)) s before after (at - 1) n d r
 
@@ -63,7 +71,7 @@ pub record Form (operator : ℕ) : Type 0 where
   pub pays : (x y : ℕ) → test_payload (make x y) ≡ 256 * x + y
 
 -- The literal of an operator and a first operand, with its last operand of the kind `wanted` at `at`, behind a sign.
-abbrev pub Operands : List ℕ → List ℕ → List ℕ → ℕ → ℕ → ℕ → ℕ → ℕ → ℕ → Reading → Type 0
+abbrev pub Operands : List ℕ → List ℕ → List ℕ → ℕ → ℕ → ℕ → ℕ → ℕ → ℕ → Option Reading → Type 0
 Operands s before after first operator wanted at n d r = (m : Form operator) → Outcome (operand s wanted (m.make first) at) s before after (at - 1) n d r
 
 -- A letter v goes into the table behind n others, if there is room.
@@ -85,7 +93,7 @@ pub record Lent (s out letters : List ℕ) : Type 0 where
   pub wide : 8192 ≤ length out
   pub some : 1 ≤ length letters
 
--- What it ensures: the text's declared sets and tree, ground 4, the first letters in their table, and the records of a tree
+-- What it ensures of a text of the grammar: the declared sets and the tree, ground 4, the first letters in their table, and the records of a tree
 -- that is not too deep in theirs.
 pub record Whole (s after letters : List ℕ) (r : Syntax) : Type 0 where
   pub sets : List Declared
@@ -97,6 +105,6 @@ pub record Whole (s after letters : List ℕ) (r : Syntax) : Type 0 where
   pub kept : take r.sets letters ≡ take (length letters) (letters_of sets)
   pub fits : r.end ≤ 8192
 
-pub record Parsed (s after letters : List ℕ) (r : Syntax) : Type 0 where
-  pub accepts : r.ok ≡ true → Whole s after letters r
-  pub refuses : r.ok ≡ false → parsed s ≡ failed
+-- And of any other text, that the parser fails.
+abbrev pub Parsed : List ℕ → List ℕ → List ℕ → Option Syntax → Type 0
+Parsed s after letters r = MatchOption r (parsed s ≡ failed) (λ x. Whole s after letters x)

@@ -1,11 +1,9 @@
-use mathlib.Core.Path.{◌≡◌}
-use Prim.Native.Nat.{◌-◌}
-use lib.ListN.{length}
+use Rattle.std.proofs.Common.{◌-◌, length}
 use Rattle.text_grammar.proofs.Declaration.{Passed}
 use Rattle.text_literal.proofs.set_letters.Given as goal
 
-abbrev pub invariant-loop-i : goal.invariant-loop-i
-invariant-loop-i l = Passed l.text l.at l.i l.letters l.count × (length l.letters ≡ length l.initial.letters)
+abbrev pub invariant-loop-t : goal.invariant-loop-t
+invariant-loop-t l = Passed l.text l.at l.read.next l.letters l.read.count
 
-abbrev pub decreases-loop-i : goal.decreases-loop-i
-decreases-loop-i l = length l.text - l.i
+abbrev pub decreases-loop-t : goal.decreases-loop-t
+decreases-loop-t l = length l.text - l.read.next

@@ -1,6 +1,7 @@
-use Rattle.text_names.proofs.Naming.{undeclared-place}
+use Rattle.std.proofs.Common.{ap, rules, not}
+use Rattle.text_names.proofs.Naming.{among_is}
 use Rattle.text_names.proofs.undeclared.Goals as goal
 
 pub returns : goal.returns
 returns c =
-    rw c.set_number.ensures (undeclared-place _ _)
+    ap not (among_is _ _ _ (search rules) (search rules))

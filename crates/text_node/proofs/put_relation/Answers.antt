@@ -1,34 +1,19 @@
+use Rattle.std.proofs.Common.{◌≡◌, arith}
 use Rattle.logic.specs.Formula.{relation_of}
 use Rattle.text_form.specs.Spelling.{relation_bytes, spaced}
 use Rattle.text_node.proofs.Nodes.{last-relation}
+use Rattle.text_node.proofs.put_relation.Goals.{in-0, in-1, in-2, in-3, in-4, in_default}
 use Rattle.text_node.proofs.put_relation.Goals as goal
 
-pub returns-then-relation-eq0 : goal.returns-then-relation-eq0
-unfolding relation_of relation_bytes spaced
-returns-then-relation-eq0 c =
-    rw c.if-relation-eq0.true c.put_bytes.ensures
-
-pub returns-then-relation-eq1 : goal.returns-then-relation-eq1
-unfolding relation_of relation_bytes spaced
-returns-then-relation-eq1 c =
-    rw c.if-relation-eq1.true c.put_bytes-then-relation-eq1.ensures
-
-pub returns-then-relation-eq2 : goal.returns-then-relation-eq2
-unfolding relation_of relation_bytes spaced
-returns-then-relation-eq2 c =
-    rw c.if-relation-eq2.true c.put_bytes-then-relation-eq2.ensures
-
-pub returns-then-relation-eq3 : goal.returns-then-relation-eq3
-unfolding relation_of relation_bytes spaced
-returns-then-relation-eq3 c =
-    rw c.if-relation-eq3.true c.put_bytes-then-relation-eq3.ensures
-
-pub returns-then-relation-eq4 : goal.returns-then-relation-eq4
-unfolding relation_of relation_bytes spaced
-returns-then-relation-eq4 c =
-    rw c.if-relation-eq4.true c.put_bytes-then-relation-eq4.ensures
-
 pub returns : goal.returns
-unfolding relation_bytes spaced
+unfolding relation_of relation_bytes spaced
 returns c =
-    rw (last-relation _ c.if-relation-eq0.false c.if-relation-eq1.false c.if-relation-eq2.false c.if-relation-eq3.false c.if-relation-eq4.false) c.put_bytes-2.ensures
+    let sign : c.match-relation.sign.now ≡ spaced (relation_bytes (relation_of c.args.relation)) = elim c.match-relation.branch [
+      | in-0 w ↦ rw (w.sign-is, w.in-0.is)
+      | in-1 w ↦ rw (w.sign-is, w.in-1.is)
+      | in-2 w ↦ rw (w.sign-is, w.in-2.is)
+      | in-3 w ↦ rw (w.sign-is, w.in-3.is)
+      | in-4 w ↦ rw (w.sign-is, w.in-4.is)
+      | in_default w ↦ rw (w.sign-is, last-relation c.args.relation (omega arith))
+    ] in
+    rw (← sign) c.put_bytes.ensures

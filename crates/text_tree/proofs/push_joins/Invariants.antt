@@ -1,4 +1,3 @@
-use Prim.Native.Nat.{◌-◌}
 use Rattle.text_tree.proofs.Links.{Writing}
 use Rattle.text_tree.proofs.push_joins.Given as goal
 

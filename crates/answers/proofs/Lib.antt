@@ -1,2 +1,0 @@
--- Laws.
-pub mod Fields

@@ -1,9 +1,0 @@
-use Rattle.std.proofs.Common.{◌-◌, ◌≤◌, length, get_or}
-use Rattle.logic.proofs.Written.{Written}
-use Rattle.cells_row.proofs.put_row.Given as goal
-
-abbrev pub invariant-loop-x : goal.invariant-loop-x
-invariant-loop-x l = Written (λ y. get_or l.row y 0) l.at l.ports l.initial.cells l.cells l.x × (l.ports ≤ length l.row)
-
-abbrev pub decreases-loop-x : goal.decreases-loop-x
-decreases-loop-x l = l.ports - l.x

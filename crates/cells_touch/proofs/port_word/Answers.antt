@@ -1,7 +1,0 @@
-use Rattle.cells_touch.specs.inner.Hits.{port_word}
-use Rattle.cells_touch.proofs.port_word.Goals as goal
-
-pub returns : goal.returns
-unfolding port_word
-returns c =
-    cc

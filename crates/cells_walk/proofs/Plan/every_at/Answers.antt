@@ -1,0 +1,5 @@
+use Rattle.cells_walk.proofs.Plan.every_at.Goals as goal
+
+pub returns : goal.returns
+returns c =
+    cc
