@@ -3,7 +3,6 @@
 
 ghost use Rattle.std.specs.Prelude.{◌≡◌, ◌≤◌, length, take};
 ghost use Rattle.logic.specs.Configuration.{all_within};
-ghost use Rattle.table_check.specs.inner.Check.{IndexRoom};
 ghost use Rattle.call_open.specs.inner.Opening.{OpensCells, Opens};
 
 use logic::{Refusal, own_masks, within_ports};
@@ -26,7 +25,6 @@ fn masks_ok(masks: &[u64], count: usize, ports: usize) -> bool
 
 // Tries 11, and 12 of the cell tables, and fills the index tables; `shortest` is the length of the shortest cell table that is lent.
 pub fn open_cells(table: &[u8], shortest: usize, index: &mut Index) -> Result<Info, Refusal>
-    requires { IndexRoom index.old }
     ensures { OpensCells table.now shortest result index.new.firsts index.new.ends index.new.uses }
 {
     let Some(info) = check(table, index) else {
@@ -45,7 +43,6 @@ pub fn open_tables(
     shortest: usize,
     index: &mut Index,
 ) -> Result<Info, Refusal>
-    requires { IndexRoom index.old }
     ensures { Opens table.now masks.now shortest result index.new.firsts index.new.ends index.new.uses }
 {
     let o = open_cells(table, shortest, index)?;

@@ -75,3 +75,12 @@ number-low join kind v h bit = go (leb 5 kind && leb kind 7) (λ e. bit (leb-tru
     go : (b : Bool) → (b ≡ true → v < 2) → v < limit_of (cond b join (compared join))
     go true f = let a = f refl in omega (arith, a, (limit-low join).0)
     go false f = rw (limit-signed (compared join) (compared-again join)) h
+
+-- a join that compares, or adds, stays
+pub with-kept : (join : Join) (kind : ℕ) → compared join ≡ join → join_with join kind ≡ join
+unfolding join_with
+with-kept join kind h = go (leb 5 kind && leb kind 7)
+  where
+    go : (b : Bool) → cond b join (compared join) ≡ join
+    go true = refl
+    go false = h

@@ -38,3 +38,7 @@ gathered-zero (r ∷ rs) = ap (λ (y : ℕ). gathered false y rs) (zero-min r.ne
 pub gathered-done : (add : Bool) (acc : ℕ) (rs : List Renewal) → add ≡ false → acc ≡ 0 → acc ≡ gathered add acc rs
 gathered-done add acc rs p q =
     q ∙ sym (gathered-zero rs) ∙ ap (λ (y : ℕ). gathered false y rs) (sym q) ∙ ap (λ (a : Bool). gathered a acc rs) (sym p)
+
+pub zero-last : (row : List ℕ) (x u : ℕ) → ZeroRow row x → u ≤ x → ZeroRow row u
+unfolding ZeroRow
+zero-last row x u H h y l = H y (omega arith)

@@ -78,13 +78,15 @@ pub fn is_zero(row: &[u32], ports: usize) -> bool
     seen == 0
 }
 
-// Copies a row.
-#[tactic(auto, using(crate::proofs::Steps::copied_row))]
+// Copies a row. By a loop here and in `put_row`: of `copy_from_slice` the compiler makes a call of the C library's memmove, a name
+// that the archive would need from outside for these alone, and a row of a few ports is copied in less time than such a call takes.
 pub fn copy_row(from: &[u32], ports: usize, out: &mut [u32])
     requires { (ports ≤ length from.now) × (ports ≤ length out.old) }
     ensures { out.new ≡ row_of ports (λ x. slice_index from.now x) out.old }
 {
-    out[..ports].copy_from_slice(&from[..ports]);
+    for x in 0..ports {
+        out[x] = from[x];
+    }
 }
 
 // One number at every port.
@@ -173,5 +175,7 @@ pub fn put_row(row: &[u32], ports: usize, at: usize, cells: &mut [u32])
     requires { (ports ≤ length row.now) × (at + ports ≤ length cells.old) }
     ensures { cells.new ≡ take at cells.old ++ (tabulate ports (λ x. slice_index row.now x) ++ drop (at + ports) cells.old) }
 {
-    cells[at..at + ports].copy_from_slice(&row[..ports]);
+    for x in 0..ports {
+        cells[at + x] = row[x];
+    }
 }

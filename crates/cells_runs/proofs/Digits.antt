@@ -3,7 +3,7 @@ use mathlib.Core.Path.{◌≡◌, refl, sym, ap, ◌∙◌}
 use mathlib.Core.Bool.{cond}
 use mathlib.Core.List.{List}
 use Prim.Native.Nat.{ℕ, zero, suc, ◌+◌, ◌-◌, ◌*◌, ◌^◌, ◌/◌, ◌%◌, ◌≤◌, ◌<◌}
-use native.Mathlib.Nat.{mod-lt, mod-add-mod, add-mod_right, add-div_right, mul-mod_left, div-one, div-div-eq-div-mul, div-add-mod', pow-zero, pow-succ', one-le-pow, pow-le-pow_left, pow-le-pow_right, mul-le-mul_right, suc-mul, zero-div, zero-mod}
+use native.Mathlib.Nat.{mod-lt, mod-add-mod, add-mod_right, add-div_right, mul-mod_left, div-one, div-div-eq-div-mul, div-add-mod', pow-zero, pow-succ', one-le-pow, pow-le-pow_left, pow-le-pow_right, mul-le-mul, mul-le-mul_right, suc-mul, zero-div, zero-mod}
 use native.Mathlib.Decide.{dec_lt}
 use native.Mathlib.Omega.{arith}
 use lib.Dec.{eqb}
@@ -128,4 +128,13 @@ pub power_low : (u n : ℕ) → u ≤ 64 → n ≤ 2 → u ^ n < 184467440737095
 power_low u n h l =
     let e : u ^ n ≤ 64 ^ n = pow-le-pow_left h n in
     let f : 64 ^ n ≤ 64 ^ 2 = pow-le-pow_right {n = 64} (omega arith) {i = n} {j = 2} l in
+    omega arith
+
+-- ten powers of at most 64 fit in 64 bits
+pub power-low : (u i : ℕ) → u ≤ 64 → i < 10 → u ^ i * u ≤ 1152921504606846976
+power-low u i h l =
+    let e : u ^ i ≤ 64 ^ i = pow-le-pow_left h i in
+    let f : 64 ^ i ≤ 64 ^ 9 = pow-le-pow_right {n = 64} (omega arith) {i = i} {j = 9} (omega arith) in
+    let g : u ^ i ≤ 18014398509481984 = omega arith in
+    let m : u ^ i * u ≤ 18014398509481984 * 64 = mul-le-mul g h in
     omega arith

@@ -153,9 +153,10 @@ fn ports_after(
     outcome(old, r)
 }
 
-// The same from the row of its child. It is called from two places and copies the old row, so that the compiler keeps its rows out of
-// the frame of `cell_after`, of which there is one for each level of the plan.
+// The same from the row of its child. It is never put into its caller, so that its rows stay out of the frame of `cell_after`, of which
+// there is one for each level of the plan.
 #[cycle(walk)]
+#[inline(never)]
 fn all_ports_after(
     plan: &Plan,
     masks: &[u64],

@@ -168,9 +168,10 @@ fn ports_written(
     outcome(old, r)
 }
 
-// The same from the row of its child. It is called from two places, so that the compiler keeps its rows out of the frame of
-// `cell_written`, of which there is one for each level of the plan.
+// The same from the row of its child. It is never put into its caller, so that its rows stay out of the frame of `cell_written`, of which
+// there is one for each level of the plan.
 #[cycle(walk)]
+#[inline(never)]
 fn all_ports_written(
     plan: &Plan,
     masks: &[u64],

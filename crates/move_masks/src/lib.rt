@@ -8,12 +8,14 @@ ghost use Rattle.move_legal.specs.inner.Legal.{LegalOver};
 
 use logic::{Move, flip_port};
 
-// The first `count` masks, copied.
+// The first `count` masks, copied: by a loop, since `copy_from_slice` would have the archive need memmove from outside.
 pub fn copy_masks(masks: &[u64], count: usize, out: &mut [u64])
     requires { (count ≤ length masks.now) × (count ≤ length out.old) }
     ensures { out.new ≡ take count masks.now ++ drop count out.old }
 {
-    out[..count].copy_from_slice(&masks[..count]);
+    for s in 0..count {
+        out[s] = masks[s];
+    }
 }
 
 // Port p enters set s if it was out, and leaves it if it was in.

@@ -12,27 +12,33 @@ use planroot_line::answer;
 use std::io;
 use std::io::Read;
 
+// Standard input as far as it is passed: to its end, or as far as bytes can change the line.
+#[derive(Clone, Copy)]
+enum Input {
+    Whole(Scan),
+    Enough(Scan),
+}
+
 // A read failed.
 fn failed() -> io::Error {
     io::Error::other("planroot: standard input")
 }
 
-// Passes a reader's bytes, to their end or as far as they can change the line. Nothing says that they end, so the turns are counted:
-// 2^64 - 1 of them suffice.
-fn pass_input<R: Read>(reader: &mut R, masks: &mut [u64], text: &mut [u8]) -> io::Result<Scan>
+// Passes a reader's bytes. Nothing says that they end, so the turns are counted: 2^64 - 1 of them suffice.
+fn pass_input<R: Read>(reader: &mut R, masks: &mut [u64], text: &mut [u8]) -> io::Result<Input>
     requires { InputRoom masks.old text.old }
-    ensures { IfOk result (λ s. KnownInput s masks.new text.new) }
+    ensures { IfOk result (λ p. KnownInput p masks.new text.new) }
 {
     let mut s = Scan::start();
     let mut piece = [0u8; 4096];
     for _turn in 0..u64::MAX {
         let n = reader.read(&mut piece).map_err(|_| failed())?;
         if n == 0 {
-            return Ok(s);
+            return Ok(Input::Whole(s));
         }
         s = s.step(&piece[..n], masks, text);
         if s.decided() {
-            return Ok(s);
+            return Ok(Input::Enough(s));
         }
     }
     Err(failed())
@@ -52,6 +58,8 @@ fn say(rt: &impl Print, s: Scan, masks: &mut [u64], text: &[u8]) -> io::Result<(
 fn main(rt: HostRuntime) -> io::Result<()> {
     let mut masks = [0u64; 16];
     let mut text = [0u8; 4097];
-    let s = pass_input(&mut rt.stdin(), &mut masks, &mut text)?;
-    say(&rt, s, &mut masks, &text)
+    match pass_input(&mut rt.stdin(), &mut masks, &mut text)? {
+        Input::Whole(s) => say(&rt, s, &mut masks, &text),
+        Input::Enough(s) => say(&rt, s, &mut masks, &text),
+    }
 }

@@ -92,10 +92,10 @@ module _ (s : Scan) (b : ℕ) (ms : List ℕ) where
         fresh = D.length-is ∙ L.fresh;
       }
 
-  pub second-end : (m : Scan) (ms' : List ℕ) → b ≡ 10 → EndsWord s ms m ms'
-      → PassesSecond s b ms (record { phase = phase.Text; ok = m.ok; word = m.word; ports = m.ports; masks = m.masks; length = m.length }) ms'
+  pub second-end : (m : Scan) (w : Word) (ms' : List ℕ) → b ≡ 10 → EndsWord s ms m ms'
+      → PassesSecond s b ms (record { phase = phase.Text; ok = m.ok; word = w; ports = m.ports; masks = m.masks; length = m.length }) ms'
   unfolding PassesSecond EndsWord
-  second-end m ms' e E input tx p L =
+  second-end m w ms' e E input tx p L =
       let D = E L.done L.last L.word L.masks-are in
       let none : m.length ≡ 0 = D.length-is ∙ L.fresh in
       in-text _ _ _ _ refl record {
@@ -114,10 +114,10 @@ module _ (s : Scan) (b : ℕ) (ms : List ℕ) where
       }
 
 -- the text
-pub text-more : (s : Scan) (b : ℕ) (tx : List ℕ) (n : ℕ) → 4097 ≤ length tx → n ≡ min 4097 (s.length + 1)
-    → PassesText s b tx (record { phase = s.phase; ok = s.ok; word = s.word; ports = s.ports; masks = s.masks; length = n }) (placed 4097 tx s.length b)
+pub text-more : (s : Scan) (b : ℕ) (tx : List ℕ) (w : Word) (n : ℕ) → 4097 ≤ length tx → n ≡ min 4097 (s.length + 1)
+    → PassesText s b tx (record { phase = s.phase; ok = s.ok; word = w; ports = s.ports; masks = s.masks; length = n }) (placed 4097 tx s.length b)
 unfolding PassesText
-text-more s b tx n room c input ms p T = in-text _ _ _ _ p record {
+text-more s b tx w n room c input ms p T = in-text _ _ _ _ p record {
   first = T.first;
   second = T.second;
   rest = T.rest ++ (b ∷ []);

@@ -5,7 +5,7 @@ use mathlib.Core.List.{List, [], ◌∷◌, ◌++◌, append_assoc, append-nil}
 use Prim.Native.Nat.{ℕ, ◌+◌, ◌*◌, ◌-◌, ◌≤◌, ◌<◌}
 use native.Mathlib.Omega.{arith}
 use lib.Dec.{leb, ltb}
-use borrow.Author.Tests.{le-leb, leb-true, lt-ltb, le-ltb, ne_eqb}
+use borrow.Author.Tests.{le-leb, lt-leb, leb-true, lt-ltb, le-ltb, ne_eqb}
 use Rattle.std.specs.Prelude.{Some, None}
 use Rattle.std.proofs.lemmas.Bool.{false_from_ne_true}
 use Rattle.logic.proofs.Lists.{and_left, and_right, and-true}
@@ -27,6 +27,12 @@ digit-high b d = leb-true b 57 (and_right (leb 48 b) _ d)
 and_no : (a b : Bool) → b ≡ false → (a && b) ≡ false
 and_no true b h = h
 and_no false b h = refl
+
+pub low-no-digit : (b : ℕ) → b < 48 → is_digit b ≡ false
+low-no-digit b h = rw (lt-leb 48 b h)
+
+pub high-no-digit : (b : ℕ) → 57 < b → is_digit b ≡ false
+high-no-digit b h = and_no (leb 48 b) _ (lt-leb b 57 h)
 
 -- digits one behind the other
 pub digits-snoc : (v : List ℕ) (b : ℕ) → digits_only v ≡ true → is_digit b ≡ true → digits_only (v ++ (b ∷ [])) ≡ true

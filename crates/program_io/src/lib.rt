@@ -11,16 +11,20 @@ use std::io;
 use std::io::Read;
 use text_put::put_bytes;
 
+// A read failed. Callers name the program in the error that they make of it.
+#[derive(Clone, Copy, Debug, PartialEq, Eq)]
+pub struct ReadFailed;
+
 // Keeps the bytes of a reader at the front of a lent table, to its end or as many as there are places for: how many they are. Each
 // piece has a byte at least, so the places run out if the reader does not.
-pub fn gather<R: Read>(reader: &mut R, kept: &mut [u8]) -> io::Result<usize>
+pub fn gather<R: Read>(reader: &mut R, kept: &mut [u8]) -> Result<usize, ReadFailed>
     requires { length kept.old ≤ most_kept }
     ensures { IfOk result (λ n. KnownKept n kept.new) }
 {
     let mut at = 0;
     let mut piece = [0u8; 4096];
     while at < kept.len() {
-        let n = reader.read(&mut piece)?;
+        let n = reader.read(&mut piece).map_err(|_| ReadFailed)?;
         if n == 0 {
             return Ok(at);
         }

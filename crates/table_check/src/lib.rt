@@ -167,11 +167,23 @@ pub struct Info {
     pub cells: usize,
 }
 
+// How long the arrays of an index are: their types say it.
+fn lengths(firsts: &[u32; 512], ends: &[u16; 512], uses: &[u64; 512])
+    ensures { (512 ≤ length firsts.now) × (512 ≤ length ends.now) × (512 ≤ length uses.now) }
+{}
+
+// Every index has room for the nodes of a plan, so that no caller has to show it.
+fn room(index: &Index)
+    ensures { IndexRoom index.now }
+{
+    lengths(&index.firsts, &index.ends, &index.uses)
+}
+
 // Checks a plan table (ground 11) and fills the index tables: linear in the table, whatever its shape.
 pub fn check(table: &[u8], index: &mut Index) -> Option<Info>
-    requires { IndexRoom index.old }
     ensures { PlanJudged table.now result index.old index.new }
 {
+    room(index);
     if !front_ok(table) {
         return None;
     }

@@ -4,7 +4,7 @@ use mathlib.Core.Bool.{Bool, true, false, not, true≢false}
 use mathlib.Core.List.{List, [], ◌∷◌}
 use mathlib.Core.Logic.{◌⊎◌, inl, inr}
 use Prim.Native.Nat.{ℕ, zero, suc, ◌+◌, ◌*◌, ◌-◌, ◌^◌, ◌≤◌, ◌<◌, min}
-use native.Mathlib.Nat.{pow-zero, pow-suc, mul-add, mul_assoc, mul-one, one-mul, mul-le-mul_right}
+use native.Mathlib.Nat.{pow-zero, pow-suc, mul-add, mul_assoc, mul-one, one-mul, mul-le-mul, mul-le-mul_right}
 use native.Mathlib.Omega.{arith}
 use lib.ListN.{length, get_or}
 use borrow.Author.Tests.{lt-ltb}
@@ -276,3 +276,17 @@ counts-cells t e u w r W h sets a d = omega (arith, core-cells u sets a, (W a d 
 pub counts-nodes : (t : List ℕ) (e : ℕ) (w : Totals) (r : ℕ) → HasTotals t e 1 513 w → r ≡ min 513 (1 + w.plus.alone) → CountsNodes t e r
 unfolding CountsNodes HasTotals HeldBoth total_at
 counts-nodes t e w r W h sets a d = omega (arith, nodes-cells (core_of sets a) 0, core-cells 1 sets a, (W a d true).is-alone)
+
+-- one more than u times a total, full and not
+pub scaled-full : (limit u x : ℕ) → 1 ≤ u → limit ≤ x → Scaled limit u x limit
+unfolding Scaled
+scaled-full limit u x h g w e = omega (arith, mul-le-mul_right w h, one-mul w)
+
+pub scaled-low : (limit u x r : ℕ) → x < limit → r ≡ min limit (1 + u * x) → Scaled limit u x r
+unfolding Scaled
+scaled-low limit u x r h e w g = let same : x ≡ w = omega arith in e ∙ ap (λ (n : ℕ). min limit (1 + u * n)) same
+
+pub scaled_fits : (u x limit : ℕ) → u ≤ 64 → x < limit → limit ≤ 1048577 → u * x < 4294967296
+scaled_fits u x limit h g l =
+    let low : x ≤ 1048577 = omega arith in
+    let m : u * x ≤ 64 * 1048577 = mul-le-mul h low in omega arith

@@ -6,9 +6,9 @@ use Prim.Native.Nat.{ℕ, suc, ◌+◌, ◌*◌, ◌-◌, ◌/◌, ◌%◌, ◌^
 use native.Mathlib.Decide.{ℕ_discrete}
 use native.Mathlib.Nat.{zero-div}
 use native.Mathlib.Omega.{arith}
-use lib.Dec.{eqb, ltb}
+use lib.Dec.{eqb, leb, ltb}
 use lib.ListN.{length, get_or}
-use borrow.Author.Tests.{ne_eqb, eq-eqb}
+use borrow.Author.Tests.{ne_eqb, eq-eqb, leb-true, leb-false, le-leb, lt-leb}
 use Rattle.std.specs.List.{position_or_len, list_any}
 use Rattle.std.specs.Option.{unwrap_or}
 use Rattle.std.specs.Prelude.{Option, Some, None}
@@ -145,3 +145,21 @@ module _ (sets : List ℕ) (operator x bound : ℕ) where
   high-constant r h e (notin v S) R = absurd (omega (arith, R.operator-is))
   high-constant r h e (port q v w) R = absurd (omega (arith, R.operator-is, relation-number-le q))
   high-constant r h e (size q S c) R = e ∙ ap (ltb 64) (low_part x S c R.payload-is (omega (arith, R.lettered.1)))
+
+leb-suc : (a b : ℕ) → leb (suc a) (suc b) ≡ leb a b
+leb-suc a b = go (leb a b) refl
+  where
+    go : (t : Bool) → leb a b ≡ t → leb (suc a) (suc b) ≡ t
+    go true h = le-leb (suc a) (suc b) (omega (arith, leb-true a b h))
+    go false h = lt-leb (suc a) (suc b) (omega (arith, leb-false a b h))
+
+-- a letter is undeclared if its place is past the list
+pub undeclared-place : (sets : List ℕ) (S : ℕ) → leb (length sets) (set_number sets S) ≡ not (among sets S)
+unfolding set_number among some_of
+undeclared-place [] S = refl
+undeclared-place (x ∷ xs) S = go (eqb S x) (undeclared-place xs S)
+  where
+    go : (b : Bool) → leb (length xs) (set_number xs S) ≡ not (some_of (eqb S) xs)
+        → leb (suc (length xs)) (cond b 0 (suc (set_number xs S))) ≡ not (b || some_of (eqb S) xs)
+    go true h = lt-leb (suc (length xs)) 0 (omega arith)
+    go false h = leb-suc (length xs) (set_number xs S) ∙ h

@@ -270,8 +270,10 @@ fn known_byte(b: u8) -> bool
     b.is_ascii_alphanumeric() || b" \n[]()@?~&|-<>:/#=!".contains(&b)
 }
 
-// Ground 2 does not apply: every byte of the text is known.
+// Ground 2 does not apply: every byte of the text is known. A function of its own in the archive too: within the code of a long one its
+// loop takes up to twice the time, by where its jumps happen to stand.
 #[tactic(auto, unfolding(crate::specs::Tokens::known_bytes))]
+#[inline(never)]
 pub fn known_bytes(text: &[u8]) -> bool
     ensures { result ≡ known_bytes text.now }
 {

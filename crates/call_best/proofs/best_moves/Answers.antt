@@ -1,4 +1,3 @@
-use Rattle.table_check.proofs.Blank.{blank-room}
 use Prim.Native.Nat.{ℕ}
 use mathlib.Core.Path.{◌≡◌, refl, sym, ◌∙◌}
 use borrow.Author.Rules.{rules}
@@ -15,10 +14,6 @@ use Rattle.move_best.proofs.Owning.{zeros-empty, fill-ready, chooses-whole, list
 use Rattle.move_best.specs.inner.Choosing.{Chooses, Lists}
 use Rattle.call_best.proofs.Answering.{list-shut, list-unknown, list-short, list-made}
 use Rattle.call_best.proofs.best_moves.Goals as goal
-
-pub open_tables-requires : goal.open_tables-requires
-open_tables-requires c =
-    blank-room _ c.new-index.ensures
 
 pub own_masks-own-requires : goal.own_masks-own-requires
 own_masks-own-requires c =

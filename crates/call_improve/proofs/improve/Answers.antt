@@ -1,4 +1,3 @@
-use Rattle.table_check.proofs.Blank.{blank-room}
 use mathlib.Core.Path.{◌≡◌, refl, sym, ◌∙◌}
 use borrow.Author.Rules.{rules}
 use Rattle.std.specs.Prelude.{Err}
@@ -19,10 +18,6 @@ use Rattle.move_best.specs.inner.Choosing.{Chooses}
 use Rattle.move_best.proofs.Answering.{chosen-candidate}
 use Rattle.call_improve.proofs.Improving.{improve-shut, improve-unknown, improve-none, improve-full, improve-made, root-now}
 use Rattle.call_improve.proofs.improve.Goals as goal
-
-pub open_tables-requires : goal.open_tables-requires
-open_tables-requires c =
-    blank-room _ c.new-index.ensures
 
 pub best_move-c-requires : goal.best_move-c-requires
 unfolding CellsFit modulus

@@ -1,4 +1,3 @@
-use Rattle.table_check.proofs.Blank.{blank-room}
 use mathlib.Core.Path.{◌≡◌, refl}
 use borrow.Author.Rules.{rules}
 use Rattle.std.specs.Prelude.{Err}
@@ -10,10 +9,6 @@ use Rattle.call_open.proofs.Opening.{open-enough, root-cell, few-cells}
 use Rattle.call_load.proofs.Opening.{load-shut, fill-ready, own_back}
 use Rattle.logic.proofs.Lent.{back-to-length}
 use Rattle.call_load.proofs.load.Goals as goal
-
-pub open_tables-requires : goal.open_tables-requires
-open_tables-requires c =
-    blank-room _ c.new-index.ensures
 
 pub returns-in_err-o : goal.returns-in_err-o
 unfolding answer_number

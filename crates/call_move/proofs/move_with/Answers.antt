@@ -1,4 +1,3 @@
-use Rattle.table_check.proofs.Blank.{blank-room}
 use mathlib.Core.Path.{◌≡◌, refl, sym, ap, ◌∙◌}
 use mathlib.Core.Bool.{Bool, cond}
 use borrow.Author.Rules.{rules}
@@ -14,10 +13,6 @@ use Rattle.call_open.proofs.Opening.{shut}
 use Rattle.move_try.proofs.OpenMove.{move-ready, number_is, legal-move}
 use Rattle.call_move.proofs.Answering.{tries-move, none-is-left, not-legal, by-room, move-refused, move-made}
 use Rattle.call_move.proofs.move_with.Goals as goal
-
-pub open_tables-requires : goal.open_tables-requires
-open_tables-requires c =
-    blank-room _ c.new-index.ensures
 
 pub returns-in_err-o : goal.returns-in_err-o
 unfolding answer_number

@@ -1,4 +1,3 @@
-use Rattle.table_check.proofs.Blank.{blank-room}
 use mathlib.Core.Path.{refl}
 use native.Mathlib.Omega.{arith}
 use Rattle.logic.specs.Refusal.{answer_number}
@@ -7,10 +6,6 @@ use Rattle.table_format.proofs.Ready.{ready}
 use Rattle.contracts.proofs.NodeAnswers.{part-past, part-found}
 use Rattle.call_node.proofs.Bounds.{bounds_of, part-shut}
 use Rattle.call_node.proofs.node_bounds.Goals as goal
-
-pub open_cells-requires : goal.open_cells-requires
-open_cells-requires c =
-    blank-room _ c.new-index.ensures
 
 pub returns-in_default : goal.returns-in_default
 unfolding answer_number

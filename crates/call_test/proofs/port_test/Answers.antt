@@ -1,4 +1,3 @@
-use Rattle.table_check.proofs.Blank.{blank-room}
 use mathlib.Core.Path.{◌≡◌, refl, sym, ◌∙◌}
 use native.Mathlib.Omega.{arith}
 use borrow.Author.Rules.{rules}
@@ -9,10 +8,6 @@ use Rattle.cells_walk.specs.inner.Visit.{CellsFit}
 use Rattle.call_open.proofs.Opening.{shut}
 use Rattle.call_test.proofs.Answering.{tries-test, port-asks, number_is, port-ready, test-refused, test-made}
 use Rattle.call_test.proofs.port_test.Goals as goal
-
-pub open_tables-requires : goal.open_tables-requires
-open_tables-requires c =
-    blank-room _ c.new-index.ensures
 
 pub returns-in_err-o : goal.returns-in_err-o
 unfolding answer_number

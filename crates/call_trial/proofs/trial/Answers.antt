@@ -1,4 +1,3 @@
-use Rattle.table_check.proofs.Blank.{blank-room}
 use mathlib.Core.Path.{◌≡◌, refl, sym, ◌∙◌}
 use native.Mathlib.Omega.{arith}
 use borrow.Author.Rules.{rules}
@@ -12,10 +11,6 @@ use Rattle.call_open.proofs.OpenPlan.{sets-fit}
 use Rattle.move_try.proofs.OpenMove.{move-ready, number_is, legal-move}
 use Rattle.call_trial.proofs.Answering.{tries-trial, trial-refused, trial-made}
 use Rattle.call_trial.proofs.trial.Goals as goal
-
-pub open_tables-requires : goal.open_tables-requires
-open_tables-requires c =
-    blank-room _ c.new-index.ensures
 
 pub legal-requires : goal.legal-requires
 legal-requires c =

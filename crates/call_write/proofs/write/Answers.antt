@@ -6,14 +6,9 @@ use mathlib.Core.Bool.{Bool, cond}
 use native.Mathlib.Omega.{arith}
 use lib.Dec.{ltb}
 use lib.ListN.{length}
-use Rattle.table_check.proofs.Blank.{blank-room}
 use Rattle.text_write.specs.inner.Forming.{FormsPlan}
 use Rattle.call_write.proofs.Answering.{short, broken-11, refused-at, accepted}
 use Rattle.call_write.proofs.write.Goals as goal
-
-pub check-requires : goal.check-requires
-check-requires c =
-    blank-room _ c.new-index.ensures
 
 pub returns-in_default : goal.returns-in_default
 returns-in_default c =

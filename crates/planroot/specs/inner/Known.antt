@@ -1,8 +1,10 @@
 -- Some input is passed, whichever standard input gave. Internal to the program.
-use Rattle.std.specs.Prelude.{◌≡◌, ◌⊎◌, List, ◌++◌, ℕ}
+use Rattle.std.specs.Prelude.{◌≡◌, List, ◌++◌, ℕ}
 use Rattle.planroot_input.specs.declared.Scan.{Scan}
 use Rattle.planroot_input.specs.inner.Scans.{Scanned}
 use Rattle.planroot_line.specs.Line.{input_line}
+use Rattle.planroot.specs.declared.Input.{Input}
+use Rattle.planroot.specs.declared.Input.TheVariants.{Whole, Enough}
 
 pub record Known (s : Scan) (ms tx : List ℕ) : Type 0 where
   pub input : List ℕ
@@ -15,5 +17,6 @@ pub record KnownEnough (s : Scan) (ms tx : List ℕ) : Type 0 where
   pub settled : (more : List ℕ) → input_line (input ++ more) ≡ input_line input
 
 -- The input to its end, or as far as it is enough.
-abbrev pub KnownInput : Scan → List ℕ → List ℕ → Type 0
-KnownInput s ms tx = Known s ms tx ⊎ KnownEnough s ms tx
+unfoldable pub KnownInput : Input → List ℕ → List ℕ → Type 0
+KnownInput (Whole s) ms tx = Known s ms tx
+KnownInput (Enough s) ms tx = KnownEnough s ms tx

@@ -33,7 +33,7 @@ below_root-requires c =
 pub check_forest-requires : goal.check_forest-requires
 check_forest-requires c =
     let f = front-is c.args.table.now (sym c.front_ok.ensures ∙ c.if-not-front_ok.false) in
-    rw (c.ports_of-ports.ensures, c.sets_of-sets.ensures, c.below_root.ensures, c.nodes_of-nodes.ensures.is) (placed_below f c.requires)
+    rw (c.ports_of-ports.ensures, c.sets_of-sets.ensures, c.below_root.ensures, c.nodes_of-nodes.ensures.is) (placed_below f c.room.ensures)
 
 pub returns-in_err-c : goal.returns-in_err-c
 returns-in_err-c c =
@@ -51,4 +51,4 @@ returns-then-c-ne1 c =
 pub returns : goal.returns
 returns c =
     let f = front-is c.args.table.now (sym c.front_ok.ensures ∙ c.if-not-front_ok.false) in
-    accept-plan f c.sets_of-sets.ensures c.nodes_of-nodes.ensures.is c.below_root.ensures c.ports_of-ports.ensures c.in_ok-c.ensures c.nodes_of-nodes.ensures.bytes c.if-c-ne1.false c.if-c-ge-MOST_CELLS.false c.requires c.note.ensures
+    accept-plan f c.sets_of-sets.ensures c.nodes_of-nodes.ensures.is c.below_root.ensures c.ports_of-ports.ensures c.in_ok-c.ensures c.nodes_of-nodes.ensures.bytes c.if-c-ne1.false c.if-c-ge-MOST_CELLS.false c.room.ensures c.note.ensures

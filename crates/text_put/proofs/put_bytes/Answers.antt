@@ -1,6 +1,7 @@
 use Rattle.std.proofs.Common.{ℕ, arith}
 use Rattle.std.proofs.lemmas.List.{length-take-le, take_all}
-use Rattle.text_put.proofs.Putting.{puts_none, puts-next}
+use Rattle.text_put.proofs.Putting.{puts_none, puts-next, puts-whole, puts-rest}
+use Rattle.text_put.proofs.put_bytes.Goals.{else-loop-b-test, then-loop-b-test+then-out-next}
 use Rattle.text_put.proofs.put_bytes.Goals as goal
 
 pub loop-b-init : goal.loop-b-init
@@ -17,4 +18,7 @@ loop-b-preserved c =
 
 pub returns : goal.returns
 returns c =
-    rw (take_all _ _ c.loop-b-test.false) at c.loop-b.invariant
+    elim c.loop-b-test.branch [
+      | else-loop-b-test w ↦ puts-whole _ _ _ _ _ _ (take_all _ _ w.loop-b-test.false) c.loop-b.invariant
+      | then-loop-b-test+then-out-next w ↦ puts-rest _ _ _ _ _ _ (omega (arith, w.if-out-next.true)) c.loop-b.invariant
+    ]

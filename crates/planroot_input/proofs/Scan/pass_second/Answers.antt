@@ -8,7 +8,7 @@ returns-in-32 c =
 
 pub returns-in-10 : goal.returns-in-10
 returns-in-10 c =
-    second-end _ _ _ _ _ c.in-10.is c.end_word-in-10.ensures
+    second-end _ _ _ _ _ _ c.in-10.is c.end_word-in-10.ensures
 
 pub returns-in_default : goal.returns-in_default
 returns-in_default c =

@@ -4,4 +4,4 @@ use Rattle.planroot_input.proofs.Scan.pass_text.Goals as goal
 
 pub returns : goal.returns
 returns c =
-    rw c.put.ensures (text-more c.args.self c.args.b c.args.text.now _ c.requires (omega (arith, c.min.ensures)))
+    rw c.put.ensures (text-more c.args.self c.args.b c.args.text.now _ _ c.requires (omega (arith, c.min.ensures)))
