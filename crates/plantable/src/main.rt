@@ -2,7 +2,7 @@
 #![tactic(auto)]
 
 use plantable_bytes::answer;
-use program_io::{gather, give};
+use program_io::{gather_input, give};
 use std::io;
 
 // Writes the plan table of an input, by one write if the system takes it whole. 4,105 bytes have room for every plan.
@@ -16,7 +16,7 @@ fn say(rt: &HostRuntime, input: &[u8]) -> io::Result<()> {
 // written and main ends with an error: half an input is no input.
 fn main(rt: HostRuntime) -> io::Result<()> {
     let mut kept = [0u8; 4118];
-    let Ok(n) = gather(&mut rt.stdin(), &mut kept) else {
+    let Ok(n) = gather_input(&mut rt.stdin(), &mut kept) else {
         return Err(io::Error::other("plantable: standard input"));
     };
     say(&rt, &kept[..n])

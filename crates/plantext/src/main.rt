@@ -2,7 +2,7 @@
 #![tactic(auto)]
 
 use plantext_bytes::answer;
-use program_io::{gather, give};
+use program_io::{gather_input, give};
 use std::io;
 
 // Prints the text of an input, by one write if the system takes it whole. 4,097 bytes have room for every text and the line end.
@@ -16,7 +16,7 @@ fn say(rt: &HostRuntime, input: &[u8]) -> io::Result<()> {
 // an error: half an input is no input.
 fn main(rt: HostRuntime) -> io::Result<()> {
     let mut kept = [0u8; 4105];
-    let Ok(n) = gather(&mut rt.stdin(), &mut kept) else {
+    let Ok(n) = gather_input(&mut rt.stdin(), &mut kept) else {
         return Err(io::Error::other("plantext: standard input"));
     };
     say(&rt, &kept[..n])
